@@ -1,0 +1,78 @@
+-- `ilbm::read_header`: the tests in the definition's order.
+use mathlib.Core.Path.{sym, _∙_}
+use borrow.Author.Tests.{le-leb, lt-leb, eq-eqb, ne-eqb}
+use Rattle.laws.specs.ResultLaws.{told}
+use Rattle.state.specs.State.{lengthOf}
+use Rattle.bmhd.specs.Header.{header}
+use borrow.Author.Needs.{needs}
+use Rattle.bmhd.proofs.read_header.Statement.{statement}
+use Rattle.bmhd.proofs.read_header.Tie as tie
+
+returns : tie.Need-returns
+unfolding header
+returns c = simp (ne-eqb _ _ (c .if1 .taken))
+
+sizes-at-requires : tie.Need-sizes-at-requires
+sizes-at-requires c κs = search needs
+
+frame-length-requires : tie.Need-frame-length-requires
+frame-length-requires c κs = search needs
+
+enum-known-length : tie.Need-enum-known-length
+enum-known-length c = search needs
+
+enum-told : tie.Need-enum-told
+enum-told c = search needs
+
+returns-2 : tie.Need-returns-2
+unfolding header
+returns-2 c =
+    let f = rw (c .before .before .before .sizes-at .ensures) at (told lengthOf (c .before .before .frame-length .ensures) (c .enum-told .given .1)) in
+    simp (eq-eqb _ _ (c .before .before .before .before .if1 .left), f)
+
+byte-requires : tie.Need-byte-requires
+byte-requires c κs = search needs
+
+returns-3 : tie.Need-returns-3
+unfolding header
+returns-3 c =
+    let f = rw (c .before .before .before .before .before .before .sizes-at .ensures) at (told lengthOf (c .before .before .before .before .before .frame-length .ensures) (c .before .before .before .length .given .1)) in
+    let m = sym (c .before .byte .ensures .0) ∙ c .if2 .taken in
+    simp (eq-eqb _ _ (c .before .before .before .before .before .before .before .if1 .left), f, eq-eqb _ _ m)
+
+byte-requires-2 : tie.Need-byte-requires-2
+byte-requires-2 c κs = search needs
+
+returns-4 : tie.Need-returns-4
+unfolding header
+returns-4 c =
+    let p = c .before .before .before .before .before in
+    let f = rw (p .before .before .before .sizes-at .ensures) at (told lengthOf (p .before .before .frame-length .ensures) (p .length .given .1)) in
+    let m = rw (c .before .before .before .byte .ensures .0) at (c .before .before .if2 .left) in
+    let k = rw (c .before .byte2 .ensures .0) at (c .if3 .taken) in
+    simp (eq-eqb _ _ (p .before .before .before .before .if1 .left), f, ne-eqb _ _ m, lt-leb _ _ k)
+
+returns-5 : tie.Need-returns-5
+unfolding header
+returns-5 c =
+    let p = c .before .before .before .before .before in
+    let f = rw (p .before .before .before .sizes-at .ensures) at (told lengthOf (p .before .before .frame-length .ensures) (p .length .given .1)) in
+    let m = rw (c .before .before .before .byte .ensures .0) at (c .before .before .if2 .left) in
+    let k = rw (c .before .byte2 .ensures .0) at (c .if3 .left) in
+    rw (p .before .before .before .sizes-at .ensures, c .before .byte2 .ensures .0) (simp (eq-eqb _ _ (p .before .before .before .before .if1 .left), f, ne-eqb _ _ m, le-leb _ _ k))
+
+pub read-header-spec : {M : Type 1} → statement M
+read-header-spec =
+    tie.close
+    (tie.spec
+    returns
+    sizes-at-requires
+    frame-length-requires
+    enum-known-length
+    enum-told
+    returns-2
+    byte-requires
+    returns-3
+    byte-requires-2
+    returns-4
+    returns-5)

@@ -1,0 +1,57 @@
+// The header of the first picture: the contents of its BMHD.
+ghost use mathlib.Core.Path.{_≡_};
+ghost use Rattle.bmhd.specs.Header.{sizesAt, header, headerOf};
+use buffer::byte;
+use buffer::number16;
+use refusal::Refusal;
+use state::Length;
+use state::Sizes;
+
+// What BMHD says of a picture: its sizes, the length of a frame in bytes, and whether BODY is packed by ByteRun1.
+pub struct Header {
+    pub sizes: Sizes,
+    pub length: usize,
+    pub packed: bool,
+}
+
+// A header, or why there is none.
+pub enum Bmhd {
+    Picture(Header),
+    Unread(Refusal),
+}
+
+// The sizes that a BMHD gives, within the limits or not.
+fn sizes_at(s: &[u8]) -> Sizes
+    ensures { λ r. ⌜ r ≡ sizesAt (now (s .entry)) ⌝ }
+{
+    Sizes {
+        width: number16(s, 0),
+        height: number16(s, 2),
+        planes: byte(s, 8),
+    }
+}
+
+// Reads the contents of a BMHD.
+pub fn read_header(s: &[u8]) -> Bmhd
+    ensures { λ r. ⌜ headerOf r ≡ header (now (s .entry)) ⌝ }
+{
+    if s.len() != 20 {
+        return Bmhd::Unread(Refusal::BadHeader);
+    }
+    let sizes = sizes_at(s);
+    let Length::Bytes(length) = sizes.frame_length() else {
+        return Bmhd::Unread(Refusal::BadHeader);
+    };
+    if byte(s, 9) == 1 {
+        return Bmhd::Unread(Refusal::BadHeader);
+    }
+    let compression = byte(s, 10);
+    if 1 < compression {
+        return Bmhd::Unread(Refusal::BadHeader);
+    }
+    Bmhd::Picture(Header {
+        sizes,
+        length,
+        packed: compression == 1,
+    })
+}

@@ -1,0 +1,65 @@
+// Bytes in lent buffers: big-endian numbers, copies and fills. Each function takes any buffers; the definitions are those of the crate laws.
+ghost use mathlib.Core.Path.{_≡_};
+ghost use Prim.Native.Nat.{_<_, min};
+ghost use lib.ListN.{length, getD, replicate};
+ghost use Rattle.laws.specs.Bytes.{be16, be32};
+ghost use Rattle.laws.specs.Store.{over};
+
+// The byte at a place, 0 past the end.
+pub fn byte(s: &[u8], at: usize) -> usize
+    ensures { λ r. ⌜ (r ≡ getD (now (s .entry)) at 0) × (r < 256) ⌝ }
+{
+    if at < s.len() {
+        return s[at] as usize;
+    }
+    0
+}
+
+// Two bytes at a place as a number, the higher first; bytes past the end count as 0.
+pub fn number16(s: &[u8], at: usize) -> usize
+    ensures { λ r. ⌜ (r ≡ be16 (now (s .entry)) at) × (r < 65536) ⌝ }
+{
+    if s.len() <= at {
+        return 0;
+    }
+    byte(s, at) * 256 + byte(s, at + 1)
+}
+
+// Four bytes at a place as a number, the highest first; bytes past the end count as 0.
+pub fn number32(s: &[u8], at: usize) -> usize
+    ensures { λ r. ⌜ (r ≡ be32 (now (s .entry)) at) × (r < 4294967296) ⌝ }
+{
+    if s.len() <= at {
+        return 0;
+    }
+    byte(s, at) * 16777216 + byte(s, at + 1) * 65536 + byte(s, at + 2) * 256 + byte(s, at + 3)
+}
+
+fn smaller(a: usize, b: usize) -> usize
+    ensures { λ r. ⌜ r ≡ min a b ⌝ }
+{
+    if a < b { a } else { b }
+}
+
+// Copies src to the front of dst, as far as both go.
+pub fn copy(dst: &mut [u8], src: &[u8])
+    ensures { λ _. ⌜ now (dst .exit) ≡ over (now (src .entry)) (now (dst .entry)) ⌝ }
+{
+    let n = smaller(dst.len(), src.len());
+    let mut i = 0;
+    while i < n {
+        dst[i] = src[i];
+        i += 1;
+    }
+}
+
+// Makes every byte of dst the given one.
+pub fn fill(dst: &mut [u8], value: u8)
+    ensures { λ _. ⌜ now (dst .exit) ≡ replicate (length (now (dst .entry))) value ⌝ }
+{
+    let mut i = 0;
+    while i < dst.len() {
+        dst[i] = value;
+        i += 1;
+    }
+}

@@ -1,0 +1,68 @@
+-- `iff::anim_end`: the tests are the definition's, in its order.
+use Prim.Native.Nat.{_+_, _<_, _≤_}
+use lib.ListN.{length}
+use borrow.Author.Tests.{eq-eqb, ne-eqb, le-leb, lt-leb}
+use Rattle.iff.specs.Form.{animEnd}
+use native.Mathlib.Omega.{arith}
+use borrow.Author.Needs.{needs}
+use Rattle.iff.proofs.anim_end.Statement.{statement}
+use Rattle.iff.proofs.anim_end.Tie as tie
+
+returns : tie.Need-returns
+unfolding animEnd
+returns c = simp (lt-leb _ _ (c .if1 .taken))
+
+number32-requires : tie.Need-number32-requires
+number32-requires c κs = search needs
+
+returns-2 : tie.Need-returns-2
+unfolding animEnd
+returns-2 c = simp (le-leb _ _ (c .before .before .if1 .left), ← c .before .number32 .ensures .0, ne-eqb _ _ (c .if2 .taken))
+
+number32-requires-2 : tie.Need-number32-requires-2
+number32-requires-2 c κs = search needs
+
+returns-3 : tie.Need-returns-3
+unfolding animEnd
+returns-3 c = simp (le-leb _ _ (c .before .before .before .before .if1 .left), ← c .before .before .before .number32 .ensures .0, eq-eqb _ _ (c .before .before .if2 .left), ← c .before .number322 .ensures .0, ne-eqb _ _ (c .if3 .taken))
+
+number32-requires-3 : tie.Need-number32-requires-3
+number32-requires-3 c κs = search needs
+
+returns-4 : tie.Need-returns-4
+unfolding animEnd
+returns-4 c = simp (le-leb _ _ (c .before .before .before .before .before .before .if1 .left), ← c .before .before .before .before .before .number32 .ensures .0, eq-eqb _ _ (c .before .before .before .before .if2 .left), ← c .before .before .before .number322 .ensures .0, eq-eqb _ _ (c .before .before .if3 .left), ← c .before .number323 .ensures .0, lt-leb _ _ (c .if4 .taken))
+
+sub-if5 : tie.Need-sub-if5
+sub-if5 c = search needs
+
+returns-5 : tie.Need-returns-5
+unfolding animEnd
+returns-5 c =
+    let h : length (c .before .before .before .before .before .before .before .before .before .args .file .now) < c .before .before .number323 .result + 8 = omega arith in
+    simp (le-leb _ _ (c .before .before .before .before .before .before .before .if1 .left), ← c .before .before .before .before .before .before .number32 .ensures .0, eq-eqb _ _ (c .before .before .before .before .before .if2 .left), ← c .before .before .before .before .number322 .ensures .0, eq-eqb _ _ (c .before .before .before .if3 .left), ← c .before .before .number323 .ensures .0, le-leb _ _ (c .before .if4 .left), lt-leb _ _ h)
+
+add-t3 : tie.Need-add-t3
+add-t3 c = search needs
+
+returns-6 : tie.Need-returns-6
+unfolding animEnd
+returns-6 c =
+    let h : c .before .before .number323 .result + 8 ≤ length (c .before .before .before .before .before .before .before .before .before .args .file .now) = omega arith in
+    simp (le-leb _ _ (c .before .before .before .before .before .before .before .if1 .left), ← c .before .before .before .before .before .before .number32 .ensures .0, eq-eqb _ _ (c .before .before .before .before .before .if2 .left), ← c .before .before .before .before .number322 .ensures .0, eq-eqb _ _ (c .before .before .before .if3 .left), ← c .before .before .number323 .ensures .0, le-leb _ _ (c .before .if4 .left), le-leb _ _ h)
+
+pub anim-end-spec : {M : Type 1} → statement M
+anim-end-spec =
+    tie.close
+    (tie.spec
+    returns
+    number32-requires
+    returns-2
+    number32-requires-2
+    returns-3
+    number32-requires-3
+    returns-4
+    sub-if5
+    returns-5
+    add-t3
+    returns-6)

@@ -1,0 +1,89 @@
+-- `iff::next_form`: each turn is the definition's step from the place.
+use Prim.Native.Nat.{_-_}
+use mathlib.Core.Path.{refl, ap, _∙_}
+use lib.ListN.{length}
+use borrow.Author.Tests.{eq-eqb, ne-eqb, le-leb, lt-leb}
+use Rattle.laws.specs.Result.{Res.fault}
+use Rattle.laws.specs.ResultLaws.{each-some, told}
+use Rattle.laws.specs.LoopLaws.{Going, starts, turns, stops}
+use Rattle.iff.specs.Chunk.{standingOf}
+use Rattle.iff.specs.ChunkLaws.{chunk-within}
+use Rattle.iff.specs.Form.{passOn, frameStep, nextFrame}
+use borrow.Author.Needs.{needs}
+use native.Mathlib.Omega.{arith}
+use Rattle.iff.proofs.next_form.Statement.{statement}
+use Rattle.iff.proofs.next_form.Tie as tie
+
+abbrev Inv-loop : tie.InvT-loop
+Inv-loop s from at₀ at = Going (frameStep s) (λ p. length s - p) (fault 21) (nextFrame s from) at
+
+abbrev μ-loop : tie.MeasureT-loop
+μ-loop s from at₀ at = length s - at
+
+loop-holds : tie.Need-loop-holds Inv-loop μ-loop
+unfolding nextFrame
+loop-holds c = starts refl
+
+chunk-at-requires : tie.Need-chunk-at-requires Inv-loop μ-loop
+chunk-at-requires c κs = search needs
+
+enum-told : tie.Need-enum-told Inv-loop μ-loop
+enum-told c = search needs
+
+returns : tie.Need-returns Inv-loop μ-loop
+returns c = stops (c .before .before .before .loop .inv) (ap (passOn _) (told standingOf (c .before .before .chunk-at .ensures) (c .enum-told .given .1)))
+
+enum-known-c : tie.Need-enum-known-c Inv-loop μ-loop
+enum-known-c c = search needs
+
+returns-2 : tie.Need-returns-2 Inv-loop μ-loop
+returns-2 c = stops (c .before .before .before .before .loop .inv) (ap (passOn _) (told standingOf (c .before .before .before .chunk-at .ensures) (c .before .c .given .1)))
+
+enum-known-c-2 : tie.Need-enum-known-c-2 Inv-loop μ-loop
+enum-known-c-2 c = search needs
+
+returns-3 : tie.Need-returns-3 Inv-loop μ-loop
+returns-3 c = stops (c .before .before .before .before .before .before .loop .inv) (ap (passOn _) (told standingOf (c .before .before .before .before .before .chunk-at .ensures) (c .before .before .before .c2 .given .1)) ∙ simp (eq-eqb _ _ (c .before .if1 .taken), lt-leb _ _ (c .if2 .taken)))
+
+number32-requires : tie.Need-number32-requires Inv-loop μ-loop
+number32-requires c κs = search needs
+
+add-t14 : tie.Need-add-t14 Inv-loop μ-loop
+add-t14 c = omega (arith, each-some (told standingOf (c .before .before .before .before .before .before .before .chunk-at .ensures) (c .before .before .before .before .before .c2 .given .1)) (chunk-within _ _))
+
+returns-4 : tie.Need-returns-4 Inv-loop μ-loop
+returns-4 c = stops (c .before .before .before .before .before .before .before .before .loop .inv) (ap (passOn _) (told standingOf (c .before .before .before .before .before .before .before .chunk-at .ensures) (c .before .before .before .before .before .c2 .given .1)) ∙ simp (← c .before .number32 .ensures .0, eq-eqb _ _ (c .before .before .before .if1 .taken), le-leb _ _ (c .before .before .if2 .left), eq-eqb _ _ (c .if3 .taken)))
+
+loop-less : tie.Need-loop-less Inv-loop μ-loop
+loop-less c = omega (arith, each-some (told standingOf (c .before .before .before .before .before .before .before .chunk-at .ensures) (c .before .before .before .before .before .c2 .given .1)) (chunk-within _ _))
+
+loop-again : tie.Need-loop-again Inv-loop μ-loop
+loop-again c = turns (c .before .before .before .before .before .before .before .before .loop .inv) (ap (passOn _) (told standingOf (c .before .before .before .before .before .before .before .chunk-at .ensures) (c .before .before .before .before .before .c2 .given .1)) ∙ simp (← c .before .number32 .ensures .0, eq-eqb _ _ (c .before .before .before .if1 .taken), le-leb _ _ (c .before .before .if2 .left), ne-eqb _ _ (c .if3 .left))) (loop-less c)
+
+loop-less-2 : tie.Need-loop-less-2 Inv-loop μ-loop
+loop-less-2 c = omega (arith, each-some (told standingOf (c .before .before .before .before .chunk-at .ensures) (c .before .before .c2 .given .1)) (chunk-within _ _))
+
+loop-again-2 : tie.Need-loop-again-2 Inv-loop μ-loop
+loop-again-2 c = turns (c .before .before .before .before .before .loop .inv) (ap (passOn _) (told standingOf (c .before .before .before .before .chunk-at .ensures) (c .before .before .c2 .given .1)) ∙ simp (ne-eqb _ _ (c .if1 .left))) (loop-less-2 c)
+
+pub next-form-spec : {M : Type 1} → statement M
+next-form-spec =
+    tie.close
+    (tie.spec
+    Inv-loop
+    μ-loop
+    loop-holds
+    chunk-at-requires
+    enum-told
+    returns
+    enum-known-c
+    returns-2
+    enum-known-c-2
+    returns-3
+    number32-requires
+    add-t14
+    returns-4
+    loop-less
+    loop-again
+    loop-less-2
+    loop-again-2)

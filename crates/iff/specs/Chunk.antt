@@ -1,0 +1,83 @@
+-- Chunks (document 01, "Chunks"): four id bytes, a big-endian length, the contents, and a pad byte of any value if the
+-- length is odd. Header, contents and pad lie inside the parent. Within a frame the first chunk of each id counts.
+use Prim.Native.Nat.{ℕ, _+_, _-_, _%_}
+use mathlib.Core.List.{List, []}
+use mathlib.Core.Option.{Option, none, some}
+use lib.Dec.{leb, eqb}
+use lib.ListN.{length, take, drop}
+use Rattle.laws.specs.Result.{Res, Res.ok, Res.fault, _>>=_, need, pick}
+use Rattle.laws.specs.Loop.{Step, Step.next, Step.done, runs}
+use Rattle.laws.specs.Bytes.{be32}
+use Rattle.refusal.specs.Number.{numberOf}
+use Rattle.iff.specs.declared.Standing.{Standing}
+use Rattle.iff.specs.declared.Standing.the-variants.{Whole, End, Refused}
+use Rattle.iff.specs.declared.Found.{Found}
+use Rattle.iff.specs.declared.Found.the-variants.{At, Missing, Broken}
+
+-- a whole chunk: its id, where its contents start, their length, and the place after it
+pub record Chunk : Type 0 where
+  pub id : ℕ
+  pub start : ℕ
+  pub size : ℕ
+  pub next : ℕ
+
+-- contents with their pad byte, if any
+abbrev pub padded : ℕ → ℕ
+padded size = size + size % 2
+
+-- what stands at a place of a parent: a chunk, nothing at its end, or 21 for a chunk that passes it
+unfoldable pub chunkAt : List ℕ → ℕ → Res (Option Chunk)
+chunkAt s at =
+    pick (leb (length s) at) (ok none)
+    (need (leb (at + 8) (length s)) 21 >>= λ _.
+    need (leb (at + 8 + padded (be32 s (at + 4))) (length s)) 21 >>= λ _.
+    ok (some (record { id = be32 s at; start = at + 8; size = be32 s (at + 4); next = at + 8 + padded (be32 s (at + 4)) })))
+
+-- where the contents of a chunk stand in its parent
+pub record Part : Type 0 where
+  pub start : ℕ
+  pub size : ℕ
+
+abbrev pub partOf : Chunk → Part
+partOf c = record { start = c .start; size = c .size }
+
+-- a walk through a parent: the place, and the answer if the parent ends there
+pub record Walk : Type 0 where
+  pub at : ℕ
+  pub answer : Res (Option Part)
+
+-- the part found already, or this one if there is none
+abbrev pub orPart : Res (Option Part) → Part → Res (Option Part)
+orPart (ok none) p = ok (some p)
+orPart (ok (some q)) p = ok (some q)
+orPart (fault n) p = fault n
+
+-- one turn: past a chunk, or to the answer where the parent ends or a chunk passes it
+abbrev pub walkOn : ℕ → Walk → Res (Option Chunk) → Step Walk (Res (Option Part))
+walkOn id w (ok (some c)) = next (record { at = c .next; answer = pick (eqb (c .id) id) (orPart (w .answer) (partOf c)) (w .answer) })
+walkOn id w (ok none) = done (w .answer)
+walkOn id w (fault n) = done (fault n)
+
+abbrev pub walkStep : ℕ → List ℕ → Walk → Step Walk (Res (Option Part))
+walkStep id s w = walkOn id w (chunkAt s (w .at))
+
+-- the first chunk of an id in a parent, if there is one, or 21: the parent is walked to its end
+unfoldable pub find : ℕ → List ℕ → Res (Option Part)
+find id s = runs (walkStep id s) (λ w. length s - w .at) (fault 21) (record { at = 0; answer = ok none })
+
+-- the contents that were found, as a part of the parent; an empty part where there are none
+abbrev pub contentsOf : List ℕ → Res (Option Part) → List ℕ
+contentsOf s (ok (some p)) = pick (leb (p .start + p .size) (length s)) (take (p .size) (drop (p .start) s)) []
+contentsOf s (ok none) = []
+contentsOf s (fault n) = []
+
+-- what the answers say in the paper's terms
+abbrev pub standingOf : Standing → Res (Option Chunk)
+standingOf (Whole id start len nx) = ok (some (record { id = id; start = start; size = len; next = nx }))
+standingOf End = ok none
+standingOf (Refused why) = fault (numberOf why)
+
+abbrev pub foundOf : Found → Res (Option Part)
+foundOf (At start len) = ok (some (record { start = start; size = len }))
+foundOf Missing = ok none
+foundOf (Broken why) = fault (numberOf why)

@@ -1,0 +1,5 @@
+pub mod Chunk
+pub mod ChunkLaws
+pub mod Form
+pub mod FormLaws
+pub mod Examples

@@ -1,0 +1,187 @@
+// Chunks of an IFF file: what stands at a place, the first chunk of an id, FORM ANIM and the frames in it.
+ghost use mathlib.Core.Path.{_≡_};
+ghost use Rattle.iff.specs.Chunk.{chunkAt, standingOf, find, foundOf, orPart, contentsOf};
+ghost use Rattle.iff.specs.Form.{animEnd, outerOf, nextFrame, formOf};
+use buffer::number32;
+use refusal::Refusal;
+
+pub const FORM: usize = 0x464F524D;
+
+pub const ANIM: usize = 0x414E494D;
+
+pub const ILBM: usize = 0x494C424D;
+
+// What stands at a place of a parent.
+pub enum Standing {
+    // A whole chunk: len bytes of contents from start on; next is past them and their pad.
+    Whole {
+        id: usize,
+        start: usize,
+        len: usize,
+        next: usize,
+    },
+    End,
+    Refused(Refusal),
+}
+
+// What a search for a chunk finds: where its contents stand in the parent.
+pub enum Found {
+    At { start: usize, len: usize },
+    Missing,
+    Broken(Refusal),
+}
+
+// Where FORM ANIM ends.
+pub enum Outer {
+    Ends(usize),
+    Unread(Refusal),
+}
+
+// The next frame in FORM ANIM.
+pub enum Form {
+    // A FORM ILBM: len bytes of chunks from start on; next is past the FORM and its pad.
+    Ilbm {
+        start: usize,
+        len: usize,
+        next: usize,
+    },
+    Last,
+    Faulty(Refusal),
+}
+
+// What stands at a place of a parent.
+pub fn chunk_at(s: &[u8], at: usize) -> Standing
+    ensures { λ r. ⌜ standingOf r ≡ chunkAt (now (s .entry)) at ⌝ }
+{
+    if s.len() <= at {
+        return Standing::End;
+    }
+    if s.len() - at < 8 {
+        return Standing::Refused(Refusal::ChunkPastParent);
+    }
+    let len = number32(s, at + 4);
+    let padded = len + len % 2;
+    if s.len() - at - 8 < padded {
+        return Standing::Refused(Refusal::ChunkPastParent);
+    }
+    Standing::Whole {
+        id: number32(s, at),
+        start: at + 8,
+        len,
+        next: at + 8 + padded,
+    }
+}
+
+// The part found so far, or this one if there is none.
+fn or_part(first: Found, start: usize, len: usize) -> Found
+    ensures { λ r. ⌜ foundOf r ≡ orPart (foundOf first) (record { start = start; size = len }) ⌝ }
+{
+    match first {
+        Found::At { start: _, len: _ } => first,
+        Found::Missing => Found::At { start, len },
+        Found::Broken(_) => first,
+    }
+}
+
+// The first chunk of an id. The parent is walked to its end, so that a chunk that passes it is found too.
+pub fn find(s: &[u8], wanted: usize) -> Found
+    ensures { λ r. ⌜ foundOf r ≡ find wanted (now (s .entry)) ⌝ }
+{
+    let mut at = 0;
+    let mut first = Found::Missing;
+    loop {
+        let c = chunk_at(s, at);
+        match c {
+            Standing::End => return first,
+            Standing::Refused(why) => return Found::Broken(why),
+            Standing::Whole {
+                id,
+                start,
+                len,
+                next,
+            } => {
+                if id == wanted {
+                    first = or_part(first, start, len);
+                }
+                at = next;
+            }
+        }
+    }
+}
+
+// The contents that were found, as a part of the parent; an empty part where there are none.
+pub fn contents(s: &[u8], found: Found) -> &[u8]
+    ensures { λ r. ⌜ now r ≡ contentsOf (now (s .entry)) (foundOf found) ⌝ }
+{
+    match found {
+        Found::At { start, len } => {
+            if s.len() < start {
+                return &s[..0];
+            }
+            if s.len() - start < len {
+                return &s[..0];
+            }
+            let end = start + len;
+            &s[start..end]
+        }
+        Found::Missing => &s[..0],
+        Found::Broken(_) => &s[..0],
+    }
+}
+
+// The end place of FORM ANIM.
+pub fn anim_end(file: &[u8]) -> Outer
+    ensures { λ r. ⌜ outerOf r ≡ animEnd (now (file .entry)) ⌝ }
+{
+    if file.len() < 12 {
+        return Outer::Unread(Refusal::ChunkPastParent);
+    }
+    if number32(file, 0) != FORM {
+        return Outer::Unread(Refusal::NotFormAnim);
+    }
+    if number32(file, 8) != ANIM {
+        return Outer::Unread(Refusal::NotFormAnim);
+    }
+    let len = number32(file, 4);
+    if len < 4 {
+        return Outer::Unread(Refusal::ChunkPastParent);
+    }
+    if file.len() - 8 < len {
+        return Outer::Unread(Refusal::ChunkPastParent);
+    }
+    Outer::Ends(len + 8)
+}
+
+// The next FORM ILBM from a place on; other chunks are passed over.
+pub fn next_form(s: &[u8], from: usize) -> Form
+    ensures { λ r. ⌜ formOf r ≡ nextFrame (now (s .entry)) from ⌝ }
+{
+    let mut at = from;
+    loop {
+        let c = chunk_at(s, at);
+        match c {
+            Standing::End => return Form::Last,
+            Standing::Refused(why) => return Form::Faulty(why),
+            Standing::Whole {
+                id,
+                start,
+                len,
+                next,
+            } => {
+                if id == FORM {
+                    if len < 4 {
+                        return Form::Faulty(Refusal::ChunkPastParent);
+                    }
+                    if number32(s, start) == ILBM {
+                        return Form::Ilbm {
+                            start: start + 4,
+                            len: len - 4,
+                            next,
+                        };
+                    }
+                }
+                at = next;
+            }
+        }
+    }
+}

@@ -1,0 +1,41 @@
+-- Big-endian numbers in a list of bytes, and what a byte's bound gives of them.
+use Prim.Native.Nat.{ℕ, _+_, _*_, _<_, _≤_}
+use native.Mathlib.Omega.{arith}
+use mathlib.Core.Path.{_≡_}
+use mathlib.Core.List.{List}
+use lib.ListN.{length, getD, drop, List·getD-eq-default}
+use lib.Seq.{getD-drop}
+
+-- two bytes at a place, the higher first; bytes past the end count as 0
+unfoldable pub be16 : List ℕ → ℕ → ℕ
+be16 s at = getD s at 0 * 256 + getD s (at + 1) 0
+
+-- four bytes at a place, the highest first
+unfoldable pub be32 : List ℕ → ℕ → ℕ
+be32 s at = getD s at 0 * 16777216 + getD s (at + 1) 0 * 65536 + getD s (at + 2) 0 * 256 + getD s (at + 3) 0
+
+-- every element is a byte
+abbrev pub Bytes : List ℕ → Type 0
+Bytes s = (i : ℕ) → getD s i 0 < 256
+
+pub be16-bound : (s : List ℕ) (at : ℕ) → Bytes s → be16 s at < 65536
+unfolding be16
+be16-bound s at h = omega (arith, h at, h (at + 1))
+
+pub be32-bound : (s : List ℕ) (at : ℕ) → Bytes s → be32 s at < 4294967296
+unfolding be32
+be32-bound s at h = omega (arith, h at, h (at + 1), h (at + 2), h (at + 3))
+
+-- past the end there are only zeros
+pub be16-past : (s : List ℕ) (at : ℕ) → length s ≤ at → be16 s at ≡ 0
+unfolding be16
+be16-past s at h = simp (List·getD-eq-default s 0 {n = at} h, List·getD-eq-default s 0 {n = at + 1} (omega arith))
+
+pub be32-past : (s : List ℕ) (at : ℕ) → length s ≤ at → be32 s at ≡ 0
+unfolding be32
+be32-past s at h =
+    simp (List·getD-eq-default s 0 {n = at} h, List·getD-eq-default s 0 {n = at + 1} (omega arith), List·getD-eq-default s 0 {n = at + 2} (omega arith), List·getD-eq-default s 0 {n = at + 3} (omega arith))
+
+-- what is left of bytes is bytes
+pub bytes-drop : (n : ℕ) (s : List ℕ) → Bytes s → Bytes (drop n s)
+bytes-drop n s h i = rw (getD-drop n s i 0) (h (n + i))

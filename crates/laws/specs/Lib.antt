@@ -1,0 +1,6 @@
+pub mod Result
+pub mod ResultLaws
+pub mod Loop
+pub mod LoopLaws
+pub mod Bytes
+pub mod Store

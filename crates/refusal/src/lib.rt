@@ -1,0 +1,62 @@
+// The refusals of document 01 and their numbers.
+ghost use mathlib.Core.Path.{_≡_};
+ghost use Rattle.refusal.specs.Number.{numberOf};
+
+pub enum Refusal {
+    OutsideLimits,
+    BufferLength,
+    FileTooLong,
+    NoSuchRow,
+    ChunkPastParent,
+    NotFormAnim,
+    NoPicture,
+    BadHeader,
+    BadBody,
+    NoDelta,
+    ShortAnimHeader,
+    UnknownMethod,
+    UnknownInterleave,
+    UnknownOptions,
+    OddLongColumns,
+    BadPointer,
+    DeltaTooShort,
+    OpPastLastRow,
+    ZeroCount,
+    NoRoom,
+    LastFrame,
+    BadRecord,
+    OtherRecord,
+}
+
+impl Refusal {
+    // The paper's number.
+    pub fn number(self) -> u64
+        ensures { λ n. ⌜ n ≡ numberOf self ⌝ }
+    {
+        match self {
+            Refusal::OutsideLimits => 11,
+            Refusal::BufferLength => 12,
+            Refusal::FileTooLong => 13,
+            Refusal::NoSuchRow => 14,
+            Refusal::ChunkPastParent => 21,
+            Refusal::NotFormAnim => 22,
+            Refusal::NoPicture => 23,
+            Refusal::BadHeader => 24,
+            Refusal::BadBody => 25,
+            Refusal::NoDelta => 31,
+            Refusal::ShortAnimHeader => 32,
+            Refusal::UnknownMethod => 33,
+            Refusal::UnknownInterleave => 34,
+            Refusal::UnknownOptions => 35,
+            Refusal::OddLongColumns => 36,
+            Refusal::BadPointer => 41,
+            Refusal::DeltaTooShort => 42,
+            Refusal::OpPastLastRow => 43,
+            Refusal::ZeroCount => 44,
+            Refusal::NoRoom => 51,
+            Refusal::LastFrame => 53,
+            Refusal::BadRecord => 61,
+            Refusal::OtherRecord => 62,
+        }
+    }
+}

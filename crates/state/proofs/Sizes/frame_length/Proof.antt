@@ -1,0 +1,72 @@
+use native.Mathlib.Omega.{arith}
+-- `state::Sizes::frame_length`: three tests, and products whose bounds are those of sizes within the limits.
+use Rattle.laws.specs.ResultLaws.{told-false, told-true}
+use Rattle.state.specs.State.{frameLength, frameBytes}
+use Rattle.state.specs.StateLaws.{Sound, sound, between}
+use borrow.Author.Needs.{needs}
+use Rattle.state.proofs.Sizes.frame_length.Statement.{statement}
+use Rattle.state.proofs.Sizes.frame_length.Tie as tie
+
+-- the sizes where the products are formed
+limits : (c : tie.After-struct-known) → Sound (c .before .before .before .before .before .before .before .before .args .self) (frameBytes (c .before .before .before .before .before .before .before .before .args .self))
+limits c =
+    sound (c .before .before .before .before .before .before .before .before .args .self)
+    (between (told-true (c .before .before .before .before .before .before .before .within .ensures) (c .before .before .before .before .before .before .if1 .left)))
+    (between (told-true (c .before .before .before .before .before .within2 .ensures) (c .before .before .before .before .if2 .left)))
+    (between (told-true (c .before .before .before .within3 .ensures) (c .before .before .if3 .left)))
+
+within-requires : tie.Need-within-requires
+within-requires c κs = search needs
+
+returns : tie.Need-returns
+unfolding frameLength
+returns c = simp (told-false (c .before .within .ensures) (c .if1 .taken))
+
+within-requires-2 : tie.Need-within-requires-2
+within-requires-2 c κs = search needs
+
+returns-2 : tie.Need-returns-2
+unfolding frameLength
+returns-2 c = simp (told-true (c .before .before .before .within .ensures) (c .before .before .if1 .left), told-false (c .before .within2 .ensures) (c .if2 .taken))
+
+within-requires-3 : tie.Need-within-requires-3
+within-requires-3 c κs = search needs
+
+returns-3 : tie.Need-returns-3
+unfolding frameLength
+returns-3 c = simp (told-true (c .before .before .before .before .before .within .ensures) (c .before .before .before .before .if1 .left), told-true (c .before .before .before .within2 .ensures) (c .before .before .if2 .left), told-false (c .before .within3 .ensures) (c .if3 .taken))
+
+row-bytes-requires : tie.Need-row-bytes-requires
+row-bytes-requires c κs = search needs
+
+mul-t8 : tie.Need-mul-t8
+mul-t8 c = rw (c .before .row-bytes .ensures) (omega (arith, limits c .plane-most))
+
+mul-t9 : tie.Need-mul-t9
+unfolding frameBytes
+mul-t9 c = rw (c .before .before .row-bytes .ensures) (omega (arith, limits (c .before) .length, limits (c .before) .length-most))
+
+returns-4 : tie.Need-returns-4
+unfolding frameLength frameBytes
+returns-4 c =
+    simp (
+      told-true (c .before .before .before .before .before .before .before .before .within .ensures) (c .before .before .before .before .before .before .before .if1 .left),
+      told-true (c .before .before .before .before .before .before .within2 .ensures) (c .before .before .before .before .before .if2 .left),
+      told-true (c .before .before .before .before .within3 .ensures) (c .before .before .before .if3 .left),
+      c .before .before .row-bytes .ensures,
+    )
+
+pub frame-length-spec : {M : Type 1} → statement M
+frame-length-spec =
+    tie.close
+    (tie.spec
+    within-requires
+    returns
+    within-requires-2
+    returns-2
+    within-requires-3
+    returns-3
+    row-bytes-requires
+    mul-t8
+    mul-t9
+    returns-4)

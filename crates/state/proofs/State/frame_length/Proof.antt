@@ -1,0 +1,50 @@
+-- `state::State::frame_length`: the tests of the frame number and the places, then those of the sizes.
+use borrow.Author.Tests.{le-leb, lt-leb}
+use Rattle.laws.specs.ResultLaws.{told-false, told-true}
+use Rattle.state.specs.State.{stateLength}
+use borrow.Author.Needs.{needs}
+use Rattle.state.proofs.State.frame_length.Statement.{statement}
+use Rattle.state.proofs.State.frame_length.Tie as tie
+
+within-requires : tie.Need-within-requires
+within-requires c κs = search needs
+
+returns : tie.Need-returns
+unfolding stateLength
+returns c = simp (told-false (c .before .within .ensures) (c .if1 .taken))
+
+within-requires-2 : tie.Need-within-requires-2
+within-requires-2 c κs = search needs
+
+returns-2 : tie.Need-returns-2
+unfolding stateLength
+returns-2 c = simp (told-true (c .before .before .before .within .ensures) (c .before .before .if1 .left), told-false (c .before .within2 .ensures) (c .if2 .taken))
+
+returns-3 : tie.Need-returns-3
+unfolding stateLength
+returns-3 c = simp (told-true (c .before .before .before .before .before .within .ensures) (c .before .before .before .before .if1 .left), told-true (c .before .before .before .within2 .ensures) (c .before .before .if2 .left), lt-leb _ _ (c .if3 .taken))
+
+frame-length-requires : tie.Need-frame-length-requires
+frame-length-requires c κs = search needs
+
+returns-4 : tie.Need-returns-4
+unfolding stateLength
+returns-4 c =
+    simp (
+      told-true (c .before .before .before .before .before .before .before .within .ensures) (c .before .before .before .before .before .before .if1 .left),
+      told-true (c .before .before .before .before .before .within2 .ensures) (c .before .before .before .before .if2 .left),
+      le-leb _ _ (c .before .before .if3 .left),
+    )
+    (c .frame-length .ensures)
+
+pub frame-length-spec : {M : Type 1} → statement M
+frame-length-spec =
+    tie.close
+    (tie.spec
+    within-requires
+    returns
+    within-requires-2
+    returns-2
+    returns-3
+    frame-length-requires
+    returns-4)

@@ -1,0 +1,90 @@
+-- What holds of sizes and states that are within the limits.
+use Prim.Native.Nat.{ℕ, _*_, _≤_}
+use native.Mathlib.Nat.{mul-le-mul-left}
+use native.Mathlib.Omega.{arith}
+use mathlib.Core.Path.{_≡_, refl}
+use mathlib.Core.Bool.{Bool, true, false, _&&_}
+use lib.Dec.{leb}
+use borrow.Author.Tests.{leb-true}
+use Rattle.laws.specs.ResultLaws.{Each, Each.each, each-need, each-map}
+use Rattle.state.specs.declared.Sizes.{Sizes}
+use Rattle.state.specs.declared.State.{State}
+use Rattle.state.specs.State.{within, rowBytes, frameBytes, frameLength, stateLength}
+
+-- sizes within the limits, and what follows of the lengths
+pub record Sound (z : Sizes) (n : ℕ) : Type 0 where
+  pub width-least : 1 ≤ z .width
+  pub width-most : z .width ≤ 1024
+  pub height-least : 1 ≤ z .height
+  pub height-most : z .height ≤ 1024
+  pub planes-least : 1 ≤ z .planes
+  pub planes-most : z .planes ≤ 8
+  pub row-least : 2 ≤ rowBytes (z .width)
+  pub row-most : rowBytes (z .width) ≤ 128
+  pub plane-most : z .height * rowBytes (z .width) ≤ 131072
+  pub length : n ≡ frameBytes z
+  pub length-most : n ≤ 1048576
+
+both : (a b : Bool) → a && b ≡ true → (a ≡ true) × (b ≡ true)
+both true true e = (refl, refl)
+both true false e = (refl, e)
+both false b e = let z : _≡_ {A = Bool} false true = e in (z, cc)
+
+-- a number within two bounds
+pub record Between (least most x : ℕ) : Type 0 where
+  pub low : least ≤ x
+  pub high : x ≤ most
+
+pub between : {least most x : ℕ} → within least most x ≡ true → Between least most x
+between {least} {most} {x} e = let t = both (leb least x) (leb x most) e in record { low = leb-true least x (t .0); high = leb-true x most (t .1) }
+
+row-bounds : (w : ℕ) → Between 1 1024 w → Between 2 128 (rowBytes w)
+unfolding rowBytes
+row-bounds w b = record { low = omega arith; high = omega arith }
+
+pub sound : (z : Sizes) → Between 1 1024 (z .width) → Between 1 1024 (z .height) → Between 1 8 (z .planes) → Sound z (frameBytes z)
+unfolding frameBytes
+sound z w h p =
+    let r : Between 2 128 (rowBytes (z .width)) = row-bounds (z .width) w in
+    let q : z .height * rowBytes (z .width) ≤ 131072 = omega (arith, mul-le-mul-left (z .height) (r .high)) in
+    record {
+      width-least = w .low;
+      width-most = w .high;
+      height-least = h .low;
+      height-most = h .high;
+      planes-least = p .low;
+      planes-most = p .high;
+      row-least = r .low;
+      row-most = r .high;
+      plane-most = q;
+      length = refl;
+      length-most = omega (arith, mul-le-mul-left (z .planes) q);
+    }
+
+pub sizes-sound : (z : Sizes) → Each (Sound z) (frameLength z)
+unfolding frameLength
+sizes-sound z =
+    each-need (within 1 1024 (z .width)) 11 _ λ w. each-need (within 1 1024 (z .height)) 11 _ λ h. each-need (within 1 8 (z .planes)) 11 _ λ p.
+    each (sound z (between w) (between h) (between p))
+
+-- a state within the limits
+pub record SoundState (s : State) (n : ℕ) : Type 0 where
+  pub frame-least : 1 ≤ s .frame
+  pub frame-most : s .frame ≤ 1000000
+  pub next-least : 12 ≤ s .next
+  pub next-most : s .next ≤ s .end
+  pub end-most : s .end ≤ 2147483647
+  pub sizes : Sound (s .sizes) n
+
+pub state-sound : (s : State) → Each (SoundState s) (stateLength s)
+unfolding stateLength
+state-sound s =
+    each-need (within 1 1_000_000 (s .frame)) 11 _ λ f. each-need (within 12 (s .end) (s .next)) 11 _ λ p. each-need (leb (s .end) 2_147_483_647) 11 _ λ e.
+    each-map (λ n z. record {
+      frame-least = between f .low;
+      frame-most = between f .high;
+      next-least = between p .low;
+      next-most = between p .high;
+      end-most = leb-true (s .end) 2147483647 e;
+      sizes = z;
+    }) (sizes-sound (s .sizes))
