@@ -4,3 +4,4 @@ pub mod Loop
 pub mod LoopLaws
 pub mod Bytes
 pub mod Store
+pub mod Put

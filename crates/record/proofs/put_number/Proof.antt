@@ -1,0 +1,31 @@
+-- `record::put_number`: the number fits, so that it is written.
+use Rattle.record.specs.PutLaws.{put-next, put-fits}
+use borrow.Author.Needs.{needs}
+use Rattle.record.proofs.put_number.Statement.{statement}
+use Rattle.record.proofs.put_number.Tie as tie
+
+write-requires : tie.Need-write-requires
+write-requires c κs = search needs
+
+enum-known-w : tie.Need-enum-known-w
+enum-known-w c = search needs
+
+enum-told : tie.Need-enum-told
+enum-told c = search needs
+
+same-length : tie.Need-same-length
+same-length c = search needs
+
+returns : tie.Need-returns
+returns c = put-next _ _ _ _ _ (c .before .before .before .before .before .before .before .before .pre) (c .before .before .before .before .before .write .ensures) _ (c .before .w .given .1)
+
+same-length-2 : tie.Need-same-length-2
+same-length-2 c = search needs
+
+returns-2 : tie.Need-returns-2
+returns-2 c = put-fits _ _ _ _ _ (c .before .before .before .before .before .before .before .pre) (c .before .before .before .before .write .ensures) (c .enum-told .given .1)
+
+pub put-number-spec : {M : Type 1} → statement M
+put-number-spec =
+    tie.close
+    (tie.spec write-requires enum-known-w enum-told same-length returns same-length-2 returns-2)

@@ -1,0 +1,85 @@
+-- The step record (document 01, "The record"): the frame number reached, the next place before the step, and the run list of
+-- the hidden picture before and after. It depends on the two pictures and the two numbers only.
+use Prim.Native.Nat.{ℕ}
+use mathlib.Core.List.{List, _++_}
+use mathlib.Core.Option.{Option, some}
+use lib.Dec.{leb, ltb, eqb}
+use lib.ListN.{length, drop}
+use Rattle.laws.specs.Result.{Res, Res.ok, Res.fault, _>>=_, need, orRefuse, _>>?_, given}
+use Rattle.number.specs.Number.{readNumber, writeNumber}
+use Rattle.refusal.specs.Number.{numberOf}
+use Rattle.runs.specs.Runs.{runsOf}
+use Rattle.record.specs.RunList.{changes, listBytes, beforeOf}
+use Rattle.record.specs.declared.Recorded.{Recorded}
+use Rattle.record.specs.declared.Recorded.the-variants.{Written, Refused}
+use Rattle.record.specs.declared.Restored.{Restored}
+use Rattle.record.specs.declared.Restored.the-variants.{Back, Kept}
+
+-- the bytes of a record
+unfoldable pub recordBytes : ℕ → ℕ → List ℕ → List ℕ → List ℕ
+recordBytes frame place old new = writeNumber frame ++ writeNumber place ++ listBytes (runsOf old new)
+
+-- a record's length and the number of bytes that changed: what a written record is answered with
+pub record Measure : Type 0 where
+  pub length : ℕ
+  pub changed : ℕ
+
+unfoldable pub measure : ℕ → ℕ → List ℕ → List ℕ → Measure
+measure frame place old new = record { length = length (recordBytes frame place old new); changed = changes (runsOf old new) }
+
+-- a record written into a buffer of room bytes: 12 for pictures of two lengths or longer than a frame can be, then 51
+unfoldable pub written : ℕ → ℕ → List ℕ → List ℕ → ℕ → Res Measure
+written frame place old new room =
+    need (eqb (length old) (length new)) 12 >>= λ _.
+    need (leb (length old) 1_048_576) 12 >>= λ _.
+    need (leb (length (recordBytes frame place old new)) room) 51 >>= λ _.
+    ok (measure frame place old new)
+
+-- the buffer after it: bytes past the record stay
+abbrev pub bufferAfter : List ℕ → List ℕ → Res Measure → List ℕ
+bufferAfter bytes out (ok m) = bytes ++ drop (length bytes) out
+bufferAfter bytes out (fault n) = out
+
+-- what a record leads back to
+pub record Past : Type 0 where
+  pub frame : ℕ
+  pub place : ℕ
+  pub picture : List ℕ
+
+-- none if the record is malformed, has bytes left over, or an old byte equals the one it replaces
+unfoldable pub pastOf : List ℕ → List ℕ → Option Past
+pastOf bytes shown =
+    readNumber bytes >>? λ f.
+    readNumber (f .rest) >>? λ p.
+    beforeOf (p .rest) shown >>? λ b.
+    given (eqb (length (b .rest)) 0) >>? λ _.
+    some (record { frame = f .value; place = p .value; picture = b .buffer })
+
+-- a record put back at a frame number and a next place: 61, then 62
+unfoldable pub restored : List ℕ → List ℕ → ℕ → ℕ → Res Past
+restored bytes shown frame next =
+    orRefuse 61 (pastOf bytes shown) >>= λ p.
+    need (leb 2 (p .frame)) 62 >>= λ _.
+    need (eqb (p .frame) frame) 62 >>= λ _.
+    need (leb 12 (p .place)) 62 >>= λ _.
+    need (ltb (p .place) next) 62 >>= λ _.
+    ok p
+
+-- the shown picture after it
+abbrev pub shownAfter : List ℕ → Res Past → List ℕ
+shownAfter shown (ok p) = p .picture
+shownAfter shown (fault n) = shown
+
+-- what is answered of it
+abbrev pub placeOf : Res Past → Res ℕ
+placeOf (ok p) = ok (p .place)
+placeOf (fault n) = fault n
+
+-- what the answers say in the paper's terms
+abbrev pub recordedOf : Recorded → Res Measure
+recordedOf (Written length changed) = ok (record { length = length; changed = changed })
+recordedOf (Refused why) = fault (numberOf why)
+
+abbrev pub restoredOf : Restored → Res ℕ
+restoredOf (Back place) = ok place
+restoredOf (Kept why) = fault (numberOf why)

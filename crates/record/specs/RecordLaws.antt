@@ -1,0 +1,71 @@
+-- Laws of records: how they are laid out, and what writing answers.
+use Prim.Native.Nat.{ℕ, _+_, _<_, _≤_}
+use native.Mathlib.Nat.{zero-add}
+use native.Mathlib.Omega.{arith}
+use mathlib.Core.List.{List}
+use mathlib.Core.Path.{_≡_, sym, _∙_}
+use lib.ListN.{length, length-append}
+use lib.Seq.{sets-eq}
+use mathlib.Core.Logic.{_≢_}
+use borrow.Author.Tests.{eq-eqb, ne-eqb, le-leb, lt-leb}
+use Rattle.laws.specs.Result.{Res, Res.ok, Res.fault}
+use Rattle.number.specs.Number.{writeNumber}
+use Rattle.runs.specs.Runs.{runsOf}
+use Rattle.record.specs.RunList.{changes, runsBytes, listBytes}
+use Rattle.record.specs.Record.{recordBytes, Measure, measure, written, bufferAfter}
+use Rattle.laws.specs.Put.{Put}
+use Rattle.record.specs.Walk.{Totalled, Counted}
+use Rattle.laws.specs.Put.{put-then}
+use Rattle.record.specs.declared.Totals.{Totals}
+
+-- a run list, whose runs were counted
+module _ {old new : List ℕ} {runs : ℕ} (c : Counted old new runs) where
+  pub list-length : length (listBytes (runsOf old new)) ≡ length (writeNumber runs) + length (runsBytes (runsOf old new))
+  unfolding listBytes
+  list-length = rw (← (c .is)) (length-append (writeNumber runs) (runsBytes (runsOf old new)))
+
+  pub list-put : {out out₁ out₂ : List ℕ} {at p q : ℕ} → Put out at (writeNumber runs) out₁ p → Put out₁ p (runsBytes (runsOf old new)) out₂ q → Put out at (listBytes (runsOf old new)) out₂ q
+  unfolding listBytes
+  list-put v w = rw (← (c .is)) (put-then v w)
+
+pub counted : {old new : List ℕ} {t : Totals} → length old ≡ length new → length old ≤ 1_048_576 → Totalled old new t → Counted old new (t .runs)
+counted l s t = record { one-length = l; short = s; is = t .runs; few = t .few }
+
+module _ (frame place : ℕ) (old new : List ℕ) where
+  pub record-length : length (recordBytes frame place old new) ≡ length (writeNumber frame) + length (writeNumber place) + length (listBytes (runsOf old new))
+  unfolding recordBytes
+  record-length = simp length-append
+
+  pub record-put : {out out₁ out₂ out₃ : List ℕ} {p q r : ℕ} → Put out 0 (writeNumber frame) out₁ p → Put out₁ p (writeNumber place) out₂ q
+      → Put out₂ q (listBytes (runsOf old new)) out₃ r → Put out 0 (recordBytes frame place old new) out₃ r
+  unfolding recordBytes
+  record-put u v w = put-then (put-then u v) w
+
+  -- what writing answers, and what it leaves in the buffer
+  abbrev pub Answers : List ℕ → Res Measure → List ℕ → Type 0
+  Answers out r left = (r ≡ written frame place old new (length out)) × (left ≡ bufferAfter (recordBytes frame place old new) out (written frame place old new (length out)))
+
+  module _ (out : List ℕ) where
+    settled : {r : Res Measure} → written frame place old new (length out) ≡ r → Answers out r (bufferAfter (recordBytes frame place old new) out r)
+    settled e = (sym e, rw e)
+
+    pub two-lengths : length old ≢ length new → Answers out (fault 12) out
+    unfolding written
+    two-lengths h = settled (simp (ne-eqb _ _ h))
+
+    module _ (l : length old ≡ length new) where
+      pub too-long : 1_048_576 < length old → Answers out (fault 12) out
+      unfolding written
+      too-long h = settled (simp (eq-eqb _ _ l, lt-leb _ _ h))
+
+      module _ (s : length old ≤ 1_048_576) where
+        pub no-room : length out < length (recordBytes frame place old new) → Answers out (fault 51) out
+        unfolding written
+        no-room h = settled (simp (eq-eqb _ _ l, le-leb _ _ s, lt-leb _ _ h))
+
+        pub is-written : (left : List ℕ) (next size changed : ℕ) → length (recordBytes frame place old new) ≤ length out → size ≡ length (recordBytes frame place old new) → changed ≡ changes (runsOf old new)
+            → Put out 0 (recordBytes frame place old new) left next → Answers out (ok (record { length = size; changed = changed })) left
+        unfolding written measure
+        is-written left next size changed h e f p =
+            let w : written frame place old new (length out) ≡ ok (record { length = size; changed = changed }) = simp (eq-eqb _ _ l, le-leb _ _ s, le-leb _ _ h, e, f) in
+            (sym w, rw w (p .left ∙ sets-eq (recordBytes frame place old new) out 0 (omega arith) ∙ rw (zero-add (length (recordBytes frame place old new)))))

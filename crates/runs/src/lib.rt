@@ -1,0 +1,1 @@
+// The runs of changed elements between two lists: see specs/. There is no code here.
