@@ -1,0 +1,112 @@
+-- `delta::read_header`: the tests are the definition's, in its order.
+use Prim.Native.Nat.{ℕ, _≤_}
+use mathlib.Core.Path.{_≡_}
+use mathlib.Core.Bool.{true, _||_}
+use mathlib.Core.List.{List}
+use lib.Dec.{eqb}
+use lib.ListN.{length, getD}
+use Rattle.laws.specs.Result.{Res.ok}
+use Rattle.laws.specs.Bytes.{be32}
+use Rattle.anhd.specs.Anhd.{frameHeader, bitsOk, itemsOf, columnsOk}
+use Rattle.anhd.specs.declared.Items.{Items}
+use borrow.Author.Tests.{le-leb, lt-leb}
+use Rattle.laws.specs.ResultLaws.{told-true, told-false}
+use borrow.Author.Needs.{needs}
+use Rattle.anhd.proofs.read_header.Statement.{statement}
+use Rattle.anhd.proofs.read_header.Tie as tie
+
+header-is : (B : ℕ) (s : List ℕ) {m x bits time : ℕ} {items : Items} → 40 ≤ length s → m ≡ getD s 0 0 → (eqb m 5 || eqb m 7) ≡ true → x ≡ getD s 18 0 → (eqb x 0 || eqb x 2) ≡ true
+    → bits ≡ be32 s 20 → bitsOk m bits ≡ true → items ≡ itemsOf m bits → columnsOk items B ≡ true → time ≡ be32 s 14 → ok (record { method = m; time = time; items = items }) ≡ frameHeader B s
+unfolding frameHeader
+header-is B s {m} {x} {bits} {time} {items} l e a f b g k i h t = simp (le-leb 40 (length s) l, ← e, a, ← f, b, ← g, k, ← i, h, ← t)
+
+returns : tie.Need-returns
+unfolding frameHeader
+returns c = simp (lt-leb _ _ (c .if1 .taken))
+
+byte-requires : tie.Need-byte-requires
+byte-requires c κs = search needs
+
+either-requires : tie.Need-either-requires
+either-requires c κs = search needs
+
+returns-2 : tie.Need-returns-2
+unfolding frameHeader
+returns-2 c =
+    let b = c .before .before in
+    simp (le-leb _ _ (b .before .if1 .left), ← b .byte .ensures .0, told-false (c .before .either .ensures) (c .if2 .taken))
+
+byte-requires-2 : tie.Need-byte-requires-2
+byte-requires-2 c κs = search needs
+
+either-requires-2 : tie.Need-either-requires-2
+either-requires-2 c κs = search needs
+
+returns-3 : tie.Need-returns-3
+unfolding frameHeader
+returns-3 c =
+    let i = c .before .before .before in
+    let p = i .before in
+    simp (le-leb _ _ (p .before .before .if1 .left), ← p .before .byte .ensures .0, told-true (p .either .ensures) (i .if2 .left), ← c .before .before .byte2 .ensures .0, told-false (c .before .either2 .ensures) (c .if3 .taken))
+
+number32-requires : tie.Need-number32-requires
+number32-requires c κs = search needs
+
+bits-ok-requires : tie.Need-bits-ok-requires
+bits-ok-requires c κs = search needs
+
+returns-4 : tie.Need-returns-4
+unfolding frameHeader
+returns-4 c =
+    let j = c .before .before .before in
+    let i = j .before .before .before in
+    let p = i .before in
+    simp (le-leb _ _ (p .before .before .if1 .left), ← p .before .byte .ensures .0, told-true (p .either .ensures) (i .if2 .left), ← j .before .before .byte2 .ensures .0, told-true (j .before .either2 .ensures) (j .if3 .left), ← c .before .before .number32 .ensures .0, told-false (c .before .bits-ok .ensures) (c .if4 .taken))
+
+items-of-requires : tie.Need-items-of-requires
+items-of-requires c κs = search needs
+
+columns-ok-requires : tie.Need-columns-ok-requires
+columns-ok-requires c κs = search needs
+
+returns-5 : tie.Need-returns-5
+unfolding frameHeader
+returns-5 c =
+    let k = c .before .before .before in
+    let j = k .before .before .before in
+    let i = j .before .before .before in
+    let p = i .before in
+    simp (le-leb _ _ (p .before .before .if1 .left), ← p .before .byte .ensures .0, told-true (p .either .ensures) (i .if2 .left), ← j .before .before .byte2 .ensures .0, told-true (j .before .either2 .ensures) (j .if3 .left), ← k .before .before .number32 .ensures .0, told-true (k .before .bits-ok .ensures) (k .if4 .left), ← c .before .before .items-of .ensures, told-false (c .before .columns-ok .ensures) (c .if5 .taken))
+
+number32-requires-2 : tie.Need-number32-requires-2
+number32-requires-2 c κs = search needs
+
+returns-6 : tie.Need-returns-6
+unfolding frameHeader
+returns-6 c =
+    let l = c .before in
+    let k = l .before .before .before in
+    let j = k .before .before .before in
+    let i = j .before .before .before in
+    let p = i .before in
+    header-is (c .before .before .before .before .before .before .before .before .before .before .before .before .before .before .before .args .row) (c .before .before .before .before .before .before .before .before .before .before .before .before .before .before .before .args .s .now) (p .before .before .if1 .left) (p .before .byte .ensures .0) (told-true (p .either .ensures) (i .if2 .left)) (j .before .before .byte2 .ensures .0) (told-true (j .before .either2 .ensures) (j .if3 .left)) (k .before .before .number32 .ensures .0) (told-true (k .before .bits-ok .ensures) (k .if4 .left)) (l .before .before .items-of .ensures) (told-true (l .before .columns-ok .ensures) (l .if5 .left)) (c .number322 .ensures .0)
+
+pub read-header-spec : {M : Type 1} → statement M
+read-header-spec =
+    tie.close
+    (tie.spec
+    returns
+    byte-requires
+    either-requires
+    returns-2
+    byte-requires-2
+    either-requires-2
+    returns-3
+    number32-requires
+    bits-ok-requires
+    returns-4
+    items-of-requires
+    columns-ok-requires
+    returns-5
+    number32-requires-2
+    returns-6)

@@ -1,0 +1,2 @@
+pub mod Anhd
+pub mod Examples

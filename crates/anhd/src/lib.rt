@@ -1,0 +1,98 @@
+// The header of a later frame, ANHD.
+ghost use mathlib.Core.Path.{_≡_};
+ghost use mathlib.Core.Bool.{_||_};
+ghost use lib.Dec.{eqb};
+ghost use Rattle.anhd.specs.Anhd.{bitsOk, itemsOf, columnsOk, frameHeader, anhdOf};
+
+use buffer::byte;
+use buffer::number32;
+use refusal::Refusal;
+
+// The items of a delta: bytes in the op list (method 5), or words of two or four bytes in a data list (method 7).
+pub enum Items {
+    Bytes,
+    Shorts,
+    Longs,
+}
+
+// What ANHD says of a frame: the method, the time after the frame before, and the items of its delta.
+pub struct FrameHeader {
+    pub method: usize,
+    pub time: usize,
+    pub items: Items,
+}
+
+// A frame's header, or why there is none.
+pub enum Anhd {
+    Header(FrameHeader),
+    Unread(Refusal),
+}
+
+fn either(x: usize, a: usize, b: usize) -> bool
+    ensures { λ r. ⌜ r ≡ (eqb x a || eqb x b) ⌝ }
+{
+    if x == a {
+        return true;
+    }
+    x == b
+}
+
+fn bits_ok(method: usize, bits: usize) -> bool
+    ensures { λ r. ⌜ r ≡ bitsOk method bits ⌝ }
+{
+    if method == 5 {
+        return bits == 0;
+    }
+    bits / 2 == 0
+}
+
+fn items_of(method: usize, bits: usize) -> Items
+    ensures { λ r. ⌜ r ≡ itemsOf method bits ⌝ }
+{
+    if method == 5 {
+        return Items::Bytes;
+    }
+    if bits % 2 == 1 {
+        return Items::Longs;
+    }
+    Items::Shorts
+}
+
+fn columns_ok(items: Items, row: usize) -> bool
+    ensures { λ r. ⌜ r ≡ columnsOk items row ⌝ }
+{
+    match items {
+        Items::Bytes => true,
+        Items::Shorts => true,
+        Items::Longs => row % 4 == 0,
+    }
+}
+
+// Reads the contents of an ANHD, for a picture with row bytes per row.
+pub fn read_header(s: &[u8], row: usize) -> Anhd
+    ensures { λ r. ⌜ anhdOf r ≡ frameHeader row (now (s .entry)) ⌝ }
+{
+    if s.len() < 40 {
+        return Anhd::Unread(Refusal::ShortAnimHeader);
+    }
+    let method = byte(s, 0);
+    if !either(method, 5, 7) {
+        return Anhd::Unread(Refusal::UnknownMethod);
+    }
+    if !either(byte(s, 18), 0, 2) {
+        return Anhd::Unread(Refusal::UnknownInterleave);
+    }
+    let bits = number32(s, 20);
+    if !bits_ok(method, bits) {
+        return Anhd::Unread(Refusal::UnknownOptions);
+    }
+    let items = items_of(method, bits);
+    if !columns_ok(items, row) {
+        return Anhd::Unread(Refusal::OddLongColumns);
+    }
+    Anhd::Header(FrameHeader {
+        method,
+        time: number32(s, 14),
+        items,
+    })
+}

@@ -1,0 +1,86 @@
+-- `delta::take_columns`: the columns so far and those that are left are all of them.
+use Prim.Native.Nat.{_+_, _-_, _*_, _≤_}
+use mathlib.Core.Path.{_≡_, refl, _∙_}
+use lib.ListN.{length}
+use Rattle.delta.specs.Delta.{readColumns}
+use Rattle.delta.specs.DeltaLaws.{columns-more, columns-none}
+use Rattle.delta.specs.FillLaws.{columns-first, columns-next}
+use Rattle.delta.specs.Walk.{Columns, Walked}
+use Rattle.delta.specs.WalkLaws.{walked-none, walked-more, walked-refused, walked-all, took-next, took-faulty, next-here, faulty-here}
+use borrow.Author.Needs.{needs}
+use native.Mathlib.Omega.{arith}
+use Rattle.delta.proofs.take_columns.Statement.{statement}
+use Rattle.delta.proofs.take_columns.Tie as tie
+
+abbrev Inv-loop : tie.InvT-loop
+Inv-loop frame₀ d shape count base drawing item at₀ place₀ left₀ frame at place left = (left ≤ count) × (length frame ≡ length frame₀) × Columns shape (length frame₀) place left × Walked shape d drawing frame₀ (readColumns shape d count base) at₀ (readColumns shape d left place) frame (255 * (count - left)) at
+
+abbrev μ-loop : tie.MeasureT-loop
+μ-loop frame₀ d shape count base drawing item at₀ place₀ left₀ frame at place left = left
+
+loop-holds : tie.Need-loop-holds Inv-loop μ-loop
+loop-holds c = (omega arith, refl, c .before .before .pre .2, walked-none (λ ops. refl) refl (c .before .before .pre .3 .line) (c .before .before .pre .3 .item) _)
+
+take-column-requires : tie.Need-take-column-requires Inv-loop μ-loop
+take-column-requires c κs =
+    let p = c .before .before .before .before .before .pre in
+    let i = c .before .before .loop .inv in
+    (p .0, rw (i .1) (columns-first (i .2) (c .before .loop-test .taken)), record { line = i .3 .line; item = i .3 .item; ops = omega (arith, i .3 .counted, i .3 .few, p .3 .ops) })
+
+enum-known-t : tie.Need-enum-known-t Inv-loop μ-loop
+enum-known-t c = search needs
+
+same-length : tie.Need-same-length Inv-loop μ-loop
+same-length c = search needs
+
+returns : tie.Need-returns Inv-loop μ-loop
+returns c =
+    let a = c .before .before .before .before .before .before .before .before .before .before .before .args in
+    let l = c .before .before .before .before .before .before .before .before .loop in
+    faulty-here _ (walked-refused (l .inv .3) (took-faulty (c .before .before .before .before .before .take-column .ensures) (c .before .t .given .1)) (readColumns (a .shape) (a .d .now) (l .left - 1) (l .place + a .shape .item)) (columns-more (a .shape) (a .d .now) (l .left) (l .place) (c .before .before .before .before .before .before .before .loop-test .taken)))
+
+enum-known-t-2 : tie.Need-enum-known-t-2 Inv-loop μ-loop
+enum-known-t-2 c = search needs
+
+add-place : tie.Need-add-place Inv-loop μ-loop
+add-place c = omega (arith, columns-first (c .before .before .before .before .before .before .before .before .loop .inv .2) (c .before .before .before .before .before .before .before .loop-test .taken) .lies 0 (c .before .before .before .before .before .before .before .before .before .before .before .pre .1))
+
+sub-left : tie.Need-sub-left Inv-loop μ-loop
+sub-left c = search needs
+
+loop-less : tie.Need-loop-less Inv-loop μ-loop
+loop-less c = search needs
+
+loop-again : tie.Need-loop-again Inv-loop μ-loop
+loop-again c =
+    let a = c .before .before .before .before .before .before .before .before .before .before .before .args in
+    let l = c .before .before .before .before .before .before .before .before .loop in
+    (omega arith, c .before .before .before .before .before .take-column .kept .0 ∙ l .inv .1, columns-next (l .inv .2) (c .before .before .before .before .before .before .before .loop-test .taken), walked-more (l .inv .3) (took-next (c .before .before .before .before .before .take-column .ensures) (c .before .t2 .given .1)) (columns-more (a .shape) (a .d .now) (l .left) (l .place) (c .before .before .before .before .before .before .before .loop-test .taken)) (omega arith))
+
+same-length-2 : tie.Need-same-length-2 Inv-loop μ-loop
+same-length-2 c = search needs
+
+returns-2 : tie.Need-returns-2 Inv-loop μ-loop
+returns-2 c =
+    let a = c .before .before .before .before .args in
+    let l = c .before .loop in
+    next-here (walked-all (l .inv .3) (columns-none (a .shape) (a .d .now) (l .left) (l .place) (c .loop-test .left)) (omega arith))
+
+pub take-columns-spec : {M : Type 1} → statement M
+take-columns-spec =
+    tie.close
+    (tie.spec
+    Inv-loop
+    μ-loop
+    loop-holds
+    take-column-requires
+    enum-known-t
+    same-length
+    returns
+    enum-known-t-2
+    add-place
+    sub-left
+    loop-less
+    loop-again
+    same-length-2
+    returns-2)

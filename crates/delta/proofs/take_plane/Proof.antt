@@ -1,0 +1,101 @@
+-- `delta::take_plane`: the pointers are the definition's, and its columns lie within the frame.
+use Prim.Native.Nat.{_/_, _*_, _≤_}
+use native.Mathlib.Nat.{mul-le-mul-right}
+use mathlib.Core.Path.{refl, sym, _∙_}
+use Rattle.laws.specs.ResultLaws.{told, each-is}
+use Rattle.refusal.specs.declared.Refusal.the-variants.{BadPointer}
+use Rattle.delta.specs.Delta.{readColumns}
+use Rattle.delta.specs.DeltaLaws.{plane-same, plane-bad, plane-bad-data, plane-columns, data-pointer-most}
+use Rattle.delta.specs.FillLaws.{plane-inside, columns-most}
+use Rattle.delta.specs.Walk.{pointerOf, reading}
+use Rattle.delta.specs.WalkLaws.{refused-here, next-here, walked-none, took-as}
+use native.Mathlib.Omega.{arith}
+use borrow.Author.Needs.{needs}
+use Rattle.delta.proofs.take_plane.Statement.{statement}
+use Rattle.delta.proofs.take_plane.Tie as tie
+
+mul-number32 : tie.Need-mul-number32
+mul-number32 c = search needs
+
+number32-requires : tie.Need-number32-requires
+number32-requires c κs = search needs
+
+returns : tie.Need-returns
+returns c =
+    let b = c .before .before .before .before in
+    next-here (walked-none (λ ops. plane-same (b .args .shape) (b .args .d .now) (b .args .plane) (reading (b .args .c) ops) (sym (c .before .number32 .ensures .0) ∙ c .if1 .taken)) refl (b .pre .2 .line) (b .pre .2 .item) 32640)
+
+list-pointer-requires : tie.Need-list-pointer-requires
+list-pointer-requires c κs = search needs
+
+enum-told : tie.Need-enum-told
+enum-told c = search needs
+
+enum-known-list : tie.Need-enum-known-list
+enum-known-list c = search needs
+
+data-pointer-requires : tie.Need-data-pointer-requires
+data-pointer-requires c κs = search needs
+
+enum-told-2 : tie.Need-enum-told-2
+enum-told-2 c = search needs
+
+enum-known-items : tie.Need-enum-known-items
+enum-known-items c = search needs
+
+mul-base : tie.Need-mul-base
+mul-base c = search needs
+
+mul-base-2 : tie.Need-mul-base-2
+mul-base-2 c =
+    let b = c .before .before .before .before .before .before .before .before .before .before .before .before .before in
+    let h : b .args .plane ≤ 8 = omega (arith, b .pre .0 .planes-most, b .pre .1) in
+    omega (arith, mul-le-mul-right (b .args .shape .height * b .args .shape .row) h, b .pre .0 .plane-most)
+
+div-take-columns : tie.Need-div-take-columns
+div-take-columns c = search needs
+
+take-columns-requires : tie.Need-take-columns-requires
+take-columns-requires c κs =
+    let b = c .before .before .before .before .before .before .before .before .before .before .before .before .before .before .before in
+    (b .pre .0 .width, b .pre .0 .height-least, plane-inside (b .pre .0) (b .args .plane) (b .pre .1), record { line = omega arith; item = each-is (told pointerOf (c .before .before .before .before .before .before .data-pointer .ensures) (c .before .before .before .before .items .given .1)) (data-pointer-most (b .args .shape .inline) (b .args .d .now) (b .args .plane)); ops = omega (arith, b .pre .2 .ops, columns-most (b .pre .0)) })
+
+returns-2 : tie.Need-returns-2
+returns-2 c =
+    let b = c .before .before .before .before .before .before .before in
+    refused-here BadPointer (λ ops. plane-bad (b .args .shape) (b .args .d .now) (b .args .plane) (reading (b .args .c) ops) (λ e. c .before .before .before .if1 .left (c .before .before .before .before .number32 .ensures .0 ∙ e)) (told pointerOf (c .before .before .list-pointer .ensures) (c .enum-told .given .1)))
+
+returns-3 : tie.Need-returns-3
+returns-3 c =
+    let b = c .before .before .before .before .before .before .before .before .before .before .before in
+    refused-here BadPointer (λ ops. plane-bad-data (b .args .shape) (b .args .d .now) (b .args .plane) (reading (b .args .c) ops) (λ e. c .before .before .before .before .before .before .before .if1 .left (c .before .before .before .before .before .before .before .before .number32 .ensures .0 ∙ e)) (told pointerOf (c .before .before .before .before .before .before .list-pointer .ensures) (c .before .before .before .before .list .given .1)) (told pointerOf (c .before .before .data-pointer .ensures) (c .enum-told2 .given .1)))
+
+same-length : tie.Need-same-length
+same-length c = search needs
+
+returns-4 : tie.Need-returns-4
+returns-4 c =
+    let b = c .before .before .before .before .before .before .before .before .before .before .before .before .before .before .before .before .before .before in
+    took-as {whole′ = readColumns (b .args .shape) (b .args .d .now) (b .args .shape .row / b .args .shape .item) (b .args .plane * (b .args .shape .height * b .args .shape .row))} (c .before .before .take-columns .ensures) (λ ops. plane-columns (b .args .shape) (b .args .d .now) (b .args .plane) (reading (b .args .c) ops) (λ e. c .before .before .before .before .before .before .before .before .before .before .before .before .before .before .if1 .left (c .before .before .before .before .before .before .before .before .before .before .before .before .before .before .before .number32 .ensures .0 ∙ e)) (told pointerOf (c .before .before .before .before .before .before .before .before .before .before .before .before .before .list-pointer .ensures) (c .before .before .before .before .before .before .before .before .before .before .before .list .given .1)) (told pointerOf (c .before .before .before .before .before .before .before .before .before .data-pointer .ensures) (c .before .before .before .before .before .before .before .items .given .1))) refl (omega (arith, columns-most (b .pre .0)))
+
+pub take-plane-spec : {M : Type 1} → statement M
+take-plane-spec =
+    tie.close
+    (tie.spec
+    mul-number32
+    number32-requires
+    returns
+    list-pointer-requires
+    enum-told
+    enum-known-list
+    data-pointer-requires
+    enum-told-2
+    enum-known-items
+    mul-base
+    mul-base-2
+    div-take-columns
+    take-columns-requires
+    returns-2
+    returns-3
+    same-length
+    returns-4)

@@ -1,0 +1,81 @@
+-- What the steps of a walk through a delta answer and leave in the frame. A walk that only checks draws nothing.
+use Prim.Native.Nat.{ℕ, _+_, _*_, _<_, _≤_}
+use mathlib.Core.Bool.{Bool, false}
+use mathlib.Core.Path.{_≡_}
+use mathlib.Core.List.{List, _++_}
+use lib.ListN.{length}
+use Rattle.laws.specs.Result.{Res, Res.ok, Res.fault, pick}
+use Rattle.refusal.specs.Number.{numberOf}
+use Rattle.refusal.specs.declared.Refusal.{Refusal}
+use Rattle.delta.specs.Delta.{Op, Reading, draw}
+use Rattle.delta.specs.declared.Shape.{Shape}
+use Rattle.delta.specs.declared.Cursor.{Cursor}
+use Rattle.delta.specs.declared.Step.{Step}
+use Rattle.delta.specs.declared.Step.the-variants.{Next, Faulty}
+use Rattle.delta.specs.declared.Pointer.{Pointer}
+use Rattle.delta.specs.declared.Pointer.the-variants.{At, Bad}
+
+abbrev pub pointerOf : Pointer → Res ℕ
+pointerOf (At n) = ok n
+pointerOf Bad = fault 41
+
+-- an item has one, two or four bytes
+pub record Width (w : ℕ) : Type 0 where
+  pub least : 1 ≤ w
+  pub most : w ≤ 4
+  pub not-three : w ≡ 3 → ⊥
+
+-- count items of w bytes, step apart from a start on, lie within n bytes
+pub record Inside (n start step w count : ℕ) : Type 0 where
+  pub lies : (k : ℕ) → k < count → start + k * step + w ≤ n
+
+-- a column that starts at base lies within a frame of n bytes
+abbrev pub Column : Shape → ℕ → ℕ → Type 0
+Column S n base = Inside n base (S .row) (S .item) (S .height)
+
+-- k columns do
+pub record Columns (S : Shape) (n base k : ℕ) : Type 0 where
+  pub column : (j : ℕ) → j < k → Column S n (base + j * S .item)
+
+-- all planes of a picture do
+pub record Planes (S : Shape) (n : ℕ) : Type 0 where
+  pub width : Width (S .item)
+  pub row-most : S .row ≤ 128
+  pub height-least : 1 ≤ S .height
+  pub plane-most : S .height * S .row ≤ 131072
+  pub planes-most : S .planes ≤ 8
+  pub length : n ≡ S .planes * (S .height * S .row)
+
+-- a cursor within the column and the delta, with room for so many ops
+pub record Stands (S : Shape) (d : List ℕ) (c : Cursor) (room : ℕ) : Type 0 where
+  pub line : c .line ≤ S .height
+  pub item : c .item ≤ length d
+  pub ops : c .ops + room < 4294967296
+
+-- where the whole delta is read from
+abbrev pub top : Cursor
+top = record { op = 0; item = 0; line = 0; ops = 0 }
+
+-- the definition's place of reading, where the ops so far are given
+abbrev pub reading : Cursor → List Op → Reading
+reading c ops = record { opAt = c .op; itemAt = c .item; line = c .line; ops = ops }
+
+-- reading by `whole` from the cursor c₀ on has come to c, and `rest` is left; the frame f has become g
+pub record Walked (S : Shape) (d : List ℕ) (drawing : Bool) (f : List ℕ) (whole : Reading → Res Reading) (c₀ : Cursor) (rest : Reading → Res Reading) (g : List ℕ) (most : ℕ) (c : Cursor) : Type 0 where
+  pub new : List Op
+  pub same : (ops : List Op) → whole (reading c₀ ops) ≡ rest (reading c (ops ++ new))
+  pub drawn : g ≡ pick drawing (draw S d new f) f
+  pub counted : c .ops ≡ c₀ .ops + length new
+  pub few : length new ≤ most
+  pub line : c .line ≤ S .height
+  pub item : c .item ≤ length d
+
+-- reading is refused; a check draws nothing
+pub record Refused (drawing : Bool) (f : List ℕ) (whole : Reading → Res Reading) (c₀ : Cursor) (g : List ℕ) (n : ℕ) : Type 0 where
+  pub same : (ops : List Op) → whole (reading c₀ ops) ≡ fault n
+  pub kept : drawing ≡ false → g ≡ f
+
+-- what a step answers and leaves in the frame, where the definition's step is `whole`
+pub data Took (S : Shape) (d : List ℕ) (drawing : Bool) (f : List ℕ) (whole : Reading → Res Reading) (c₀ : Cursor) (g : List ℕ) (most : ℕ) : Step → Type 0 where
+  took : {c : Cursor} → Walked S d drawing f whole c₀ ok g most c → Took S d drawing f whole c₀ g most (Next c)
+  refused : {why : Refusal} → Refused drawing f whole c₀ g (numberOf why) → Took S d drawing f whole c₀ g most (Faulty why)
