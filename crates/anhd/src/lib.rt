@@ -3,7 +3,6 @@ ghost use mathlib.Core.Path.{_≡_};
 ghost use mathlib.Core.Bool.{_||_};
 ghost use lib.Dec.{eqb};
 ghost use Rattle.anhd.specs.Anhd.{bitsOk, itemsOf, columnsOk, frameHeader, anhdOf};
-
 use buffer::byte;
 use buffer::number32;
 use refusal::Refusal;

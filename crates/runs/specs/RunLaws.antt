@@ -1,11 +1,17 @@
--- Laws of runs: one element in front of two lists.
-use Prim.Native.Nat.{ℕ}
-use mathlib.Core.Bool.{true, false}
-use mathlib.Core.List.{List, _∷_}
-use mathlib.Core.Path.{_≡_}
+-- Laws of runs: one element in front of two lists, and the run that begins at once, if there is one, with those behind it.
+use Prim.Native.Nat.{ℕ, zero, suc, _+_, _<_, _≤_}
+use native.Mathlib.Numerals.{add-one}
+use native.Mathlib.Omega.{arith}
+use mathlib.Core.Bool.{Bool, true, false}
+use mathlib.Core.List.{List, [], _∷_}
+use mathlib.Core.Path.{_≡_, refl, ap, _∙_}
 use lib.Dec.{eqb}
-use Rattle.runs.specs.Runs.{kept, changed, runsOf}
+use lib.ListN.{length, getD, drop, drop-of-length-le}
+use lib.Seq.{drop-cons}
+use borrow.Author.Tests.{eq-eqb, ne-eqb}
+use Rattle.runs.specs.Runs.{Run, kept, changed, runsOf}
 
+-- one element in front of two lists
 pub runs-kept : (a b : ℕ) (old new : List ℕ) → eqb a b ≡ true → runsOf (a ∷ old) (b ∷ new) ≡ kept (runsOf old new)
 unfolding runsOf
 runs-kept a b old new e = rw (e, runsOf)
@@ -13,3 +19,68 @@ runs-kept a b old new e = rw (e, runsOf)
 pub runs-changed : (a b : ℕ) (old new : List ℕ) → eqb a b ≡ false → runsOf (a ∷ old) (b ∷ new) ≡ changed a (runsOf old new)
 unfolding runsOf
 runs-changed a b old new e = rw (e, runsOf)
+
+-- the runs from a place of two lists on
+unfoldable pub runsAt : List ℕ → List ℕ → ℕ → List Run
+runsAt old new i = runsOf (drop i old) (drop i new)
+
+pub runs-end : (old new : List ℕ) (i : ℕ) → length old ≤ i → runsAt old new i ≡ []
+unfolding runsAt runsOf
+runs-end old new i h = rw (drop-of-length-le old {i = i} h, runsOf)
+
+module _ (old new : List ℕ) (i : ℕ) (h : i < length old) (l : length new ≡ length old) where
+  runs-front : runsAt old new i ≡ runsOf (getD old i 0 ∷ drop (i + 1) old) (getD new i 0 ∷ drop (i + 1) new)
+  unfolding runsAt
+  runs-front = rw (add-one i, drop-cons old i 0 h, drop-cons new i 0 (omega arith))
+
+  pub kept-at : getD old i 0 ≡ getD new i 0 → runsAt old new i ≡ kept (runsAt old new (i + 1))
+  unfolding runsAt
+  kept-at e = runs-front ∙ runs-kept _ _ _ _ (eq-eqb _ _ e)
+
+  pub changed-at : (getD old i 0 ≡ getD new i 0 → ⊥) → runsAt old new i ≡ changed (getD old i 0) (runsAt old new (i + 1))
+  unfolding runsAt
+  changed-at e = runs-front ∙ runs-changed _ _ _ _ (ne-eqb _ _ e)
+
+-- the elements of a run that begins at once, and the runs behind it
+unfoldable pub front : List Run → List ℕ
+front [] = []
+front (r ∷ rs) = elim (eqb (r .gap) 0) [ true ↦ r .old | false ↦ [] ]
+
+unfoldable pub behind : List Run → List Run
+behind [] = []
+behind (r ∷ rs) = elim (eqb (r .gap) 0) [ true ↦ rs | false ↦ r ∷ rs ]
+
+pub changed-is : (a : ℕ) (rs : List Run) → changed a rs ≡ record { gap = 0; old = a ∷ front rs } ∷ behind rs
+unfolding changed front behind
+changed-is a [] = refl
+changed-is a (r ∷ rs) = go (eqb (r .gap) 0) refl
+  where
+    go : (t : Bool) → eqb (r .gap) 0 ≡ t → changed a (r ∷ rs) ≡ record { gap = 0; old = a ∷ front (r ∷ rs) } ∷ behind (r ∷ rs)
+    go true e = rw (e, changed, front, behind)
+    go false e = rw (e, changed, front, behind)
+
+pub front-changed : (a : ℕ) (rs : List Run) → front (changed a rs) ≡ a ∷ front rs
+front-changed a rs = rw (changed-is a rs) (unfold front in refl)
+
+pub behind-changed : (a : ℕ) (rs : List Run) → behind (changed a rs) ≡ behind rs
+behind-changed a rs = rw (changed-is a rs) (unfold behind in refl)
+
+pub front-kept : (rs : List Run) → front (kept rs) ≡ []
+unfolding front kept
+front-kept [] = refl
+front-kept (r ∷ rs) = rw (ne-eqb (suc (r .gap)) 0 (λ e. absurd (omega arith)), front)
+
+-- n unchanged elements in front of the runs
+unfoldable pub later : ℕ → List Run → List Run
+later n [] = []
+later n (r ∷ rs) = record { gap = n + r .gap; old = r .old } ∷ rs
+
+pub later-none : (rs : List Run) → later 0 rs ≡ rs
+unfolding later
+later-none [] = refl
+later-none (r ∷ rs) = ap (λ (g : ℕ). record { gap = g; old = r .old } ∷ rs) (omega arith)
+
+pub later-kept : (n : ℕ) (rs : List Run) → later n (kept rs) ≡ later (n + 1) rs
+unfolding later kept
+later-kept n [] = refl
+later-kept n (r ∷ rs) = ap (λ (g : ℕ). record { gap = g; old = r .old } ∷ rs) (omega arith)

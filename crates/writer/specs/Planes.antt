@@ -1,0 +1,35 @@
+-- The writer's walk over planes and their columns.
+use Prim.Native.Nat.{ℕ, _+_, _*_, _≤_, _<_}
+use mathlib.Core.List.{List}
+use mathlib.Core.Path.{_≡_}
+use lib.ListN.{length}
+
+-- a column that starts at a place lies in both frames
+pub record InFrame (old new : List ℕ) (row height at : ℕ) : Type 0 where
+  pub tall : height ≤ 1024
+  pub inOld : (i : ℕ) → i < height → at + i * row < length old
+  pub inNew : (i : ℕ) → i < height → at + i * row < length new
+
+-- a plane that starts at a place lies in both frames
+pub record Plane (old new : List ℕ) (row height at : ℕ) : Type 0 where
+  pub tall : height ≤ 1024
+  pub wide : row ≤ 128
+  pub inOld : at + height * row ≤ length old
+  pub inNew : at + height * row ≤ length new
+  pub most : length new ≤ 1048576
+
+-- two frames of so many planes
+pub record Frames (old new : List ℕ) (row height planes : ℕ) : Type 0 where
+  pub tall : height ≤ 1024
+  pub narrow : 1 ≤ row
+  pub wide : row ≤ 128
+  pub deep : planes ≤ 8
+  pub plane : height * row ≤ 131072
+  pub oldSize : length old ≡ planes * (height * row)
+  pub newSize : length new ≡ planes * (height * row)
+  pub most : length new ≤ 1048576
+
+-- so many planes are left, from a place on
+pub record Walking (row height planes at left : ℕ) : Type 0 where
+  pub few : left ≤ planes
+  pub place : at + left * (height * row) ≡ planes * (height * row)

@@ -1,0 +1,100 @@
+-- A method 5 delta that is written (document 01, "The writer"), given the old and the new frame and their sizes. Equal planes
+-- get pointer 0; the others' lists follow from place 64 in plane order. The second eight pointers are 0.
+use Prim.Native.Nat.{ℕ, zero, suc, _+_, _-_, _*_, _/_, _%_}
+use mathlib.Core.Bool.{Bool, true, false}
+use mathlib.Core.List.{List, [], _∷_, _++_}
+use mathlib.Core.Path.{_≡_, refl}
+use lib.Dec.{leb, eqb}
+use lib.ListN.{length, getD, take, drop, replicate}
+use Rattle.laws.specs.Result.{Res, Res.ok, Res.fault, _>>=_, need}
+use Rattle.refusal.specs.Number.{numberOf}
+use Rattle.runs.specs.Runs.{kept, changed, runsOf}
+use Rattle.state.specs.State.{rowBytes, frameBytes, frameLength}
+use Rattle.state.specs.declared.Sizes.{Sizes}
+use Rattle.writer.specs.Column.{join, groupsOf, loose, stretch, restOf, uniqs, cut, cutAll, opsOf, columnOps, opBytes, opsBytes, columnBytes}
+use Rattle.writer.specs.declared.Delta.{Delta}
+use Rattle.writer.specs.declared.Delta.the-variants.{Written, Refused}
+
+-- the column that starts at a place of a frame, n rows
+unfoldable pub columnAt : List ℕ → ℕ → ℕ → ℕ → List ℕ
+columnAt f row at zero = []
+columnAt f row at (suc n) = getD f at 0 ∷ columnAt f row (at + row) n
+
+-- k columns, from the one that starts at a place on
+unfoldable pub columnsBytes : List ℕ → List ℕ → ℕ → ℕ → ℕ → ℕ → List ℕ
+columnsBytes old new row height zero at = []
+columnsBytes old new row height (suc k) at =
+    columnBytes (columnAt old row at height) (columnAt new row at height) ++ columnsBytes old new row height k (at + 1)
+
+unfoldable pub equal : List ℕ → List ℕ → Bool
+equal [] [] = true
+equal [] (b ∷ t) = false
+equal (a ∷ s) [] = false
+equal (a ∷ s) (b ∷ t) = elim (eqb a b) [ true ↦ equal s t | false ↦ false ]
+
+-- the list of the plane that starts at a place: nothing if the plane is unchanged
+unfoldable pub planeBytes : List ℕ → List ℕ → ℕ → ℕ → ℕ → List ℕ
+planeBytes old new row height at =
+    elim (equal (take (height * row) (drop at old)) (take (height * row) (drop at new))) [ true ↦ [] | false ↦ columnsBytes old new row height row at ]
+
+-- a number in four bytes, the highest first
+unfoldable pub be32Bytes : ℕ → List ℕ
+be32Bytes n = n / 16777216 % 256 ∷ n / 65536 % 256 ∷ n / 256 % 256 ∷ n % 256 ∷ []
+
+-- a plane's pointer: its list's place, or 0 where there is none
+unfoldable pub pointerOf : ℕ → List ℕ → ℕ
+pointerOf place [] = 0
+pointerOf place (b ∷ s) = place
+
+-- the pointers of k planes, from the plane that starts at `at`, whose list would stand at `place`; and the lists
+unfoldable pub pointersBytes : List ℕ → List ℕ → ℕ → ℕ → ℕ → ℕ → ℕ → List ℕ
+pointersBytes old new row height zero at place = []
+pointersBytes old new row height (suc k) at place =
+    be32Bytes (pointerOf place (planeBytes old new row height at))
+    ++ pointersBytes old new row height k (at + height * row) (place + length (planeBytes old new row height at))
+
+unfoldable pub listsBytes : List ℕ → List ℕ → ℕ → ℕ → ℕ → ℕ → List ℕ
+listsBytes old new row height zero at = []
+listsBytes old new row height (suc k) at = planeBytes old new row height at ++ listsBytes old new row height k (at + height * row)
+
+-- sixteen pointers, those past the planes 0, and the lists from 64 on
+unfoldable pub deltaBytes : Sizes → List ℕ → List ℕ → List ℕ
+deltaBytes z old new =
+    pointersBytes old new (rowBytes (z .width)) (z .height) (z .planes) 0 64
+    ++ replicate (64 - 4 * z .planes) 0
+    ++ listsBytes old new (rowBytes (z .width)) (z .height) (z .planes) 0
+
+-- the delta's length in an output buffer of room bytes: 11 for the sizes, 12 for the frames, 51 if it doesn't fit
+unfoldable pub written : Sizes → List ℕ → List ℕ → ℕ → Res ℕ
+written z old new room =
+    frameLength z >>= λ n.
+    need (eqb (length old) n) 12 >>= λ _.
+    need (eqb (length new) n) 12 >>= λ _.
+    need (leb (length (deltaBytes z old new)) room) 51 >>= λ _.
+    ok (length (deltaBytes z old new))
+
+-- the buffer after it: bytes past the delta stay
+abbrev pub bufferAfter : List ℕ → List ℕ → Res ℕ → List ℕ
+bufferAfter bytes out (ok n) = bytes ++ drop (length bytes) out
+bufferAfter bytes out (fault n) = out
+
+-- what an answer says in the paper's terms
+abbrev pub deltaOf : Delta → Res ℕ
+deltaOf (Written length) = ok length
+deltaOf (Refused why) = fault (numberOf why)
+
+-- P11: from zeros to AA 00 BB 00 the list of P2, 69 bytes in all; for equal frames 64 zero bytes
+zeros : List ℕ
+zeros = replicate 4 0
+
+from-zeros : drop 64 (deltaBytes (record { width = 16; height = 2; planes = 1 }) zeros (0xAA ∷ 0x00 ∷ 0xBB ∷ 0x00 ∷ [])) ≡ 0x01 ∷ 0x82 ∷ 0xAA ∷ 0xBB ∷ 0x00 ∷ []
+unfolding zeros deltaBytes pointersBytes listsBytes planeBytes equal pointerOf be32Bytes columnsBytes columnAt columnBytes columnOps opsOf cutAll cut uniqs restOf stretch loose groupsOf join opsBytes opBytes runsOf kept changed rowBytes
+from-zeros = refl
+
+pointer-64 : take 64 (deltaBytes (record { width = 16; height = 2; planes = 1 }) zeros (0xAA ∷ 0x00 ∷ 0xBB ∷ 0x00 ∷ [])) ≡ 0 ∷ 0 ∷ 0 ∷ 64 ∷ replicate 60 0
+unfolding zeros deltaBytes pointersBytes listsBytes planeBytes equal pointerOf be32Bytes columnsBytes columnAt columnBytes columnOps opsOf cutAll cut uniqs restOf stretch loose groupsOf join opsBytes opBytes runsOf kept changed rowBytes
+pointer-64 = refl
+
+unchanged : deltaBytes (record { width = 16; height = 2; planes = 1 }) zeros zeros ≡ replicate 64 0
+unfolding zeros deltaBytes pointersBytes listsBytes planeBytes equal pointerOf be32Bytes columnsBytes columnAt columnBytes columnOps opsOf cutAll cut uniqs restOf stretch loose groupsOf join opsBytes opBytes runsOf kept changed rowBytes
+unchanged = refl

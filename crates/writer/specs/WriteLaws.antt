@@ -1,0 +1,86 @@
+-- Laws of writing a delta: the order of its checks, and what is left in the output buffer.
+use Prim.Native.Nat.{ℕ, _+_, _-_, _*_, _≤_, _<_}
+use native.Mathlib.Nat.{zero-add}
+use native.Mathlib.Omega.{arith}
+use mathlib.Core.List.{List, _++_}
+use mathlib.Core.Path.{_≡_, refl, sym, ap, _∙_}
+use lib.ListN.{length, drop, replicate, length-append, length-replicate}
+use lib.Seq.{sets, sets-eq}
+use borrow.Author.Tests.{eq-eqb, ne-eqb, le-leb, lt-leb}
+use Rattle.laws.specs.Result.{Res, Res.ok, Res.fault}
+use Rattle.laws.specs.ResultLaws.{each-is}
+use Rattle.state.specs.declared.Sizes.{Sizes}
+use Rattle.state.specs.State.{rowBytes, frameBytes, frameLength}
+use Rattle.state.specs.StateLaws.{Sound, sizes-sound}
+use Rattle.writer.specs.Planes.{Frames}
+use Rattle.writer.specs.Write.{pointersBytes, listsBytes, deltaBytes, written, bufferAfter}
+use Rattle.writer.specs.PlaneLaws.{pointers-length}
+
+-- the frames of sizes within the limits
+frames-sound : {z : Sizes} {n : ℕ} {old new : List ℕ} → Sound z n → length old ≡ n → length new ≡ n → Frames old new (rowBytes (z .width)) (z .height) (z .planes)
+unfolding frameBytes
+frames-sound s o w = record {
+  tall = s .height-most;
+  narrow = omega (arith, s .row-least);
+  wide = s .row-most;
+  deep = s .planes-most;
+  oldSize = o ∙ s .length;
+  newSize = w ∙ s .length;
+  plane = s .plane-most;
+  most = omega (arith, s .length-most);
+}
+
+pub frames-are : (z : Sizes) {n : ℕ} {old new : List ℕ} → frameLength z ≡ ok n → length old ≡ n → length new ≡ n → Frames old new (rowBytes (z .width)) (z .height) (z .planes)
+frames-are z e o w = frames-sound (each-is e (sizes-sound z)) o w
+
+-- what is answered, and what is left in the output buffer
+module _ (z : Sizes) (old new out : List ℕ) where
+  abbrev pub Answers : Res ℕ → List ℕ → Type 0
+  Answers r left = (r ≡ written z old new (length out)) × (left ≡ bufferAfter (deltaBytes z old new) out (written z old new (length out)))
+
+  lists : List ℕ
+  lists = listsBytes old new (rowBytes (z .width)) (z .height) (z .planes) 0
+
+  delta-length : z .planes ≤ 8 → length (deltaBytes z old new) ≡ 64 + length lists
+  unfolding deltaBytes lists
+  delta-length h =
+      let P : List ℕ = pointersBytes old new (rowBytes (z .width)) (z .height) (z .planes) 0 64 in
+      let Z : List ℕ = replicate (64 - 4 * z .planes) 0 in
+      omega (arith, length-append (P ++ Z) lists, length-append P Z, pointers-length old new (rowBytes (z .width)) (z .height) (z .planes) 0 64, length-replicate {A = ℕ} (64 - 4 * z .planes) 0)
+
+  answers-fault : {k : ℕ} → written z old new (length out) ≡ fault k → Answers (fault k) out
+  answers-fault e = (sym e, rw e)
+
+  pub limits : {k : ℕ} → frameLength z ≡ fault k → Answers (fault k) out
+  unfolding written
+  limits e = answers-fault (simp e)
+
+  module _ {n : ℕ} (e : frameLength z ≡ ok n) where
+    pub not-old : (length old ≡ n → ⊥) → Answers (fault 12) out
+    unfolding written
+    not-old h = answers-fault (simp (e, ne-eqb (length old) n h))
+
+    pub not-new : length old ≡ n → (length new ≡ n → ⊥) → Answers (fault 12) out
+    unfolding written
+    not-new o h = answers-fault (simp (e, eq-eqb (length old) n o, ne-eqb (length new) n h))
+
+    module _ (o : length old ≡ n) (w : length new ≡ n) where
+      sound : Sound z n
+      sound = each-is e (sizes-sound z)
+
+      module _ {m : ℕ} (l : m ≡ length (listsBytes old new (rowBytes (z .width)) (z .height) (z .planes) 0)) where
+        size : length (deltaBytes z old new) ≡ 64 + m
+        unfolding lists
+        size = delta-length (sound .planes-most) ∙ ap (λ (k : ℕ). 64 + k) (sym l)
+
+        pub no-room : length out < 64 + m → Answers (fault 51) out
+        unfolding written
+        no-room h = answers-fault (simp (e, eq-eqb (length old) n o, eq-eqb (length new) n w, lt-leb (length (deltaBytes z old new)) (length out) (omega (arith, size))))
+
+        pub all-written : 64 + m ≤ length out → {left : List ℕ} → left ≡ sets out 0 (deltaBytes z old new) → Answers (ok (64 + m)) left
+        unfolding written
+        all-written h f =
+            let k : length (deltaBytes z old new) ≤ length out = omega (arith, size) in
+            let r : written z old new (length out) ≡ ok (length (deltaBytes z old new)) =
+              simp (e, eq-eqb (length old) n o, eq-eqb (length new) n w, le-leb (length (deltaBytes z old new)) (length out) k) in
+            (ap (λ (j : ℕ). ok j) (sym size) ∙ sym r, f ∙ sets-eq (deltaBytes z old new) out 0 (omega (arith, k)) ∙ rw (r, zero-add (length (deltaBytes z old new))))
