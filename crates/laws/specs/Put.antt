@@ -1,12 +1,11 @@
 -- Bytes put into a buffer, one after the other.
 use Prim.Native.Nat.{ℕ, _+_, _-_, _≤_}
-use native.Mathlib.Numerals.{add-one}
 use native.Mathlib.Omega.{arith}
-use mathlib.Core.List.{List, [], _∷_, _++_, append-nil}
-use mathlib.Core.Path.{_≡_, refl, sym, ap, subst, _∙_}
-use lib.ListN.{length, set, take, drop, replicate, length-append, length-drop}
+use mathlib.Core.List.{List, [], _∷_, _++_}
+use mathlib.Core.Path.{_≡_, refl, sym, ap, _∙_}
+use lib.ListN.{length, set, take, drop, length-append, length-drop}
 use lib.Seq.{sets, length-sets, length-take-le}
-use Rattle.laws.specs.Store.{over, over-whole, sets-part, sets-append, lent-fill}
+use Rattle.laws.specs.Store.{over, over-whole, sets-part, sets-append}
 
 -- bytes put at a place of a buffer, and the place after them
 pub record Put (out : List ℕ) (at : ℕ) (bytes out′ : List ℕ) (next : ℕ) : Type 0 where

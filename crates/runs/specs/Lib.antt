@@ -1,2 +1,3 @@
 pub mod Runs
 pub mod RunLaws
+pub mod PatchLaws

@@ -1,13 +1,13 @@
 -- Laws of a column's ops: groups of rows with one value, a stretch of changed rows, and the runs that they lie in.
-use Prim.Native.Nat.{ℕ, zero, suc, _+_, _-_, _*_, _/_, _%_, _≤_, _<_}
+use Prim.Native.Nat.{ℕ, zero, suc, _+_, _-_, _≤_, _<_}
 use native.Mathlib.Omega.{arith}
 use mathlib.Core.Bool.{Bool, true, false}
 use mathlib.Core.List.{List, [], _∷_, _++_, append-assoc}
 use mathlib.Core.Path.{_≡_, refl, sym, ap, _∙_}
-use lib.Dec.{leb, eqb}
-use lib.ListN.{length, take, drop, replicate}
+use lib.Dec.{eqb}
+use lib.ListN.{replicate}
 use borrow.Author.Tests.{eq-eqb, ne-eqb, eqb-true, le-leb, lt-leb}
-use Rattle.runs.specs.Runs.{Run, changed, runsOf}
+use Rattle.runs.specs.Runs.{Run, changed}
 use Rattle.runs.specs.RunLaws.{front, behind, later, changed-is}
 use Rattle.writer.specs.Column.{Op, Op.skip, Op.uniq, Op.same, Group, join, groupsOf, loose, stretch, restOf, cut, cutAll, opsOf}
 

@@ -189,8 +189,8 @@ uniq-none (v ∷ vs) e = absurd (omega arith)
 pub uniq-last : (vs : List ℕ) → 0 < length vs → length vs < 127 → Parts (opsBytes (cut (uniq vs))) (opBytes (uniq vs)) []
 uniq-last vs h l = record {
   is =
-    ap opsBytes (uniq-first vs h)
-    ∙ rw (take-all 127 vs (omega arith)) (unfold opsBytes in ap (λ (t : List ℕ). opBytes (uniq vs) ++ t) (uniq-none (drop 127 vs) (simp length-drop (omega arith))));
+      ap opsBytes (uniq-first vs h)
+      ∙ rw (take-all 127 vs (omega arith)) (unfold opsBytes in ap (λ (t : List ℕ). opBytes (uniq vs) ++ t) (uniq-none (drop 127 vs) (simp length-drop (omega arith))));
 }
 
 -- a column in at most 255 ops, and one that would need more

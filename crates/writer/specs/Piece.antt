@@ -1,11 +1,11 @@
 -- The writer's walk down a column: pieces of rows that become ops of one kind, and what each tells of the ops that are left.
 use Prim.Native.Nat.{ℕ, _+_, _-_, _*_, _/_, _≤_, _<_}
-use mathlib.Core.List.{List, [], _∷_, _++_}
+use mathlib.Core.List.{List, [], _++_}
 use mathlib.Core.Path.{_≡_}
 use lib.ListN.{length, getD, take, drop, replicate}
 use Rattle.runs.specs.Runs.{runsOf}
 use Rattle.runs.specs.RunLaws.{runsAt, front, behind, later}
-use Rattle.writer.specs.Column.{Op, Op.skip, Op.uniq, Op.same, cut, stretch, groupsOf, opsOf, opsBytes}
+use Rattle.writer.specs.Column.{Op, Op.skip, Op.uniq, Op.same, cut, opsOf, opsBytes}
 use Rattle.writer.specs.ColumnLaws.{NotFirst}
 use Rattle.writer.specs.declared.Kind.{Kind}
 use Rattle.writer.specs.declared.Kind.the-variants.{Rest, Skip, Same, Uniq}

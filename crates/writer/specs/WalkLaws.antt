@@ -4,15 +4,13 @@ use native.Mathlib.Numerals.{add-one}
 use native.Mathlib.Omega.{arith}
 use native.Mathlib.Decide.{ℕ-discrete as decEq}
 use mathlib.Core.List.{List, [], _∷_, _++_, append-assoc}
-use mathlib.Core.Path.{_≡_, refl, sym, ap, subst, _∙_}
+use mathlib.Core.Path.{_≡_, refl, sym, ap, _∙_}
 use lib.ListN.{length, getD, take, drop, replicate, length-drop, replicate-append-replicate}
 use lib.Seq.{drop-cons, drop-drop, take-add, take-suc, getD-drop}
-use Rattle.runs.specs.Runs.{Run, kept, changed}
 use Rattle.runs.specs.RunLaws.{runsAt, front, behind, later, runs-end, kept-at, changed-at, front-changed, behind-changed, front-kept, later-none, later-kept}
-use Rattle.writer.specs.Column.{Op, Op.skip, Op.uniq, Op.same, groupsOf, loose, stretch, cut, cutAll, opsOf}
-use Rattle.writer.specs.ColumnLaws.{NotFirst, group-front, stretch-same, stretch-few, stretch-none, loose-join, loose-none, loose-same, ops-none, ops-split, cut-first, ops-later}
+use Rattle.writer.specs.Column.{Op, Op.uniq, Op.same, groupsOf, loose, stretch, cut, cutAll, opsOf}
+use Rattle.writer.specs.ColumnLaws.{NotFirst, group-front, stretch-same, stretch-few, stretch-none, loose-join, loose-none, loose-same, ops-split, cut-first, ops-later}
 use Rattle.writer.specs.Piece.{opsAt, Unchanged, GroupPart, GroupRows, LooseRows, NextPiece}
-use Rattle.writer.specs.declared.Kind.{Kind}
 use Rattle.writer.specs.declared.Kind.the-variants.{Rest, Skip, Same, Uniq}
 
 -- a search for a changed row
@@ -90,6 +88,7 @@ module _ {old new : List ℕ} {from i : ℕ} (g : GroupPart old new from i) wher
     where
       the-row : from < i → from + (i - from) ≡ i
       the-row k = omega arith
+
       joined : (n v : ℕ) (vs : List ℕ) → replicate n v ++ (v ∷ vs) ≡ replicate (n + 1) v ++ vs
       joined n v vs = sym (append-assoc (replicate n v) (v ∷ []) vs) ∙ ap (λ (t : List ℕ). t ++ vs) (snoc-replicate n v)
 
@@ -161,8 +160,8 @@ module _ {old new : List ℕ} {from i : ℕ} (w : Loose old new from i) where
     low = w .low;
     high = w .high;
     ops =
-      ops-at old new from
-      ∙ rw (w .before, w .after, e, f, ops-at old new i, e) (cut-first (uniq (take (i - from) (drop from new))) os (opsOf (behind (runsAt new old i))));
+        ops-at old new from
+        ∙ rw (w .before, w .after, e, f, ops-at old new i, e) (cut-first (uniq (take (i - from) (drop from new))) os (opsOf (behind (runsAt new old i))));
   }
 
   pub loose-none-left : front (runsAt new old i) ≡ [] → LooseRows old new from i

@@ -9,7 +9,7 @@ use lib.ListN.{length, getD, take, drop, replicate}
 use Rattle.laws.specs.Result.{Res, Res.ok, Res.fault, _>>=_, need}
 use Rattle.refusal.specs.Number.{numberOf}
 use Rattle.runs.specs.Runs.{kept, changed, runsOf}
-use Rattle.state.specs.State.{rowBytes, frameBytes, frameLength}
+use Rattle.state.specs.State.{rowBytes, frameLength}
 use Rattle.state.specs.declared.Sizes.{Sizes}
 use Rattle.writer.specs.Column.{join, groupsOf, loose, stretch, restOf, uniqs, cut, cutAll, opsOf, columnOps, opBytes, opsBytes, columnBytes}
 use Rattle.writer.specs.declared.Delta.{Delta}

@@ -3,8 +3,8 @@ use Prim.Native.Nat.{ℕ, _+_, _-_, _*_, _≤_, _<_}
 use native.Mathlib.Nat.{zero-add}
 use native.Mathlib.Omega.{arith}
 use mathlib.Core.List.{List, _++_}
-use mathlib.Core.Path.{_≡_, refl, sym, ap, _∙_}
-use lib.ListN.{length, drop, replicate, length-append, length-replicate}
+use mathlib.Core.Path.{_≡_, sym, ap, _∙_}
+use lib.ListN.{length, replicate, length-append, length-replicate}
 use lib.Seq.{sets, sets-eq}
 use borrow.Author.Tests.{eq-eqb, ne-eqb, le-leb, lt-leb}
 use Rattle.laws.specs.Result.{Res, Res.ok, Res.fault}
@@ -82,5 +82,5 @@ module _ (z : Sizes) (old new out : List ℕ) where
         all-written h f =
             let k : length (deltaBytes z old new) ≤ length out = omega (arith, size) in
             let r : written z old new (length out) ≡ ok (length (deltaBytes z old new)) =
-              simp (e, eq-eqb (length old) n o, eq-eqb (length new) n w, le-leb (length (deltaBytes z old new)) (length out) k) in
+            simp (e, eq-eqb (length old) n o, eq-eqb (length new) n w, le-leb (length (deltaBytes z old new)) (length out) k) in
             (ap (λ (j : ℕ). ok j) (sym size) ∙ sym r, f ∙ sets-eq (deltaBytes z old new) out 0 (omega (arith, k)) ∙ rw (r, zero-add (length (deltaBytes z old new))))

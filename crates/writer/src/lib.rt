@@ -1,7 +1,7 @@
 // The writer of method 5 deltas: what turns one frame into another.
 ghost use mathlib.Core.Path.{_≡_};
 ghost use Prim.Native.Nat.{ℕ, _+_, _-_, _*_, _<_, _≤_};
-ghost use lib.ListN.{length, getD, take, drop};
+ghost use lib.ListN.{length, getD, drop};
 ghost use lib.Dec.{eqb};
 ghost use lib.Seq.{sets};
 ghost use Rattle.laws.specs.Result.{pick};
@@ -12,10 +12,11 @@ ghost use Rattle.writer.specs.Column.{Op, cut, opsOf, opBytes, opsBytes,
 ghost use Rattle.writer.specs.Planes.{InFrame, Plane, Frames};
 ghost use Rattle.writer.specs.Write.{columnAt, columnsBytes, equal, planeBytes, be32Bytes, pointersBytes, listsBytes, deltaBytes, written, bufferAfter, deltaOf};
 ghost use Rattle.writer.specs.Piece.{Unchanged, GroupRows, LooseRows, NextPiece, pieceOps, opsIn, bytesIn, Measured};
-
-use buffer::{copy, fill};
+use buffer::copy;
+use buffer::fill;
 use refusal::Refusal;
-use state::{Length, Sizes};
+use state::Length;
+use state::Sizes;
 
 // A delta that was written: its length.
 pub enum Delta {
@@ -322,7 +323,15 @@ fn copy_column(column: &mut [u8], frame: &[u8], row: usize, at: usize)
 }
 
 // How many bytes a column of the frames is written in; was and is are room for its rows.
-fn length_in(was: &mut [u8], is: &mut [u8], old: &[u8], new: &[u8], row: usize, height: usize, at: usize) -> usize
+fn length_in(
+    was: &mut [u8],
+    is: &mut [u8],
+    old: &[u8],
+    new: &[u8],
+    row: usize,
+    height: usize,
+    at: usize,
+) -> usize
     requires { ⌜ (height ≤ length (now was)) × (height ≤ length (now is)) × InFrame (now old) (now new) row height at ⌝ }
     ensures { λ r. ⌜ (r ≡ length (columnBytes (columnAt (now (old .entry)) row at height) (columnAt (now (new .entry)) row at height))) × (r ≤ 3073) ⌝ }
 {
@@ -342,7 +351,17 @@ fn length_at(old: &[u8], new: &[u8], row: usize, height: usize, at: usize) -> us
 }
 
 // Writes a column of the frames; was and is are room for its rows.
-fn write_in(out: &mut [u8], place: usize, was: &mut [u8], is: &mut [u8], old: &[u8], new: &[u8], row: usize, height: usize, at: usize) -> usize
+fn write_in(
+    out: &mut [u8],
+    place: usize,
+    was: &mut [u8],
+    is: &mut [u8],
+    old: &[u8],
+    new: &[u8],
+    row: usize,
+    height: usize,
+    at: usize,
+) -> usize
     requires { ⌜ (height ≤ length (now was)) × (height ≤ length (now is)) × InFrame (now old) (now new) row height at × (place + length (columnBytes (columnAt (now old) row at height) (columnAt (now new) row at height)) ≤ length (now out)) ⌝ }
     ensures { λ r. ⌜ Put (now (out .entry)) place (columnBytes (columnAt (now (old .entry)) row at height) (columnAt (now (new .entry)) row at height)) (now (out .exit)) r ⌝ }
 {
@@ -352,7 +371,15 @@ fn write_in(out: &mut [u8], place: usize, was: &mut [u8], is: &mut [u8], old: &[
 }
 
 // Writes the column that starts at a place of the frames.
-fn write_at(out: &mut [u8], place: usize, old: &[u8], new: &[u8], row: usize, height: usize, at: usize) -> usize
+fn write_at(
+    out: &mut [u8],
+    place: usize,
+    old: &[u8],
+    new: &[u8],
+    row: usize,
+    height: usize,
+    at: usize,
+) -> usize
     requires { ⌜ InFrame (now old) (now new) row height at × (place + length (columnBytes (columnAt (now old) row at height) (columnAt (now new) row at height)) ≤ length (now out)) ⌝ }
     ensures { λ r. ⌜ Put (now (out .entry)) place (columnBytes (columnAt (now (old .entry)) row at height) (columnAt (now (new .entry)) row at height)) (now (out .exit)) r ⌝ }
 {
@@ -376,7 +403,15 @@ fn columns_length(old: &[u8], new: &[u8], row: usize, height: usize, at: usize) 
 }
 
 // Writes the columns of a plane.
-fn write_columns(out: &mut [u8], from: usize, old: &[u8], new: &[u8], row: usize, height: usize, at: usize) -> usize
+fn write_columns(
+    out: &mut [u8],
+    from: usize,
+    old: &[u8],
+    new: &[u8],
+    row: usize,
+    height: usize,
+    at: usize,
+) -> usize
     requires { ⌜ Plane (now old) (now new) row height at × (from + length (columnsBytes (now old) (now new) row height row at) ≤ length (now out)) ⌝ }
     ensures { λ r. ⌜ Put (now (out .entry)) from (columnsBytes (now (old .entry)) (now (new .entry)) row height row at) (now (out .exit)) r ⌝ }
 {
@@ -418,7 +453,15 @@ fn plane_length(old: &[u8], new: &[u8], row: usize, height: usize, at: usize) ->
 }
 
 // Writes the list of a plane, if it has one, and answers the place after it.
-fn write_plane(out: &mut [u8], place: usize, old: &[u8], new: &[u8], row: usize, height: usize, at: usize) -> usize
+fn write_plane(
+    out: &mut [u8],
+    place: usize,
+    old: &[u8],
+    new: &[u8],
+    row: usize,
+    height: usize,
+    at: usize,
+) -> usize
     requires { ⌜ Plane (now old) (now new) row height at × (place + length (planeBytes (now old) (now new) row height at) ≤ length (now out)) ⌝ }
     ensures { λ r. ⌜ Put (now (out .entry)) place (planeBytes (now (old .entry)) (now (new .entry)) row height at) (now (out .exit)) r ⌝ }
 {

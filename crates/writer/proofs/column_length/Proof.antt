@@ -1,7 +1,7 @@
 -- `writer::column_length`: one byte more than the ops, or than the Uniqs over all rows.
-use Prim.Native.Nat.{ℕ, _+_, _*_, _/_, _≤_, _<_}
+use Prim.Native.Nat.{ℕ, _+_, _/_, _≤_, _<_}
 use mathlib.Core.List.{List}
-use mathlib.Core.Path.{_≡_, ap, _∙_}
+use mathlib.Core.Path.{_≡_, ap}
 use lib.ListN.{length}
 use Rattle.writer.specs.Column.{columnBytes}
 use Rattle.writer.specs.Piece.{Measured}
@@ -10,9 +10,6 @@ use native.Mathlib.Omega.{arith}
 use borrow.Author.Needs.{needs}
 use Rattle.writer.proofs.column_length.Statement.{statement}
 use Rattle.writer.proofs.column_length.Tie as tie
-use Rattle.writer.proofs.column_length.Reads as reads
-use Rattle.writer.proofs.column_length.Lts as lts
-use Rattle.writer.proofs.measure.Reads as measure-reads
 
 module _ {old new : List ℕ} {ops bytes : ℕ} (m : Measured old new ops bytes) (h : length new ≤ 1024) where
   many : 255 < ops → (1 + (length new + 126) / 127 + length new ≡ length (columnBytes old new)) × (1 + (length new + 126) / 127 + length new ≤ 3073)
@@ -21,31 +18,24 @@ module _ {old new : List ℕ} {ops bytes : ℕ} (m : Measured old new ops bytes)
   few : ops ≤ 255 → (1 + bytes ≡ length (columnBytes old new)) × (1 + bytes ≤ 3073)
   few k = (omega (arith, m .size, ap length (column-few old new (omega (arith, m .count)))), omega (arith, m .short))
 
--- src/lib.rt:175:9
 measure-requires : tie.Need-measure-requires
 measure-requires c κs = search needs
 
--- src/lib.rt:177:21
 add-result : tie.Need-add-result
 add-result c = search needs
 
--- src/lib.rt:177:16
 add-result-2 : tie.Need-add-result-2
 add-result-2 c = search needs
 
--- src/lib.rt:177:16
 add-result-3 : tie.Need-add-result-3
 add-result-3 c = search needs
 
--- src/lib.rt:177:9
 returns : tie.Need-returns
 returns c = many (c .before .before .measure .ensures) (c .before .before .before .before .before .pre .1) (c .if1 .taken)
 
--- src/lib.rt:179:5
 add-result-4 : tie.Need-add-result-4
 add-result-4 c = omega (arith, c .before .before .before .measure .ensures .short)
 
--- src/lib.rt:171:1
 returns-2 : tie.Need-returns-2
 returns-2 c = few (c .before .before .before .measure .ensures) (c .before .before .before .before .before .before .pre .1) (c .before .if1 .left)
 

@@ -2,19 +2,14 @@
 use native.Mathlib.Omega.{arith}
 use Prim.Native.Nat.{ℕ, _+_, _-_, _*_, _≤_, _<_}
 use mathlib.Core.List.{List}
-use mathlib.Core.Path.{_≡_, refl, ap, _∙_}
+use mathlib.Core.Path.{_≡_, ap, _∙_}
 use lib.ListN.{length, length-append}
 use Rattle.writer.specs.Column.{columnBytes}
 use Rattle.writer.specs.Write.{columnAt, columnsBytes}
-use Rattle.writer.specs.Planes.{Plane}
 use Rattle.writer.specs.PlaneLaws.{plane-column, columns-parts, columns-none, columns-start}
 use borrow.Author.Needs.{needs}
-use native.Mathlib.Omega.{arith}
 use Rattle.writer.proofs.columns_length.Statement.{statement}
 use Rattle.writer.proofs.columns_length.Tie as tie
-use Rattle.writer.proofs.columns_length.Reads as reads
-use Rattle.writer.proofs.columns_length.Lts as lts
-use Rattle.writer.proofs.length_at.Reads as length-at-reads
 
 -- the loop's invariant
 record Counting (old new : List ℕ) (row height at sum column : ℕ) : Type 0 where
@@ -32,8 +27,13 @@ module _ {old new : List ℕ} {row height at sum column : ℕ} (w : Counting old
     inside = omega arith;
     small = omega (arith, w .small, e .1);
     left =
-      omega (arith, w .left, e .0, ap length (columns-parts old new row height at column h .is)
-        ∙ length-append (columnBytes (columnAt old row (at + column) height) (columnAt new row (at + column) height)) (columnsBytes old new row height (row - (column + 1)) (at + (column + 1))));
+        omega (
+          arith,
+          w .left,
+          e .0,
+          ap length (columns-parts old new row height at column h .is)
+              ∙ length-append (columnBytes (columnAt old row (at + column) height) (columnAt new row (at + column) height)) (columnsBytes old new row height (row - (column + 1)) (at + (column + 1))),
+        );
   }
 
   all : row ≤ column → (sum ≡ length (columnsBytes old new row height row at)) × (sum ≤ 3073 * row)
@@ -45,35 +45,27 @@ Inv-loop old new row height at sum₀ column₀ sum column = Counting old new ro
 abbrev μ-loop : tie.MeasureT-loop
 μ-loop old new row height at sum₀ column₀ sum column = row - column
 
--- src/lib.rt:371:5
 loop-holds : tie.Need-loop-holds Inv-loop μ-loop
 loop-holds c = starts _ _ _ _ _
 
--- src/lib.rt:372:49
 add-length-at : tie.Need-add-length-at Inv-loop μ-loop
 add-length-at c = omega (arith, c .before .before .before .before .pre .inNew, c .before .before .before .before .pre .most, c .before .before .before .before .pre .wide)
 
--- src/lib.rt:372:16
 length-at-requires : tie.Need-length-at-requires Inv-loop μ-loop
 length-at-requires c κs = plane-column (c .before .before .before .before .pre) _ (c .loop-test .taken)
 
--- src/lib.rt:372:9
 add-sum : tie.Need-add-sum Inv-loop μ-loop
 add-sum c = omega (arith, c .before .before .loop .inv .small, c .length-at .ensures .1, c .before .before .before .before .before .pre .wide)
 
--- src/lib.rt:373:9
 add-column : tie.Need-add-column Inv-loop μ-loop
 add-column c = search needs
 
--- src/lib.rt:371:5
 loop-less : tie.Need-loop-less Inv-loop μ-loop
 loop-less c = search needs
 
--- src/lib.rt:371:5
 loop-again : tie.Need-loop-again Inv-loop μ-loop
 loop-again c = more (c .before .before .loop .inv) (c .before .loop-test .taken) (c .length-at .ensures)
 
--- src/lib.rt:365:1
 returns : tie.Need-returns Inv-loop μ-loop
 returns c = all (c .before .loop .inv) (c .loop-test .left)
 

@@ -1,18 +1,15 @@
 -- `writer::copy_column`: after i turns the first i bytes are the column's.
 use native.Mathlib.Omega.{arith}
-use Prim.Native.Nat.{ℕ, _+_, _-_, _*_, _≤_, _<_, min}
+use Prim.Native.Nat.{ℕ, _+_, _-_, _*_, _≤_, _<_}
 use mathlib.Core.List.{List}
-use mathlib.Core.Path.{_≡_, refl, sym, subst, _∙_}
+use mathlib.Core.Path.{_≡_, refl, sym, _∙_}
 use lib.ListN.{length, getD, set, length-set}
 use Rattle.laws.specs.Store.{Copied, copied-none, copied-more, copied-all, over-whole}
 use Rattle.writer.specs.Write.{columnAt}
 use Rattle.writer.specs.PlaneLaws.{length-column, getD-column}
 use borrow.Author.Needs.{needs}
-use native.Mathlib.Omega.{arith}
 use Rattle.writer.proofs.copy_column.Statement.{statement}
 use Rattle.writer.proofs.copy_column.Tie as tie
-use Rattle.writer.proofs.copy_column.Reads as reads
-use Rattle.writer.proofs.copy_column.Lts as lts
 
 -- the loop's invariant
 record Copying (column₀ frame : List ℕ) (row at : ℕ) (column : List ℕ) (i : ℕ) : Type 0 where
@@ -28,8 +25,8 @@ module _ {column₀ frame column : List ℕ} {row at i : ℕ} (w : Copying colum
         inside = omega arith;
         size = rw length-set (w .size);
         is =
-          rw (← (getD-column frame row at (length column₀) i k))
-          (copied-more (w .is) (rw (length-column frame row at (length column₀)) k) k);
+            rw (← (getD-column frame row at (length column₀) i k))
+            (copied-more (w .is) (rw (length-column frame row at (length column₀)) k) k);
       }
 
   all : length column ≤ i → column ≡ columnAt frame row at (length column₀)
@@ -43,43 +40,33 @@ Inv-loop column₀ frame row at i₀ column i = Copying column₀ frame row at c
 abbrev μ-loop : tie.MeasureT-loop
 μ-loop column₀ frame row at i₀ column i = length column₀ - i
 
--- src/lib.rt:314:5
 loop-holds : tie.Need-loop-holds Inv-loop μ-loop
 loop-holds c = record { inside = omega arith; size = refl; is = copied-none }
 
--- src/lib.rt:315:32
 mul-column : tie.Need-mul-column Inv-loop μ-loop
 mul-column c = omega (arith, c .before .before .pre (c .before .loop .i) (omega (arith, c .before .loop .inv .size)))
 
--- src/lib.rt:315:27
 add-column : tie.Need-add-column Inv-loop μ-loop
 add-column c = omega (arith, c .before .before .pre (c .before .loop .i) (omega (arith, c .before .loop .inv .size)))
 
--- src/lib.rt:315:21
 shared-slice-read-column : tie.Need-shared-slice-read-column Inv-loop μ-loop
 shared-slice-read-column c = c .before .before .before .pre (c .before .before .loop .i) (omega (arith, c .before .before .loop .inv .size))
 
--- src/lib.rt:315:9
 slice-write-column : tie.Need-slice-write-column Inv-loop μ-loop
 slice-write-column c = search needs
 
--- src/lib.rt:316:9
 add-i : tie.Need-add-i Inv-loop μ-loop
 add-i c = search needs
 
--- src/lib.rt:314:5
 loop-less : tie.Need-loop-less Inv-loop μ-loop
 loop-less c = omega (arith, c .before .before .loop .inv .size)
 
--- src/lib.rt:314:5
 loop-again : tie.Need-loop-again Inv-loop μ-loop
 loop-again c = more (c .before .before .loop .inv) (c .before .loop-test .taken)
 
--- src/lib.rt:309:1
 same-length : tie.Need-same-length Inv-loop μ-loop
 same-length c = c .before .loop .inv .size
 
--- src/lib.rt:309:1
 returns : tie.Need-returns Inv-loop μ-loop
 returns c = all (c .before .loop .inv) (c .loop-test .left)
 

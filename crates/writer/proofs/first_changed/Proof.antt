@@ -5,8 +5,6 @@ use Rattle.writer.specs.WalkLaws.{Passed, passed-none, passed-more, pass
 use borrow.Author.Needs.{needs}
 use Rattle.writer.proofs.first_changed.Statement.{statement}
 use Rattle.writer.proofs.first_changed.Tie as tie
-use Rattle.writer.proofs.first_changed.Reads as reads
-use Rattle.writer.proofs.first_changed.Lts as lts
 
 abbrev Inv-loop : tie.InvT-loop
 Inv-loop old new from i₀ i = Passed old new from i
@@ -14,35 +12,27 @@ Inv-loop old new from i₀ i = Passed old new from i
 abbrev μ-loop : tie.MeasureT-loop
 μ-loop old new from i₀ i = length new - i
 
--- src/lib.rt:46:5
 loop-holds : tie.Need-loop-holds Inv-loop μ-loop
 loop-holds c = passed-none (c .pre .1)
 
--- src/lib.rt:47:12
 shared-slice-read-if1 : tie.Need-shared-slice-read-if1 Inv-loop μ-loop
 shared-slice-read-if1 c = search needs
 
--- src/lib.rt:47:22
 shared-slice-read-if1-2 : tie.Need-shared-slice-read-if1-2 Inv-loop μ-loop
 shared-slice-read-if1-2 c = search needs
 
--- src/lib.rt:48:13
 returns : tie.Need-returns Inv-loop μ-loop
 returns c = passed-stops (c .before .before .before .before .loop .inv) (c .if1 .taken)
 
--- src/lib.rt:50:9
 add-i : tie.Need-add-i Inv-loop μ-loop
 add-i c = search needs
 
--- src/lib.rt:46:5
 loop-less : tie.Need-loop-less Inv-loop μ-loop
 loop-less c = search needs
 
--- src/lib.rt:46:5
 loop-again : tie.Need-loop-again Inv-loop μ-loop
 loop-again c = passed-more (c .before .before .before .before .loop .inv) (c .before .before .before .before .before .pre .0) (c .before .before .before .loop-test .taken) (c .if1 .left)
 
--- src/lib.rt:41:1
 returns-2 : tie.Need-returns-2 Inv-loop μ-loop
 returns-2 c = passed-all (c .before .loop .inv) (c .loop-test .left)
 

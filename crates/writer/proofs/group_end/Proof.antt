@@ -1,14 +1,11 @@
 -- `writer::group_end`: the rows that were passed have one new value and lie in one stretch.
 use Prim.Native.Nat.{_-_}
-use mathlib.Core.Path.{_≡_}
-use lib.ListN.{length, getD}
+use lib.ListN.{length}
 use Rattle.writer.specs.Piece.{GroupPart}
 use Rattle.writer.specs.WalkLaws.{group-starts, group-more, group-other, group-unchanged, group-last}
 use borrow.Author.Needs.{needs}
 use Rattle.writer.proofs.group_end.Statement.{statement}
 use Rattle.writer.proofs.group_end.Tie as tie
-use Rattle.writer.proofs.group_end.Reads as reads
-use Rattle.writer.proofs.group_end.Lts as lts
 
 abbrev Inv-loop : tie.InvT-loop
 Inv-loop old new from value i₀ i = GroupPart old new from i
@@ -16,51 +13,39 @@ Inv-loop old new from value i₀ i = GroupPart old new from i
 abbrev μ-loop : tie.MeasureT-loop
 μ-loop old new from value i₀ i = length new - i
 
--- src/lib.rt:60:17
 shared-slice-read-value : tie.Need-shared-slice-read-value Inv-loop μ-loop
 shared-slice-read-value c = search needs
 
--- src/lib.rt:61:17
 add-i : tie.Need-add-i Inv-loop μ-loop
 add-i c = search needs
 
--- src/lib.rt:62:5
 loop-holds : tie.Need-loop-holds Inv-loop μ-loop
 loop-holds c = group-starts _ _ _ (c .before .pre .0) (c .before .pre .1) (c .before .pre .2)
 
--- src/lib.rt:63:12
 shared-slice-read-if1 : tie.Need-shared-slice-read-if1 Inv-loop μ-loop
 shared-slice-read-if1 c = search needs
 
--- src/lib.rt:64:13
 returns : tie.Need-returns Inv-loop μ-loop
 returns c = group-other (c .before .before .before .loop .inv) (c .before .before .before .before .before .pre .0) (c .before .before .loop-test .taken) (c .if1 .taken)
 
--- src/lib.rt:66:12
 shared-slice-read-if2 : tie.Need-shared-slice-read-if2 Inv-loop μ-loop
 shared-slice-read-if2 c = search needs
 
--- src/lib.rt:66:22
 shared-slice-read-if2-2 : tie.Need-shared-slice-read-if2-2 Inv-loop μ-loop
 shared-slice-read-if2-2 c = search needs
 
--- src/lib.rt:67:13
 returns-2 : tie.Need-returns-2 Inv-loop μ-loop
 returns-2 c = group-unchanged (c .before .before .before .before .before .before .loop .inv) (c .before .before .before .before .before .before .before .before .pre .0) (c .before .before .before .before .before .loop-test .taken) (c .if2 .taken)
 
--- src/lib.rt:69:9
 add-i-2 : tie.Need-add-i-2 Inv-loop μ-loop
 add-i-2 c = search needs
 
--- src/lib.rt:62:5
 loop-less : tie.Need-loop-less Inv-loop μ-loop
 loop-less c = search needs
 
--- src/lib.rt:62:5
 loop-again : tie.Need-loop-again Inv-loop μ-loop
 loop-again c = group-more (c .before .before .before .before .before .before .loop .inv) (c .before .before .before .before .before .before .before .before .pre .0) (c .before .before .before .before .before .loop-test .taken) (c .before .before .before .if1 .left) (c .if2 .left)
 
--- src/lib.rt:56:1
 returns-3 : tie.Need-returns-3 Inv-loop μ-loop
 returns-3 c = group-last (c .before .loop .inv) (c .loop-test .left)
 

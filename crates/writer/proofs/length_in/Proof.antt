@@ -1,5 +1,5 @@
 -- `writer::length_in`: the columns are copied, and then measured.
-use mathlib.Core.Path.{_≡_, sym, ap₂, _∙_}
+use mathlib.Core.Path.{sym, ap₂, _∙_}
 use mathlib.Core.List.{List}
 use Prim.Native.Nat.{ℕ}
 use lib.ListN.{length}
@@ -9,67 +9,49 @@ use native.Mathlib.Omega.{arith}
 use borrow.Author.Needs.{needs}
 use Rattle.writer.proofs.length_in.Statement.{statement}
 use Rattle.writer.proofs.length_in.Tie as tie
-use Rattle.writer.proofs.length_in.Reads as reads
-use Rattle.writer.proofs.length_in.Lts as lts
-use Rattle.writer.proofs.column_length.Reads as column-length-reads
-use Rattle.writer.proofs.copy_column.Reads as copy-column-reads
 
--- src/lib.rt:325:17
 slice-relend-prefix-copy-column : tie.Need-slice-relend-prefix-copy-column
 slice-relend-prefix-copy-column c = search needs
 
--- src/lib.rt:325:17
 slice-aggregate-copy-column : tie.Need-slice-aggregate-copy-column
 slice-aggregate-copy-column c = front-length _ _ (c .before .before .before .before .before .pre .0)
 
--- src/lib.rt:325:5
 copy-column-requires : tie.Need-copy-column-requires
 copy-column-requires c κs = rows-inside (c .before .before .before .before .before .args .old .now) (c .before .before .before .before .before .args .row) (c .before .before .before .before .before .args .at) (c .before .before .before .before .before .args .height) (c .before .before .before .before .before .args .was .now) (c .before .before .before .before .before .pre .2 .inOld) (c .before .before .before .before .before .pre .0)
 
--- src/lib.rt:326:17
 slice-relend-prefix-copy-column-2 : tie.Need-slice-relend-prefix-copy-column-2
 slice-relend-prefix-copy-column-2 c = search needs
 
--- src/lib.rt:326:17
 slice-aggregate-copy-column-2 : tie.Need-slice-aggregate-copy-column-2
 slice-aggregate-copy-column-2 c = front-length _ _ (c .before .before .before .before .before .before .before .before .before .pre .1)
 
--- src/lib.rt:326:5
 copy-column-requires-2 : tie.Need-copy-column-requires-2
 copy-column-requires-2 c κs = rows-inside (c .before .before .before .before .before .before .before .before .before .args .new .now) (c .before .before .before .before .before .before .before .before .before .args .row) (c .before .before .before .before .before .before .before .before .before .args .at) (c .before .before .before .before .before .before .before .before .before .args .height) (c .before .before .before .before .before .before .before .before .before .args .is .now) (c .before .before .before .before .before .before .before .before .before .pre .2 .inNew) (c .before .before .before .before .before .before .before .before .before .pre .1)
 
--- src/lib.rt:327:19
 slice-reshare-prefix-column-length : tie.Need-slice-reshare-prefix-column-length
 slice-reshare-prefix-column-length c = search needs
 
--- src/lib.rt:327:19
 slice-aggregate-column-length : tie.Need-slice-aggregate-column-length
 slice-aggregate-column-length c = copied-length _ _ _ _ _ _ (c .before .before .before .before .before .before .before .before .before .before .before .before .before .pre .0) (c .before .before .before .before .before .before .before .copy-column .ensures)
 
--- src/lib.rt:327:35
 slice-reshare-prefix-column-length-2 : tie.Need-slice-reshare-prefix-column-length-2
 slice-reshare-prefix-column-length-2 c = search needs
 
--- src/lib.rt:327:35
 slice-aggregate-column-length-2 : tie.Need-slice-aggregate-column-length-2
 slice-aggregate-column-length-2 c = copied-length _ _ _ _ _ _ (c .before .before .before .before .before .before .before .before .before .before .before .before .before .before .pre .1) (c .before .before .before .before .copy-column2 .ensures)
 
--- src/lib.rt:327:5
 column-length-requires : tie.Need-column-length-requires
 column-length-requires c κs =
     let was = copied-length _ _ _ _ _ _ (c .before .before .before .before .before .before .before .before .before .before .before .before .before .before .pre .0) (c .before .before .before .before .before .before .before .before .copy-column .ensures) in
     let is = copied-length _ _ _ _ _ _ (c .before .before .before .before .before .before .before .before .before .before .before .before .before .before .pre .1) (c .before .before .before .before .copy-column2 .ensures) in
     (sym was ∙ is, omega (arith, is, c .before .before .before .before .before .before .before .before .before .before .before .before .before .before .pre .2 .tall))
 
--- src/lib.rt:321:1
 same-length : tie.Need-same-length
 same-length c = search needs
 
--- src/lib.rt:321:1
 same-length-2 : tie.Need-same-length-2
 same-length-2 c = search needs
 
--- src/lib.rt:321:1
 returns : tie.Need-returns
 returns c =
     let was = copied-column _ _ _ _ _ _ (c .before .before .before .before .before .before .before .before .before .before .before .before .before .before .before .pre .0) (c .before .before .before .before .before .before .before .before .before .copy-column .ensures) in

@@ -2,18 +2,14 @@
 use native.Mathlib.Omega.{arith}
 use Prim.Native.Nat.{ℕ, _+_, _-_, _*_, _≤_, _<_}
 use mathlib.Core.List.{List}
-use mathlib.Core.Path.{_≡_, refl, ap, _∙_}
+use mathlib.Core.Path.{_≡_, ap, _∙_}
 use lib.ListN.{length, length-append}
 use Rattle.writer.specs.Write.{planeBytes, listsBytes}
-use Rattle.writer.specs.Planes.{Plane, Frames, Walking}
+use Rattle.writer.specs.Planes.{Walking}
 use Rattle.writer.specs.PlaneLaws.{walking, walking-more, walking-plane, lists-parts, lists-none}
 use borrow.Author.Needs.{needs}
-use native.Mathlib.Omega.{arith}
 use Rattle.writer.proofs.lists_length.Statement.{statement}
 use Rattle.writer.proofs.lists_length.Tie as tie
-use Rattle.writer.proofs.lists_length.Reads as reads
-use Rattle.writer.proofs.lists_length.Lts as lts
-use Rattle.writer.proofs.plane_length.Reads as plane-length-reads
 
 -- the loop's invariant
 record Counting (old new : List ℕ) (row height planes sum at left : ℕ) : Type 0 where
@@ -27,8 +23,13 @@ module _ {old new : List ℕ} {row height planes sum at left : ℕ} (w : Countin
     walk = walking-more (w .walk) h;
     small = omega (arith, w .small, e .1);
     rest =
-      omega (arith, w .rest, e .0, ap length (lists-parts old new row height left at h .is)
-        ∙ length-append (planeBytes old new row height at) (listsBytes old new row height (left - 1) (at + height * row)));
+        omega (
+          arith,
+          w .rest,
+          e .0,
+          ap length (lists-parts old new row height left at h .is)
+              ∙ length-append (planeBytes old new row height at) (listsBytes old new row height (left - 1) (at + height * row)),
+        );
   }
 
   all : left ≤ 0 → (sum ≡ length (listsBytes old new row height planes 0)) × (sum ≤ 3146752)
@@ -40,39 +41,30 @@ Inv-loop old new row height planes size sum₀ at₀ left₀ sum at left = Count
 abbrev μ-loop : tie.MeasureT-loop
 μ-loop old new row height planes size sum₀ at₀ left₀ sum at left = left
 
--- src/lib.rt:437:16
 mul-size : tie.Need-mul-size Inv-loop μ-loop
 mul-size c = omega (arith, c .before .before .pre .plane)
 
--- src/lib.rt:441:5
 loop-holds : tie.Need-loop-holds Inv-loop μ-loop
 loop-holds c = record { walk = walking _ _ _; small = omega (arith, c .before .before .pre .deep); rest = omega arith }
 
--- src/lib.rt:442:16
 plane-length-requires : tie.Need-plane-length-requires Inv-loop μ-loop
 plane-length-requires c κs = walking-plane (c .before .loop .inv .walk) (c .loop-test .taken) (c .before .before .before .before .pre)
 
--- src/lib.rt:442:9
 add-sum : tie.Need-add-sum Inv-loop μ-loop
 add-sum c = omega (arith, c .before .before .loop .inv .small, c .plane-length .ensures .1, c .before .loop-test .taken)
 
--- src/lib.rt:443:9
 add-at : tie.Need-add-at Inv-loop μ-loop
 add-at c = omega (arith, walking-plane (c .before .before .loop .inv .walk) (c .before .loop-test .taken) (c .before .before .before .before .before .pre) .inNew, c .before .before .before .before .before .pre .most)
 
--- src/lib.rt:444:9
 sub-left : tie.Need-sub-left Inv-loop μ-loop
 sub-left c = search needs
 
--- src/lib.rt:441:5
 loop-less : tie.Need-loop-less Inv-loop μ-loop
 loop-less c = search needs
 
--- src/lib.rt:441:5
 loop-again : tie.Need-loop-again Inv-loop μ-loop
 loop-again c = more (c .before .before .loop .inv) (c .before .loop-test .taken) (c .plane-length .ensures)
 
--- src/lib.rt:433:1
 returns : tie.Need-returns Inv-loop μ-loop
 returns c = all (c .before .loop .inv) (c .loop-test .left)
 

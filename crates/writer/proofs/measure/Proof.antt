@@ -1,22 +1,16 @@
 -- `writer::measure`: what is counted and what is left, from here, come to the whole.
-use Prim.Native.Nat.{ℕ, _+_, _-_, _*_, _≤_, _<_}
-use mathlib.Core.List.{List, [], _++_}
+use Prim.Native.Nat.{ℕ, _+_, _-_, _*_, _≤_}
+use mathlib.Core.List.{List, []}
 use mathlib.Core.Path.{_≡_, refl, ap, _∙_}
 use lib.ListN.{length, drop, length-append, length-drop}
-use Rattle.runs.specs.RunLaws.{runsAt, runs-end}
-use Rattle.writer.specs.Column.{Op, opsOf, opsBytes}
+use Rattle.runs.specs.RunLaws.{runsAt}
+use Rattle.writer.specs.Column.{Op, opsBytes}
 use Rattle.writer.specs.Piece.{opsAt, pieceOps, opsIn, bytesIn, NextPiece, Measured}
-use Rattle.writer.specs.ColumnLaws.{ops-none}
 use Rattle.writer.specs.CutLaws.{none-left, length-bytes-append, piece-count, piece-size, piece-few}
 use Rattle.writer.specs.declared.Kind.{Kind}
 use native.Mathlib.Omega.{arith}
 use Rattle.writer.proofs.measure.Statement.{statement}
 use Rattle.writer.proofs.measure.Tie as tie
-use Rattle.writer.proofs.measure.Reads as reads
-use Rattle.writer.proofs.measure.Lts as lts
-use Rattle.writer.proofs.next_piece.Reads as next-piece-reads
-use Rattle.writer.proofs.piece_bytes.Reads as piece-bytes-reads
-use Rattle.writer.proofs.piece_ops.Reads as piece-ops-reads
 
 -- the loop's invariant
 record Measuring (old new : List ℕ) (row ops bytes : ℕ) : Type 0 where
@@ -39,10 +33,15 @@ module _ {old new : List ℕ} {row ops bytes : ℕ} (m : Measuring old new row o
         few = omega (arith, m .few, few .0, e);
         short = omega (arith, m .short, few .1, f);
         ops-left =
-          omega (arith, m .ops-left, e, piece-count kind rows (drop row new) k, ap length (p .ops) ∙ length-append (pieceOps kind rows (drop row new)) (opsAt old new (row + rows)));
+            omega (arith, m .ops-left, e, piece-count kind rows (drop row new) k, ap length (p .ops) ∙ length-append (pieceOps kind rows (drop row new)) (opsAt old new (row + rows)));
         bytes-left =
-          omega (arith, m .bytes-left, f, piece-size kind rows (drop row new) k,
-            ap (λ (os : List Op). length (opsBytes os)) (p .ops) ∙ length-bytes-append (pieceOps kind rows (drop row new)) (opsAt old new (row + rows)));
+            omega (
+              arith,
+              m .bytes-left,
+              f,
+              piece-size kind rows (drop row new) k,
+              ap (λ (os : List Op). length (opsBytes os)) (p .ops) ∙ length-bytes-append (pieceOps kind rows (drop row new)) (opsAt old new (row + rows)),
+            );
       }
 
   all : length new ≤ row → Measured old new ops bytes
@@ -62,43 +61,33 @@ Inv-loop old new row₀ ops₀ bytes₀ row ops bytes = Measuring old new row op
 abbrev μ-loop : tie.MeasureT-loop
 μ-loop old new row₀ ops₀ bytes₀ row ops bytes = length new - row
 
--- src/lib.rt:161:5
 loop-holds : tie.Need-loop-holds Inv-loop μ-loop
 loop-holds c = starts _ _
 
--- src/lib.rt:162:13
 next-piece-requires : tie.Need-next-piece-requires Inv-loop μ-loop
 next-piece-requires c κs = (c .before .before .before .before .pre .0, c .loop-test .taken)
 
--- src/lib.rt:163:16
 piece-ops-requires : tie.Need-piece-ops-requires Inv-loop μ-loop
 piece-ops-requires c κs = omega (arith, c .next-piece .ensures .inside, c .before .before .before .before .before .pre .1)
 
--- src/lib.rt:163:9
 add-ops : tie.Need-add-ops Inv-loop μ-loop
 add-ops c = omega (arith, more (c .before .before .before .loop .inv) (c .before .next-piece .ensures) (c .piece-ops .ensures) refl .few, c .before .next-piece .ensures .inside, c .before .before .before .before .before .before .pre .1)
 
--- src/lib.rt:164:18
 piece-bytes-requires : tie.Need-piece-bytes-requires Inv-loop μ-loop
 piece-bytes-requires c κs = omega (arith, c .before .next-piece .ensures .inside, c .before .before .before .before .before .before .pre .1)
 
--- src/lib.rt:164:9
 add-bytes : tie.Need-add-bytes Inv-loop μ-loop
 add-bytes c = omega (arith, more (c .before .before .before .before .loop .inv) (c .before .before .next-piece .ensures) (c .before .piece-ops .ensures) (c .piece-bytes .ensures) .short, c .before .before .next-piece .ensures .inside, c .before .before .before .before .before .before .before .pre .1)
 
--- src/lib.rt:165:9
 add-row : tie.Need-add-row Inv-loop μ-loop
 add-row c = omega (arith, c .before .before .before .next-piece .ensures .inside, c .before .before .before .before .before .before .before .before .pre .1)
 
--- src/lib.rt:161:5
 loop-less : tie.Need-loop-less Inv-loop μ-loop
 loop-less c = omega (arith, c .before .before .before .next-piece .ensures .inside, c .before .before .before .next-piece .ensures .some)
 
--- src/lib.rt:161:5
 loop-again : tie.Need-loop-again Inv-loop μ-loop
 loop-again c = more (c .before .before .before .before .before .loop .inv) (c .before .before .before .next-piece .ensures) (c .before .before .piece-ops .ensures) (c .before .piece-bytes .ensures)
 
--- src/lib.rt:154:1
 returns : tie.Need-returns Inv-loop μ-loop
 returns c = all (c .before .loop .inv) (c .loop-test .left)
 

@@ -1,52 +1,38 @@
 -- `writer::piece_ops`: the kind decides.
-use mathlib.Core.Path.{ap, sym}
 use borrow.Author.Needs.{needs}
 use Rattle.writer.proofs.piece_ops.Statement.{statement}
 use Rattle.writer.proofs.piece_ops.Tie as tie
-use Rattle.writer.proofs.piece_ops.Reads as reads
-use Rattle.writer.proofs.piece_ops.Lts as lts
 
--- src/lib.rt:132:23
 enum-told : tie.Need-enum-told
 enum-told c = search needs
 
--- src/lib.rt:133:24
 enum-told-2 : tie.Need-enum-told-2
 enum-told-2 c = search needs
 
--- src/lib.rt:133:24
 add-result : tie.Need-add-result
 add-result c = search needs
 
--- src/lib.rt:134:24
 enum-told-3 : tie.Need-enum-told-3
 enum-told-3 c = search needs
 
--- src/lib.rt:134:24
 add-result-2 : tie.Need-add-result-2
 add-result-2 c = search needs
 
--- src/lib.rt:135:24
 enum-told-4 : tie.Need-enum-told-4
 enum-told-4 c = search needs
 
--- src/lib.rt:135:24
 add-result-3 : tie.Need-add-result-3
 add-result-3 c = search needs
 
--- src/lib.rt:126:1
 returns : tie.Need-returns
 returns c = search needs
 
--- src/lib.rt:126:1
 returns-2 : tie.Need-returns-2
 returns-2 c = rw (c .before .enum-told2 .given .1)
 
--- src/lib.rt:126:1
 returns-3 : tie.Need-returns-3
 returns-3 c = rw (c .before .enum-told3 .given .1)
 
--- src/lib.rt:126:1
 returns-4 : tie.Need-returns-4
 returns-4 c = rw (c .before .enum-told4 .given .1)
 

@@ -1,63 +1,45 @@
 -- `writer::plane_length`: an unchanged plane has no list.
-use Prim.Native.Nat.{_≤_}
-use mathlib.Core.Path.{_≡_, sym, ap, _∙_}
+use mathlib.Core.Path.{sym, ap, _∙_}
 use lib.ListN.{length}
 use native.Mathlib.Omega.{arith}
 use Rattle.writer.specs.PlaneLaws.{plane-unchanged, plane-changed}
-use native.Mathlib.Omega.{arith}
 use borrow.Author.Needs.{needs}
 use Rattle.writer.proofs.plane_length.Statement.{statement}
 use Rattle.writer.proofs.plane_length.Tie as tie
-use Rattle.writer.proofs.plane_length.Reads as reads
-use Rattle.writer.proofs.plane_length.Lts as lts
-use Rattle.writer.proofs.columns_length.Reads as columns-length-reads
-use Rattle.writer.proofs.equal.Reads as equal-reads
 
--- src/lib.rt:413:20
 mul-end : tie.Need-mul-end
 mul-end c = search needs
 
--- src/lib.rt:413:15
 add-end : tie.Need-add-end
 add-end c = search needs
 
--- src/lib.rt:414:14
 sub-equal : tie.Need-sub-equal
 sub-equal c = search needs
 
--- src/lib.rt:414:14
 part-equal-start : tie.Need-part-equal-start
 part-equal-start c = search needs
 
--- src/lib.rt:414:14
 part-equal-end : tie.Need-part-equal-end
 part-equal-end c = search needs
 
--- src/lib.rt:414:29
 sub-equal-2 : tie.Need-sub-equal-2
 sub-equal-2 c = search needs
 
--- src/lib.rt:414:29
 part-equal-start-2 : tie.Need-part-equal-start-2
 part-equal-start-2 c = search needs
 
--- src/lib.rt:414:29
 part-equal-end-2 : tie.Need-part-equal-end-2
 part-equal-end-2 c = search needs
 
--- src/lib.rt:414:8
 equal-requires : tie.Need-equal-requires
 equal-requires c κs = search needs
 
--- src/lib.rt:415:9
 returns : tie.Need-returns
 returns c = (sym (ap length (plane-unchanged _ _ _ _ _ (c .before .equal .ensures) (c .if1 .taken))), omega arith)
 
--- src/lib.rt:417:5
 columns-length-requires : tie.Need-columns-length-requires
 columns-length-requires c κs = search needs
 
--- src/lib.rt:409:1
 returns-2 : tie.Need-returns-2
 returns-2 c = (c .columns-length .ensures .0 ∙ sym (ap length (plane-changed _ _ _ _ _ (c .before .before .equal .ensures) (c .before .if1 .left))), omega (arith, c .columns-length .ensures .1, c .before .before .before .before .before .before .before .pre .wide))
 

@@ -6,62 +6,43 @@ use native.Mathlib.Omega.{arith}
 use borrow.Author.Needs.{needs}
 use Rattle.writer.proofs.write.Statement.{statement}
 use Rattle.writer.proofs.write.Tie as tie
-use Rattle.writer.proofs.write.Reads as reads
-use Rattle.writer.proofs.write.Lts as lts
-use Rattle.state.proofs.Sizes.frame_length.Reads as frame-length-reads
-use Rattle.state.proofs.Sizes.row_bytes.Reads as row-bytes-reads
-use Rattle.writer.proofs.lists_length.Reads as lists-length-reads
-use Rattle.writer.proofs.write_delta.Reads as write-delta-reads
 
--- src/lib.rt:506:9
 frame-length-requires : tie.Need-frame-length-requires
 frame-length-requires c κs = search needs
 
--- src/lib.rt:508:25
 enum-known-l : tie.Need-enum-known-l
 enum-known-l c = search needs
 
--- src/lib.rt:509:23
 enum-known-l-2 : tie.Need-enum-known-l-2
 enum-known-l-2 c = search needs
 
--- src/lib.rt:511:17
 returns : tie.Need-returns
 returns c = not-old _ _ _ _ (told lengthOf (c .before .before .before .before .frame-length .ensures) (c .before .before .l2 .given .1)) (c .if1 .taken)
 
--- src/lib.rt:514:17
 returns-2 : tie.Need-returns-2
 returns-2 c = not-new _ _ _ _ (told lengthOf (c .before .before .before .before .before .frame-length .ensures) (c .before .before .before .l2 .given .1)) (c .before .if1 .left) (c .if2 .taken)
 
--- src/lib.rt:516:54
 row-bytes-requires : tie.Need-row-bytes-requires
 row-bytes-requires c κs = search needs
 
--- src/lib.rt:516:31
 lists-length-requires : tie.Need-lists-length-requires
 lists-length-requires c κs = rw (c .row-bytes .ensures) (frames-are _ (told lengthOf (c .before .before .before .before .before .before .frame-length .ensures) (c .before .before .before .before .l2 .given .1)) (c .before .before .if1 .left) (c .before .if2 .left))
 
--- src/lib.rt:516:26
 add-length : tie.Need-add-length
 add-length c = search needs
 
--- src/lib.rt:518:17
 returns-3 : tie.Need-returns-3
 returns-3 c = no-room _ _ _ _ (told lengthOf (c .before .before .before .before .before .before .before .before .frame-length .ensures) (c .before .before .before .before .before .before .l2 .given .1)) (c .before .before .before .before .if1 .left) (c .before .before .before .if2 .left) (rw (c .before .before .row-bytes .ensures) at (c .before .lists-length .ensures .0)) (c .if3 .taken)
 
--- src/lib.rt:520:13
 write-delta-requires : tie.Need-write-delta-requires
 write-delta-requires c κs = (frames-are _ (told lengthOf (c .before .before .before .before .before .before .before .before .before .frame-length .ensures) (c .before .before .before .before .before .before .before .l2 .given .1)) (c .before .before .before .before .before .if1 .left) (c .before .before .before .before .if2 .left), omega (arith, (rw (c .before .before .before .row-bytes .ensures) at (c .before .before .lists-length .ensures .0)), c .before .if3 .left))
 
--- src/lib.rt:503:1
 returns-4 : tie.Need-returns-4
 returns-4 c = limits _ _ _ _ (told lengthOf (c .before .before .before .frame-length .ensures) (c .before .l .given .1))
 
--- src/lib.rt:503:1
 same-length : tie.Need-same-length
 same-length c = search needs
 
--- src/lib.rt:503:1
 returns-5 : tie.Need-returns-5
 returns-5 c = all-written _ _ _ _ (told lengthOf (c .before .before .before .before .before .before .before .before .before .before .before .before .frame-length .ensures) (c .before .before .before .before .before .before .before .before .before .before .l2 .given .1)) (c .before .before .before .before .before .before .before .before .if1 .left) (c .before .before .before .before .before .before .before .if2 .left) (rw (c .before .before .before .before .before .before .row-bytes .ensures) at (c .before .before .before .before .before .lists-length .ensures .0)) (c .before .before .before .before .if3 .left) (c .before .before .write-delta .ensures)
 

@@ -5,45 +5,31 @@ use native.Mathlib.Omega.{arith}
 use borrow.Author.Needs.{needs}
 use Rattle.writer.proofs.write_delta.Statement.{statement}
 use Rattle.writer.proofs.write_delta.Tie as tie
-use Rattle.writer.proofs.write_delta.Reads as reads
-use Rattle.writer.proofs.write_delta.Lts as lts
-use Rattle.buffer.proofs.fill.Reads as fill-reads
-use Rattle.state.proofs.Sizes.row_bytes.Reads as row-bytes-reads
-use Rattle.writer.proofs.write_planes.Reads as write-planes-reads
 
--- src/lib.rt:497:17
 mul-start : tie.Need-mul-start
 mul-start c = search needs
 
--- src/lib.rt:498:10
 sub-fill : tie.Need-sub-fill
 sub-fill c = search needs
 
--- src/lib.rt:498:10
 part-fill-start : tie.Need-part-fill-start
 part-fill-start c = search needs
 
--- src/lib.rt:498:10
 part-fill-end : tie.Need-part-fill-end
 part-fill-end c = search needs
 
--- src/lib.rt:498:5
 fill-requires : tie.Need-fill-requires
 fill-requires c κs = search needs
 
--- src/lib.rt:499:33
 row-bytes-requires : tie.Need-row-bytes-requires
 row-bytes-requires c κs = search needs
 
--- src/lib.rt:499:5
 write-planes-requires : tie.Need-write-planes-requires
 write-planes-requires c κs = rw (c .row-bytes .ensures) (c .before .before .before .before .before .before .before .before .before .before .pre .0, zeros-fit _ _ _ (c .before .before .before .before .before .before .before .before .before .before .pre .0 .deep) (omega (arith, c .before .before .before .before .before .before .before .before .before .before .pre .1)) (c .before .before .before .before .fill .ensures) (c .before .before .before .before .before .before .before .before .before .before .pre .1))
 
--- src/lib.rt:493:1
 same-length : tie.Need-same-length
 same-length c = search needs
 
--- src/lib.rt:493:1
 returns : tie.Need-returns
 returns c = c .before .before .write-planes .ensures ∙ rw (c .before .before .before .row-bytes .ensures) (delta-is _ _ _ _ _ (c .before .before .before .before .before .before .before .before .before .before .before .before .before .pre .0 .deep) (zeros-put _ _ _ (c .before .before .before .before .before .before .before .before .before .before .before .before .before .pre .0 .deep) (omega (arith, c .before .before .before .before .before .before .before .before .before .before .before .before .before .pre .1)) (c .before .before .before .before .before .before .before .fill .ensures)))
 

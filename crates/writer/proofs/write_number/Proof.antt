@@ -2,7 +2,7 @@
 use native.Mathlib.Numerals.{add-one}
 use Prim.Native.Nat.{ℕ, suc, _+_, _/_, _%_}
 use mathlib.Core.List.{List}
-use mathlib.Core.Path.{_≡_, refl}
+use mathlib.Core.Path.{_≡_}
 use lib.ListN.{set, length-set}
 use lib.Seq.{sets}
 use Rattle.writer.specs.Write.{be32Bytes}
@@ -10,8 +10,6 @@ use native.Mathlib.Omega.{arith}
 use borrow.Author.Needs.{needs}
 use Rattle.writer.proofs.write_number.Statement.{statement}
 use Rattle.writer.proofs.write_number.Tie as tie
-use Rattle.writer.proofs.write_number.Reads as reads
-use Rattle.writer.proofs.write_number.Lts as lts
 
 four : (out : List ℕ) (at n : ℕ)
     → set (set (set (set out at (n / 16777216 % 256)) (at + 1) (n / 65536 % 256)) (at + 2) (n / 256 % 256)) (at + 3) (n % 256) ≡ sets out at (be32Bytes n)
@@ -21,55 +19,42 @@ four out at n =
     let f : at + 3 ≡ suc (suc (suc at)) = omega arith in
     rw (add-one at, e, f)
 
--- src/lib.rt:454:15
 cast-out : tie.Need-cast-out
 cast-out c = search needs
 
--- src/lib.rt:454:5
 slice-write-out : tie.Need-slice-write-out
 slice-write-out c = search needs
 
--- src/lib.rt:455:19
 cast-out-2 : tie.Need-cast-out-2
 cast-out-2 c = search needs
 
--- src/lib.rt:455:9
 add-out : tie.Need-add-out
 add-out c = search needs
 
--- src/lib.rt:455:5
 slice-write-out-2 : tie.Need-slice-write-out-2
 slice-write-out-2 c = simp length-set (omega arith)
 
--- src/lib.rt:456:19
 cast-out-3 : tie.Need-cast-out-3
 cast-out-3 c = search needs
 
--- src/lib.rt:456:9
 add-out-2 : tie.Need-add-out-2
 add-out-2 c = search needs
 
--- src/lib.rt:456:5
 slice-write-out-3 : tie.Need-slice-write-out-3
 slice-write-out-3 c = simp length-set (omega arith)
 
--- src/lib.rt:457:19
 cast-out-4 : tie.Need-cast-out-4
 cast-out-4 c = search needs
 
--- src/lib.rt:457:9
 add-out-3 : tie.Need-add-out-3
 add-out-3 c = search needs
 
--- src/lib.rt:457:5
 slice-write-out-4 : tie.Need-slice-write-out-4
 slice-write-out-4 c = simp length-set (omega arith)
 
--- src/lib.rt:450:1
 same-length : tie.Need-same-length
 same-length c = search needs
 
--- src/lib.rt:450:1
 returns : tie.Need-returns
 returns c = four _ _ _
 

@@ -1,23 +1,18 @@
 -- `writer::write_ops`: the ops of the rows that are left, from here, come to the whole.
 use native.Mathlib.Omega.{arith}
-use Prim.Native.Nat.{ℕ, _+_, _-_, _≤_}
+use Prim.Native.Nat.{ℕ, _-_, _≤_}
 use mathlib.Core.List.{List, []}
-use mathlib.Core.Path.{_≡_, refl, ap, _∙_}
+use mathlib.Core.Path.{_≡_}
 use lib.ListN.{length}
-use Rattle.laws.specs.Put.{Put, Putting, putting, putting-room, putting-more, putting-last}
+use Rattle.laws.specs.Put.{Putting, putting, putting-room, putting-more, putting-last}
 use Rattle.runs.specs.Runs.{runsOf}
 use Rattle.runs.specs.RunLaws.{runsAt}
 use Rattle.writer.specs.Column.{opsOf, opsBytes}
 use Rattle.writer.specs.Piece.{opsAt}
 use Rattle.writer.specs.CutLaws.{piece-parts, none-left}
 use borrow.Author.Needs.{needs}
-use native.Mathlib.Omega.{arith}
 use Rattle.writer.proofs.write_ops.Statement.{statement}
 use Rattle.writer.proofs.write_ops.Tie as tie
-use Rattle.writer.proofs.write_ops.Reads as reads
-use Rattle.writer.proofs.write_ops.Lts as lts
-use Rattle.writer.proofs.next_piece.Reads as next-piece-reads
-use Rattle.writer.proofs.write_piece.Reads as write-piece-reads
 
 nothing : (old new : List ℕ) (row : ℕ) → length new ≤ row → opsBytes (opsAt old new row) ≡ []
 unfolding opsBytes
@@ -29,36 +24,28 @@ Inv-loop out₀ at old new place₀ row₀ out place row = (row ≤ length new) 
 abbrev μ-loop : tie.MeasureT-loop
 μ-loop out₀ at old new place₀ row₀ out place row = length new - row
 
--- src/lib.rt:284:5
 loop-holds : tie.Need-loop-holds Inv-loop μ-loop
 unfolding runsAt
 loop-holds c = (omega arith, putting (c .before .before .before .pre .1))
 
--- src/lib.rt:285:13
 next-piece-requires : tie.Need-next-piece-requires Inv-loop μ-loop
 next-piece-requires c κs = (c .before .before .before .before .before .pre .0, c .loop-test .taken)
 
--- src/lib.rt:286:9
 write-piece-requires : tie.Need-write-piece-requires Inv-loop μ-loop
 write-piece-requires c κs = (c .before .next-piece .ensures .some, c .before .next-piece .ensures .inside, putting-room (c .before .before .before .loop .inv .1) (piece-parts (c .before .next-piece .ensures)))
 
--- src/lib.rt:287:9
 add-row : tie.Need-add-row Inv-loop μ-loop
 add-row c = omega (arith, c .before .before .before .before .before .next-piece .ensures .inside)
 
--- src/lib.rt:284:5
 loop-less : tie.Need-loop-less Inv-loop μ-loop
 loop-less c = omega (arith, c .before .before .before .before .before .next-piece .ensures .inside, c .before .before .before .before .before .next-piece .ensures .some)
 
--- src/lib.rt:284:5
 loop-again : tie.Need-loop-again Inv-loop μ-loop
 loop-again c = (c .before .before .before .before .before .next-piece .ensures .inside, putting-more (c .before .before .before .before .before .before .before .loop .inv .1) (piece-parts (c .before .before .before .before .before .next-piece .ensures)) (c .before .before .before .write-piece .ensures))
 
--- src/lib.rt:278:1
 same-length : tie.Need-same-length Inv-loop μ-loop
 same-length c = search needs
 
--- src/lib.rt:278:1
 returns : tie.Need-returns Inv-loop μ-loop
 returns c = putting-last (c .before .loop .inv .1) (nothing _ _ _ (c .loop-test .left))
 

@@ -2,10 +2,10 @@ use native.Mathlib.Omega.{arith}
 -- `writer::write_piece`: the kind decides which ops are written.
 use Prim.Native.Nat.{ℕ, _+_, _-_}
 use mathlib.Core.List.{List, []}
-use mathlib.Core.Path.{_≡_, refl, ap, _∙_}
+use mathlib.Core.Path.{_≡_, ap}
 use lib.ListN.{getD, length, take, drop}
 use lib.Seq.{getD-drop}
-use Rattle.laws.specs.Put.{Put, put-nothing, put-as}
+use Rattle.laws.specs.Put.{put-nothing, put-as}
 use Rattle.writer.specs.Column.{Op.skip, Op.same, Op.uniq, cut, opsBytes}
 use Rattle.writer.specs.Piece.{pieceOps}
 use Rattle.writer.specs.declared.Kind.{Kind}
@@ -13,11 +13,6 @@ use Rattle.writer.specs.declared.Kind.the-variants.{Rest, Skip, Same, Un
 use borrow.Author.Needs.{needs}
 use Rattle.writer.proofs.write_piece.Statement.{statement}
 use Rattle.writer.proofs.write_piece.Tie as tie
-use Rattle.writer.proofs.write_piece.Reads as reads
-use Rattle.writer.proofs.write_piece.Lts as lts
-use Rattle.writer.proofs.write_sames.Reads as write-sames-reads
-use Rattle.writer.proofs.write_skips.Reads as write-skips-reads
-use Rattle.writer.proofs.write_uniqs.Reads as write-uniqs-reads
 
 module _ {kind : Kind} (rows : ℕ) (new : List ℕ) (row : ℕ) where
   rest : kind ≡ Rest → opsBytes (pieceOps kind rows (drop row new)) ≡ []
@@ -33,79 +28,60 @@ module _ {kind : Kind} (rows : ℕ) (new : List ℕ) (row : ℕ) where
   uniqs : kind ≡ Uniq → opsBytes (pieceOps kind rows (drop row new)) ≡ opsBytes (cut (uniq (take (row + rows - row) (drop row new))))
   uniqs e = let f : row + rows - row ≡ rows = omega arith in rw (e, f)
 
--- src/lib.rt:267:23
 enum-told : tie.Need-enum-told
 enum-told c = search needs
 
--- src/lib.rt:268:35
 enum-told-2 : tie.Need-enum-told-2
 enum-told-2 c = search needs
 
--- src/lib.rt:268:23
 write-skips-requires : tie.Need-write-skips-requires
 write-skips-requires c κs = omega (arith, c .before .before .before .before .before .pre .2, ap length (skips (c .before .before .before .before .before .args .piece .rows) (c .before .before .before .before .before .args .new .now) (c .before .before .before .before .before .args .row) (c .before .enum-told2 .given .1)))
 
--- src/lib.rt:269:35
 enum-told-3 : tie.Need-enum-told-3
 enum-told-3 c = search needs
 
--- src/lib.rt:269:50
 shared-slice-read-write-sames : tie.Need-shared-slice-read-write-sames
 shared-slice-read-write-sames c = search needs
 
--- src/lib.rt:269:23
 write-sames-requires : tie.Need-write-sames-requires
 write-sames-requires c κs = omega (arith, c .before .before .before .before .before .before .pre .2, ap length (sames (c .before .before .before .before .before .before .args .piece .rows) (c .before .before .before .before .before .before .args .new .now) (c .before .before .before .before .before .before .args .row) (c .before .before .enum-told3 .given .1)))
 
--- src/lib.rt:271:23
 enum-told-4 : tie.Need-enum-told-4
 enum-told-4 c = search needs
 
--- src/lib.rt:271:23
 add-end : tie.Need-add-end
 add-end c = search needs
 
--- src/lib.rt:272:34
 sub-write-uniqs : tie.Need-sub-write-uniqs
 sub-write-uniqs c = search needs
 
--- src/lib.rt:272:34
 part-write-uniqs-start : tie.Need-part-write-uniqs-start
 part-write-uniqs-start c = search needs
 
--- src/lib.rt:272:34
 part-write-uniqs-end : tie.Need-part-write-uniqs-end
 part-write-uniqs-end c = search needs
 
--- src/lib.rt:272:13
 write-uniqs-requires : tie.Need-write-uniqs-requires
 write-uniqs-requires c κs = omega (arith, c .before .before .before .before .before .before .pre .2, ap length (uniqs (c .before .before .before .before .before .before .args .piece .rows) (c .before .before .before .before .before .before .args .new .now) (c .before .before .before .before .before .before .args .row) (c .before .before .enum-told4 .given .1)))
 
--- src/lib.rt:260:1
 returns : tie.Need-returns
 returns c = put-as put-nothing (rest (c .before .before .before .before .args .piece .rows) (c .before .before .before .before .args .new .now) (c .before .before .before .before .args .row) (c .enum-told .given .1))
 
--- src/lib.rt:260:1
 same-length : tie.Need-same-length
 same-length c = search needs
 
--- src/lib.rt:260:1
 returns-2 : tie.Need-returns-2
 returns-2 c = put-as (c .before .before .write-skips .ensures) (skips (c .before .before .before .before .before .before .before .before .args .piece .rows) (c .before .before .before .before .before .before .before .before .args .new .now) (c .before .before .before .before .before .before .before .before .args .row) (c .before .before .before .before .enum-told2 .given .1))
 
--- src/lib.rt:260:1
 same-length-2 : tie.Need-same-length-2
 same-length-2 c = search needs
 
--- src/lib.rt:260:1
 returns-3 : tie.Need-returns-3
 returns-3 c = put-as (c .before .before .write-sames .ensures) (sames (c .before .before .before .before .before .before .before .before .before .args .piece .rows) (c .before .before .before .before .before .before .before .before .before .args .new .now) (c .before .before .before .before .before .before .before .before .before .args .row) (c .before .before .before .before .before .enum-told3 .given .1))
 
--- src/lib.rt:260:1
 same-length-3 : tie.Need-same-length-3
 same-length-3 c = search needs
 
--- src/lib.rt:260:1
 returns-4 : tie.Need-returns-4
 returns-4 c = put-as (c .before .before .write-uniqs .ensures) (uniqs (c .before .before .before .before .before .before .before .before .before .args .piece .rows) (c .before .before .before .before .before .before .before .before .before .args .new .now) (c .before .before .before .before .before .before .before .before .before .args .row) (c .before .before .before .before .before .enum-told4 .given .1))
 

@@ -5,10 +5,6 @@ use borrow.Author.Needs.{needs}
 use native.Mathlib.Omega.{arith}
 use Rattle.writer.proofs.write_planes.Statement.{statement}
 use Rattle.writer.proofs.write_planes.Tie as tie
-use Rattle.writer.proofs.write_planes.Reads as reads
-use Rattle.writer.proofs.write_planes.Lts as lts
-use Rattle.writer.proofs.write_plane.Reads as write-plane-reads
-use Rattle.writer.proofs.write_pointer.Reads as write-pointer-reads
 
 abbrev Inv-loop : tie.InvT-loop
 Inv-loop out₀ old new row height planes size pointer₀ place₀ at₀ left₀ out pointer place at left = Writing out₀ old new row height planes out pointer place at left
@@ -16,47 +12,36 @@ Inv-loop out₀ old new row height planes size pointer₀ place₀ at₀ left₀
 abbrev μ-loop : tie.MeasureT-loop
 μ-loop out₀ old new row height planes size pointer₀ place₀ at₀ left₀ out pointer place at left = left
 
--- src/lib.rt:477:16
 mul-size : tie.Need-mul-size Inv-loop μ-loop
 mul-size c = omega (arith, c .before .before .before .pre .0 .plane)
 
--- src/lib.rt:482:5
 loop-holds : tie.Need-loop-holds Inv-loop μ-loop
 loop-holds c = writing (c .before .before .before .pre .0) (c .before .before .before .pre .1)
 
--- src/lib.rt:483:13
 write-plane-requires : tie.Need-write-plane-requires Inv-loop μ-loop
 write-plane-requires c κs = (walking-plane (c .before .before .loop .inv .walk) (c .before .loop-test .taken) (c .before .before .before .before .before .before .pre .0), writing-room (c .before .before .loop .inv) (c .before .loop-test .taken))
 
--- src/lib.rt:484:9
 write-pointer-requires : tie.Need-write-pointer-requires Inv-loop μ-loop
 write-pointer-requires c κs = omega (arith, c .before .before .before .write-plane .ensures .size, c .before .before .before .before .before .before .loop .inv .low, c .before .before .before .before .before .before .loop .inv .high, c .before .before .before .before .before .before .loop .inv .fits, c .before .before .before .before .before .loop-test .taken)
 
--- src/lib.rt:485:9
 add-pointer : tie.Need-add-pointer Inv-loop μ-loop
 add-pointer c = omega (arith, c .before .before .before .before .before .before .before .before .before .loop .inv .low)
 
--- src/lib.rt:487:9
 add-at : tie.Need-add-at Inv-loop μ-loop
 add-at c = let p = walking-plane (c .before .before .before .before .before .before .before .before .before .loop .inv .walk) (c .before .before .before .before .before .before .before .before .loop-test .taken) (c .before .before .before .before .before .before .before .before .before .before .before .before .before .pre .0) in omega (arith, p .inNew, p .most)
 
--- src/lib.rt:488:9
 sub-left : tie.Need-sub-left Inv-loop μ-loop
 sub-left c = search needs
 
--- src/lib.rt:482:5
 loop-less : tie.Need-loop-less Inv-loop μ-loop
 loop-less c = search needs
 
--- src/lib.rt:482:5
 loop-again : tie.Need-loop-again Inv-loop μ-loop
 loop-again c = writing-more (c .before .before .before .before .before .before .before .before .before .loop .inv) (c .before .before .before .before .before .before .before .before .loop-test .taken) (c .before .before .before .before .before .before .write-plane .ensures) (c .before .before .write-pointer .ensures)
 
--- src/lib.rt:473:1
 same-length : tie.Need-same-length Inv-loop μ-loop
 same-length c = search needs
 
--- src/lib.rt:473:1
 returns : tie.Need-returns Inv-loop μ-loop
 returns c = writing-last (c .before .loop .inv) (omega (arith, c .loop-test .left))
 

@@ -3,31 +3,22 @@ use borrow.Author.Tests.{eq-eqb, ne-eqb}
 use borrow.Author.Needs.{needs}
 use Rattle.writer.proofs.write_pointer.Statement.{statement}
 use Rattle.writer.proofs.write_pointer.Tie as tie
-use Rattle.writer.proofs.write_pointer.Reads as reads
-use Rattle.writer.proofs.write_pointer.Lts as lts
-use Rattle.writer.proofs.write_number.Reads as write-number-reads
 
--- src/lib.rt:466:9
 write-number-requires : tie.Need-write-number-requires
 write-number-requires c κs = search needs
 
--- src/lib.rt:468:9
 write-number-requires-2 : tie.Need-write-number-requires-2
 write-number-requires-2 c κs = search needs
 
--- src/lib.rt:461:1
 same-length : tie.Need-same-length
 same-length c = search needs
 
--- src/lib.rt:461:1
 returns : tie.Need-returns
 returns c = rw (eq-eqb _ _ (c .before .before .before .before .if1 .taken)) (c .before .before .write-number .ensures)
 
--- src/lib.rt:461:1
 same-length-2 : tie.Need-same-length-2
 same-length-2 c = search needs
 
--- src/lib.rt:461:1
 returns-2 : tie.Need-returns-2
 returns-2 c = rw (ne-eqb _ _ (c .before .before .before .before .if1 .left)) (c .before .before .write-number2 .ensures)
 

@@ -10,52 +10,41 @@ use Rattle.writer.specs.Column.{Op.same, opBytes}
 use borrow.Author.Needs.{needs}
 use Rattle.writer.proofs.write_same.Statement.{statement}
 use Rattle.writer.proofs.write_same.Tie as tie
-use Rattle.writer.proofs.write_same.Reads as reads
-use Rattle.writer.proofs.write_same.Lts as lts
 
 three : (out : List ℕ) (at rows value : ℕ) → Put out at (opBytes (same rows value)) (set (set (set out at 0) (at + 1) rows) (at + 2) value) (at + 3)
 unfolding opBytes
 three out at rows value = let e : at + 2 ≡ suc (suc at) = omega arith in put-is refl (rw (add-one at, e))
 
--- src/lib.rt:206:5
 slice-write-out : tie.Need-slice-write-out
 unfolding opBytes
 slice-write-out c = omega arith
 
--- src/lib.rt:207:19
 cast-out : tie.Need-cast-out
 cast-out c = search needs
 
--- src/lib.rt:207:9
 add-out : tie.Need-add-out
 unfolding opBytes
 add-out c = omega arith
 
--- src/lib.rt:207:5
 slice-write-out-2 : tie.Need-slice-write-out-2
 unfolding opBytes
 slice-write-out-2 c = simp length-set (omega arith)
 
--- src/lib.rt:208:9
 add-out-2 : tie.Need-add-out-2
 unfolding opBytes
 add-out-2 c = omega arith
 
--- src/lib.rt:208:5
 slice-write-out-3 : tie.Need-slice-write-out-3
 unfolding opBytes
 slice-write-out-3 c = simp length-set (omega arith)
 
--- src/lib.rt:209:5
 add-result : tie.Need-add-result
 unfolding opBytes
 add-result c = omega arith
 
--- src/lib.rt:202:1
 same-length : tie.Need-same-length
 same-length c = search needs
 
--- src/lib.rt:202:1
 returns : tie.Need-returns
 returns c = three _ _ _ _
 

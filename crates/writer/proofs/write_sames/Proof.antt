@@ -1,19 +1,13 @@
 use mathlib.Core.Path.{refl}
 use native.Mathlib.Omega.{arith}
 -- `writer::write_sames`: the Sames of what is left, from here, come to the whole.
-use Rattle.laws.specs.Put.{Put, Putting, putting, putting-room, putting-more, putting-last}
-use Rattle.writer.specs.Column.{Op.same, cut, opBytes, opsBytes}
+use Rattle.laws.specs.Put.{Putting, putting, putting-room, putting-more, putting-last}
+use Rattle.writer.specs.Column.{Op.same, cut, opsBytes}
 use Rattle.writer.specs.CutLaws.{same-more, same-last, same-none}
-use Prim.Native.Nat.{ℕ, _+_, _-_, _≤_, _<_}
-use mathlib.Core.List.{List}
-use mathlib.Core.Path.{_≡_, ap, _∙_}
-use lib.ListN.{length, set}
+use Prim.Native.Nat.{_-_}
 use borrow.Author.Needs.{needs}
 use Rattle.writer.proofs.write_sames.Statement.{statement}
 use Rattle.writer.proofs.write_sames.Tie as tie
-use Rattle.writer.proofs.write_sames.Reads as reads
-use Rattle.writer.proofs.write_sames.Lts as lts
-use Rattle.writer.proofs.write_same.Reads as write-same-reads
 
 abbrev Inv-loop : tie.InvT-loop
 Inv-loop out₀ at rows value place₀ left₀ out place left = Putting out₀ at (opsBytes (cut (same rows value))) out place (opsBytes (cut (same left value)))
@@ -21,39 +15,30 @@ Inv-loop out₀ at rows value place₀ left₀ out place left = Putting out₀ a
 abbrev μ-loop : tie.MeasureT-loop
 μ-loop out₀ at rows value place₀ left₀ out place left = left
 
--- src/lib.rt:219:5
 loop-holds : tie.Need-loop-holds Inv-loop μ-loop
 loop-holds c = putting (c .before .pre)
 
--- src/lib.rt:220:9
 write-same-requires : tie.Need-write-same-requires Inv-loop μ-loop
 write-same-requires c κs = (omega arith, putting-room (c .before .before .loop .inv) (same-more _ _ (c .before .loop-test .taken)))
 
--- src/lib.rt:219:5
 loop-less : tie.Need-loop-less Inv-loop μ-loop
 loop-less c = search needs
 
--- src/lib.rt:219:5
 loop-again : tie.Need-loop-again Inv-loop μ-loop
 loop-again c = putting-more (c .before .before .before .before .before .loop .inv) (same-more _ _ (c .before .before .before .before .loop-test .taken)) (c .before .before .write-same .ensures)
 
--- src/lib.rt:224:9
 same-length : tie.Need-same-length Inv-loop μ-loop
 same-length c = search needs
 
--- src/lib.rt:224:9
 returns : tie.Need-returns Inv-loop μ-loop
 returns c = putting-last (c .before .before .loop .inv) (same-none _ _ (c .if1 .taken))
 
--- src/lib.rt:226:5
 write-same-requires-2 : tie.Need-write-same-requires-2 Inv-loop μ-loop
 write-same-requires-2 c κs = (omega arith, putting-room (c .before .before .before .loop .inv) (same-last _ _ (omega arith) (c .before .before .loop-test .left)))
 
--- src/lib.rt:213:1
 same-length-2 : tie.Need-same-length-2 Inv-loop μ-loop
 same-length-2 c = search needs
 
--- src/lib.rt:213:1
 returns-2 : tie.Need-returns-2 Inv-loop μ-loop
 returns-2 c = putting-last (putting-more (c .before .before .before .before .before .before .loop .inv) (same-last _ _ (omega arith) (c .before .before .before .before .before .loop-test .left)) (c .before .before .write-same2 .ensures)) refl
 

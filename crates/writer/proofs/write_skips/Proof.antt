@@ -1,18 +1,12 @@
 use mathlib.Core.Path.{refl}
 use native.Mathlib.Omega.{arith}
 -- `writer::write_skips`: the Skips of what is left, from here, come to the whole.
-use Rattle.laws.specs.Put.{Put, Putting, putting, put-byte, putting-room, putting-more, putting-last}
+use Rattle.laws.specs.Put.{Putting, putting, put-byte, putting-room, putting-more, putting-last}
 use Rattle.writer.specs.Column.{Op.skip, cut, opsBytes}
 use Rattle.writer.specs.CutLaws.{skip-more, skip-last, skip-none}
-use Prim.Native.Nat.{ℕ, _+_, _≤_, _<_}
-use mathlib.Core.List.{List}
-use mathlib.Core.Path.{_≡_, ap, _∙_}
-use lib.ListN.{length, set}
 use borrow.Author.Needs.{needs}
 use Rattle.writer.proofs.write_skips.Statement.{statement}
 use Rattle.writer.proofs.write_skips.Tie as tie
-use Rattle.writer.proofs.write_skips.Reads as reads
-use Rattle.writer.proofs.write_skips.Lts as lts
 
 abbrev Inv-loop : tie.InvT-loop
 Inv-loop out₀ at rows place₀ left₀ out place left = Putting out₀ at (opsBytes (cut (skip rows))) out place (opsBytes (cut (skip left)))
@@ -20,51 +14,39 @@ Inv-loop out₀ at rows place₀ left₀ out place left = Putting out₀ at (ops
 abbrev μ-loop : tie.MeasureT-loop
 μ-loop out₀ at rows place₀ left₀ out place left = left
 
--- src/lib.rt:189:5
 loop-holds : tie.Need-loop-holds Inv-loop μ-loop
 loop-holds c = putting (c .pre)
 
--- src/lib.rt:190:9
 slice-write-out : tie.Need-slice-write-out Inv-loop μ-loop
 slice-write-out c = omega (arith, putting-room (c .before .loop .inv) (skip-more _ (c .loop-test .taken)))
 
--- src/lib.rt:191:9
 add-place : tie.Need-add-place Inv-loop μ-loop
 add-place c = omega (arith, putting-room (c .before .loop .inv) (skip-more _ (c .loop-test .taken)))
 
--- src/lib.rt:189:5
 loop-less : tie.Need-loop-less Inv-loop μ-loop
 loop-less c = search needs
 
--- src/lib.rt:189:5
 loop-again : tie.Need-loop-again Inv-loop μ-loop
 loop-again c = putting-more (c .before .loop .inv) (skip-more _ (c .loop-test .taken)) put-byte
 
--- src/lib.rt:195:9
 same-length : tie.Need-same-length Inv-loop μ-loop
 same-length c = search needs
 
--- src/lib.rt:195:9
 returns : tie.Need-returns Inv-loop μ-loop
 returns c = putting-last (c .before .before .loop .inv) (skip-none _ (c .if1 .taken))
 
--- src/lib.rt:197:18
 cast-out : tie.Need-cast-out Inv-loop μ-loop
 cast-out c = search needs
 
--- src/lib.rt:197:5
 slice-write-out-2 : tie.Need-slice-write-out-2 Inv-loop μ-loop
 slice-write-out-2 c = omega (arith, putting-room (c .before .before .loop .inv) (skip-last _ (omega arith) (c .before .loop-test .left)))
 
--- src/lib.rt:198:5
 add-result : tie.Need-add-result Inv-loop μ-loop
 add-result c = omega (arith, putting-room (c .before .before .loop .inv) (skip-last _ (omega arith) (c .before .loop-test .left)))
 
--- src/lib.rt:183:1
 same-length-2 : tie.Need-same-length-2 Inv-loop μ-loop
 same-length-2 c = search needs
 
--- src/lib.rt:183:1
 returns-2 : tie.Need-returns-2 Inv-loop μ-loop
 returns-2 c = putting-last (putting-more (c .before .before .loop .inv) (skip-last _ (omega arith) (c .before .loop-test .left)) put-byte) refl
 

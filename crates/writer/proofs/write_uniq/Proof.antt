@@ -10,9 +10,6 @@ use Rattle.writer.specs.Column.{Op.uniq, opBytes}
 use borrow.Author.Needs.{needs}
 use Rattle.writer.proofs.write_uniq.Statement.{statement}
 use Rattle.writer.proofs.write_uniq.Tie as tie
-use Rattle.writer.proofs.write_uniq.Reads as reads
-use Rattle.writer.proofs.write_uniq.Lts as lts
-use Rattle.buffer.proofs.copy.Reads as copy-reads
 
 module _ (out : List ℕ) (at : ℕ) (rows : List ℕ) (h : at + length (opBytes (uniq rows)) ≤ length out) where
   started : List ℕ
@@ -31,48 +28,37 @@ module _ (out : List ℕ) (at : ℕ) (rows : List ℕ) (h : at + length (opBytes
   unfolding opBytes started
   putRows y e = put-then put-byte (put-copy (set out at (128 + length rows)) (at + 1) (at + 1 + length rows) rows y refl fits e)
 
--- src/lib.rt:234:16
 add-out : tie.Need-add-out
 add-out c = search needs
 
--- src/lib.rt:234:15
 cast-out : tie.Need-cast-out
 cast-out c = search needs
 
--- src/lib.rt:234:5
 slice-write-out : tie.Need-slice-write-out
 slice-write-out c = inside (c .before .before .args .out .now) (c .before .before .args .at) (c .before .before .args .rows .now) (c .before .before .pre .1)
 
--- src/lib.rt:235:17
 add-start : tie.Need-add-start
 add-start c = search needs
 
--- src/lib.rt:236:15
 add-end : tie.Need-add-end
 add-end c = search needs
 
--- src/lib.rt:237:10
 sub-copy : tie.Need-sub-copy
 sub-copy c = search needs
 
--- src/lib.rt:237:10
 part-copy-start : tie.Need-part-copy-start
 part-copy-start c = search needs
 
--- src/lib.rt:237:10
 part-copy-end : tie.Need-part-copy-end
 unfolding started
 part-copy-end c = fits (c .before .before .args .out .now) (c .before .before .args .at) (c .before .before .args .rows .now) (c .before .before .pre .1)
 
--- src/lib.rt:237:5
 copy-requires : tie.Need-copy-requires
 copy-requires c κs = search needs
 
--- src/lib.rt:230:1
 same-length : tie.Need-same-length
 same-length c = putRows (c .before .before .before .before .before .before .args .out .now) (c .before .before .before .before .before .before .args .at) (c .before .before .before .before .before .before .args .rows .now) (c .before .before .before .before .before .before .pre .1) _ (c .before .before .copy .ensures) .size
 
--- src/lib.rt:230:1
 returns : tie.Need-returns
 returns c = putRows (c .before .before .before .before .before .before .args .out .now) (c .before .before .before .before .before .before .args .at) (c .before .before .before .before .before .before .args .rows .now) (c .before .before .before .before .before .before .pre .1) _ (c .before .before .copy .ensures)
 

@@ -5,16 +5,12 @@ use mathlib.Core.List.{List, []}
 use mathlib.Core.Path.{_≡_, refl}
 use lib.ListN.{length, take, drop, length-drop, length-take}
 use lib.Seq.{drop-drop, take-all}
-use Rattle.laws.specs.Put.{Put, Putting, Parts, putting, putting-room, putting-more, putting-last}
+use Rattle.laws.specs.Put.{Putting, Parts, putting, putting-room, putting-more, putting-last}
 use Rattle.writer.specs.Column.{Op.uniq, cut, opBytes, opsBytes}
 use Rattle.writer.specs.CutLaws.{uniq-more, uniq-last, uniq-none}
 use borrow.Author.Needs.{needs}
-use native.Mathlib.Omega.{arith}
 use Rattle.writer.proofs.write_uniqs.Statement.{statement}
 use Rattle.writer.proofs.write_uniqs.Tie as tie
-use Rattle.writer.proofs.write_uniqs.Reads as reads
-use Rattle.writer.proofs.write_uniqs.Lts as lts
-use Rattle.writer.proofs.write_uniq.Reads as write-uniq-reads
 
 module _ (rows : List ℕ) (from : ℕ) (h : from ≤ length rows) where
   next : 127 ≤ length rows - from → Parts (opsBytes (cut (uniq (drop from rows)))) (opBytes (uniq (take (from + 127 - from) (drop from rows)))) (opsBytes (cut (uniq (drop (from + 127) rows))))
@@ -39,71 +35,54 @@ Inv-loop out₀ at rows place₀ from₀ out place from = (from ≤ length rows)
 abbrev μ-loop : tie.MeasureT-loop
 μ-loop out₀ at rows place₀ from₀ out place from = length rows - from
 
--- src/lib.rt:248:5
 loop-holds : tie.Need-loop-holds Inv-loop μ-loop
 loop-holds c = (omega arith, putting (c .before .before .pre))
 
--- src/lib.rt:248:18
 sub-loop : tie.Need-sub-loop Inv-loop μ-loop
 sub-loop c = search needs
 
--- src/lib.rt:249:19
 add-end : tie.Need-add-end Inv-loop μ-loop
 add-end c = search needs
 
--- src/lib.rt:250:40
 sub-write-uniq : tie.Need-sub-write-uniq Inv-loop μ-loop
 sub-write-uniq c = search needs
 
--- src/lib.rt:250:40
 part-write-uniq-start : tie.Need-part-write-uniq-start Inv-loop μ-loop
 part-write-uniq-start c = search needs
 
--- src/lib.rt:250:40
 part-write-uniq-end : tie.Need-part-write-uniq-end Inv-loop μ-loop
 part-write-uniq-end c = search needs
 
--- src/lib.rt:250:9
 write-uniq-requires : tie.Need-write-uniq-requires Inv-loop μ-loop
 write-uniq-requires c κs = (short _ _ (c .before .before .before .loop .inv .0) _ (omega arith), putting-room (c .before .before .before .loop .inv .1) (next _ _ (c .before .before .before .loop .inv .0) (c .before .before .loop-test .taken)))
 
--- src/lib.rt:248:5
 loop-less : tie.Need-loop-less Inv-loop μ-loop
 loop-less c = search needs
 
--- src/lib.rt:248:5
 loop-again : tie.Need-loop-again Inv-loop μ-loop
 loop-again c = (omega arith, putting-more (c .before .before .before .before .before .before .loop .inv .1) (next _ _ (c .before .before .before .before .before .before .loop .inv .0) (c .before .before .before .before .before .loop-test .taken)) (c .before .before .write-uniq .ensures))
 
--- src/lib.rt:254:9
 same-length : tie.Need-same-length Inv-loop μ-loop
 same-length c = search needs
 
--- src/lib.rt:254:9
 returns : tie.Need-returns Inv-loop μ-loop
 returns c = putting-last (c .before .before .loop .inv .1) (none _ _ (c .before .before .loop .inv .0) (c .if1 .taken))
 
--- src/lib.rt:256:28
 sub-write-uniq-2 : tie.Need-sub-write-uniq-2 Inv-loop μ-loop
 sub-write-uniq-2 c = search needs
 
--- src/lib.rt:256:28
 part-write-uniq-start-2 : tie.Need-part-write-uniq-start-2 Inv-loop μ-loop
 part-write-uniq-start-2 c = search needs
 
--- src/lib.rt:256:28
 part-write-uniq-end-2 : tie.Need-part-write-uniq-end-2 Inv-loop μ-loop
 part-write-uniq-end-2 c = search needs
 
--- src/lib.rt:256:5
 write-uniq-requires-2 : tie.Need-write-uniq-requires-2 Inv-loop μ-loop
 write-uniq-requires-2 c κs = (short _ _ (c .before .before .before .before .loop .inv .0) _ (omega arith), putting-room (c .before .before .before .before .loop .inv .1) (last _ _ (c .before .before .before .before .loop .inv .0) (c .before .before .if1 .left) (c .before .before .before .loop-test .left)))
 
--- src/lib.rt:242:1
 same-length-2 : tie.Need-same-length-2 Inv-loop μ-loop
 same-length-2 c = search needs
 
--- src/lib.rt:242:1
 returns-2 : tie.Need-returns-2 Inv-loop μ-loop
 returns-2 c = putting-last (putting-more (c .before .before .before .before .before .before .before .loop .inv .1) (last _ _ (c .before .before .before .before .before .before .before .loop .inv .0) (c .before .before .before .before .before .if1 .left) (c .before .before .before .before .before .before .loop-test .left)) (c .before .before .write-uniq2 .ensures)) refl
 

@@ -1,0 +1,5 @@
+pub mod OpLaws
+pub mod ColumnLaws
+pub mod PlaneLaws
+pub mod LengthLaws
+pub mod RoundTrip
