@@ -189,7 +189,7 @@ list-back old new s l h =
     let hc : length (runsOf old new) < 2 ^ 32 = omega (arith, count-runs old new) in
     simp (append-assoc, read-write, read-runs (runsOf old new) 0 (length new) s h (fit-runs old new), runs-back old new l)
 
--- A RECORD LEADS BACK
+-- a record that is written leads back
 pub past-record : (n p : ℕ) (old new : List ℕ) → n < 2 ^ 32 → p < 2 ^ 32 → length old ≡ length new → length new ≤ 1_048_576
     → pastOf (recordBytes n p old new) new ≡ some (record { frame = n; place = p; picture = old })
 unfolding pastOf recordBytes

@@ -1,0 +1,118 @@
+-- The model of demand 3 (document 01, "Opening, stepping on, stepping back"). It is fed the file and the calls in order, and holds
+-- a number n, at first 1. Here m is n − 1: picture m + 1 is shown at n, and picture m hidden, where picture 0 is picture 1 too.
+use Prim.Native.Nat.{ℕ, zero, suc}
+use mathlib.Core.List.{List, [], _∷_}
+use mathlib.Core.Option.{Option, none, some}
+use lib.Dec.{leb, ltb, eqb}
+use lib.ListN.{length}
+use Rattle.laws.specs.Result.{Res, Res.ok, Res.fault, pick, orKeep}
+use Rattle.state.specs.State.{frameBytes}
+use Rattle.runs.specs.Runs.{runsOf}
+use Rattle.record.specs.RunList.{changes}
+use Rattle.record.specs.Record.{recordBytes, Past, pastOf}
+use Rattle.player.specs.Frame.{Frame, frameAt, change}
+use Rattle.player.specs.Step.{World, Report, Answer, Answer.refused, Answer.ended, Answer.tookOn, Answer.tookBack, isOdd}
+use Rattle.player.specs.Open.{Film}
+
+-- a call, with what it is lent besides the file, the pictures and the state: the lengths of the work and record buffers, or bytes
+pub data Call : Type 0 where
+  on : ℕ → ℕ → Call
+  back : List ℕ → Call
+
+-- what is seen after a call: its answer, the pictures and the state, and a taken step on's record
+pub record Seen : Type 0 where
+  pub answer : Answer
+  pub world : World
+  pub bytes : List ℕ
+
+-- the frame that stands at a place
+abbrev pub here : Film → ℕ → Res (Option Frame)
+here F at = frameAt (F .file) (F .sizes) (F .end) at
+
+-- the place past that frame, or the place itself where there is none
+unfoldable pub past : ℕ → Res (Option Frame) → ℕ
+past at (ok (some x)) = x .next
+past at (ok none) = at
+past at (fault n) = at
+
+-- what that frame makes of the shown and the hidden picture
+unfoldable pub drawn : Film → List ℕ → List ℕ → Res (Option Frame) → List ℕ
+drawn F shown hidden (ok (some x)) = orKeep hidden (change (F .sizes) x shown hidden)
+drawn F shown hidden (ok none) = hidden
+drawn F shown hidden (fault n) = hidden
+
+-- the place past frame m + 1
+unfoldable pub placeAt : Film → ℕ → ℕ
+placeAt F zero = F .start
+placeAt F (suc m) = past (placeAt F m) (here F (placeAt F m))
+
+-- picture 1 is frame 1's BODY unpacked; picture k is what frame k's delta makes of the picture two frames back, or of picture 1 for frame 2
+unfoldable pub picture : Film → ℕ → List ℕ
+picture F zero = F .first
+picture F (suc zero) = F .first
+picture F (suc (suc k)) = drawn F (picture F (suc k)) (picture F k) (here F (placeAt F k))
+
+-- the record of the step from frame m + 1 to frame m + 2: the hidden picture before and after
+unfoldable pub recordAt : Film → ℕ → List ℕ
+recordAt F m = recordBytes (suc (suc m)) (placeAt F m) (picture F m) (picture F (suc (suc m)))
+
+-- what stands at frame m + 1
+unfoldable pub stands : Film → ℕ → World
+stands F m = record {
+  a = pick (isOdd (suc m)) (picture F (suc m)) (picture F m);
+  b = pick (isOdd (suc m)) (picture F m) (picture F (suc m));
+  state = record { sizes = F .sizes; frame = suc m; next = placeAt F m; end = F .end };
+}
+
+-- what is reported of frame m + 2
+unfoldable pub reportAt : Film → ℕ → Frame → Report
+reportAt F m x = record {
+  method = x .header .method;
+  time = x .header .time;
+  changed = changes (runsOf (picture F m) (picture F (suc (suc m))));
+  length = length (recordAt F m);
+}
+
+-- a step on from frame m + 1, by the frame at the next place and what its delta comes to: it is taken if its record fits
+abbrev pub answerFor : Film → ℕ → ℕ → Frame → Res (List ℕ) → Answer
+answerFor F m room x (ok f) = pick (leb (length (recordAt F m)) room) (tookOn (reportAt F m x)) (refused 51)
+answerFor F m room x (fault n) = refused n
+
+unfoldable pub answerAt : Film → ℕ → ℕ → Res (Option Frame) → Answer
+answerAt F m room (fault n) = refused n
+answerAt F m room (ok none) = ended
+answerAt F m room (ok (some x)) = answerFor F m room x (change (F .sizes) x (picture F (suc m)) (picture F m))
+
+-- a step on from frame m + 1: the first refusal in the order 12, 53, those of the frame, 51; or End; or it is taken
+unfoldable pub answerOn : Film → ℕ → ℕ → ℕ → Answer
+answerOn F m work room =
+    pick (eqb work (frameBytes (F .sizes)))
+    (pick (ltb (suc m) 1_000_000) (answerAt F m room (here F (placeAt F m))) (refused 53))
+    (refused 12)
+
+-- a step back at frame 1: 61 if that applies, else 62
+abbrev pub answerFirst : Option Past → Answer
+answerFirst none = refused 61
+answerFirst (some p) = refused 62
+
+-- where a step on's answer leads, and the record that it leaves
+unfoldable pub moved : ℕ → Answer → ℕ
+moved m (refused n) = m
+moved m ended = m
+moved m (tookOn r) = suc m
+moved m tookBack = m
+
+unfoldable pub leaves : Film → ℕ → Answer → List ℕ
+leaves F m (refused n) = []
+leaves F m ended = []
+leaves F m (tookOn r) = recordAt F m
+leaves F m tookBack = []
+
+-- what is seen after each call
+unfoldable pub model : Film → ℕ → List Call → List Seen
+model F m [] = []
+model F m (on work room ∷ cs) =
+    let x = answerOn F m work room in
+    record { answer = x; world = stands F (moved m x); bytes = leaves F m x } ∷ model F (moved m x) cs
+model F zero (back bytes ∷ cs) = record { answer = answerFirst (pastOf bytes (F .first)); world = stands F zero; bytes = [] } ∷ model F zero cs
+model F (suc m) (back bytes ∷ cs) = record { answer = tookBack; world = stands F m; bytes = [] } ∷ model F m cs

@@ -1,0 +1,47 @@
+-- A list of calls after an opening, each of which met its contract (document 01, "Opening, stepping on, stepping back"): the file
+-- stays as opened, pictures and state are handed on as the last call left them, and each step back is given the unaltered record
+-- of the latest step on taken and not yet taken back, or any bytes where there is none.
+use Prim.Native.Nat.{ℕ}
+use mathlib.Core.List.{List, [], _∷_}
+use lib.ListN.{length, take, drop}
+use Rattle.player.specs.declared.SteppedOn.{SteppedOn}
+use Rattle.player.specs.declared.SteppedBack.{SteppedBack}
+use Rattle.player.specs.Step.{World, Answer, Answer.refused, Answer.ended, Answer.tookOn, Answer.tookBack, onOf, backOf, MeetsOn, MeetsBack}
+use Rattle.player.specs.Model.{Call, Call.on, Call.back, Seen}
+
+-- the bytes that a step back is given, of the records not yet taken back, the latest first
+unfoldable pub given : List (List ℕ) → List ℕ → List ℕ
+given [] bytes = bytes
+given (r ∷ rs) bytes = r
+
+-- the record in a record buffer: as many bytes as are reported
+unfoldable pub recordIn : Answer → List ℕ → List ℕ
+recordIn (refused n) rec = []
+recordIn ended rec = []
+recordIn (tookOn r) rec = take (r .length) rec
+recordIn tookBack rec = []
+
+-- the records not yet taken back after a call
+unfoldable pub untaken : Answer → List ℕ → List (List ℕ) → List (List ℕ)
+untaken (refused n) bytes rs = rs
+untaken ended bytes rs = rs
+untaken (tookOn r) bytes rs = bytes ∷ rs
+untaken tookBack bytes rs = drop 1 rs
+
+-- what is seen after a step on and after a step back
+abbrev pub seenOn : SteppedOn → List ℕ → List ℕ → List ℕ → Seen
+seenOn r a b rec = record { answer = onOf (r .answer); world = record { a = a; b = b; state = r .state }; bytes = recordIn (onOf (r .answer)) rec }
+
+abbrev pub seenBack : SteppedBack → List ℕ → List ℕ → Seen
+seenBack r a b = record { answer = backOf (r .answer); world = record { a = a; b = b; state = r .state }; bytes = [] }
+
+pub data Trace (file : List ℕ) : World → List (List ℕ) → List Call → List Seen → Type 0 where
+  none-left : {w : World} {rs : List (List ℕ)} → Trace file w rs [] []
+  stepped-on : {w : World} {rs : List (List ℕ)} {cs : List Call} {os : List Seen} (work rec : List ℕ) (r : SteppedOn) (a b work′ rec′ : List ℕ)
+      → MeetsOn file w work rec r a b work′ rec′
+      → Trace file (seenOn r a b rec′ .world) (untaken (seenOn r a b rec′ .answer) (seenOn r a b rec′ .bytes) rs) cs os
+      → Trace file w rs (on (length work) (length rec) ∷ cs) (seenOn r a b rec′ ∷ os)
+  stepped-back : {w : World} {rs : List (List ℕ)} {cs : List Call} {os : List Seen} (bytes : List ℕ) (r : SteppedBack) (a b : List ℕ)
+      → MeetsBack w (given rs bytes) r a b
+      → Trace file (seenBack r a b .world) (untaken (seenBack r a b .answer) [] rs) cs os
+      → Trace file w rs (back bytes ∷ cs) (seenBack r a b ∷ os)

@@ -1,0 +1,45 @@
+// What the player answers: opening, stepping on, stepping back.
+use refusal::Refusal;
+use state::State;
+
+// What stepping on answers.
+pub enum On {
+    Taken {
+        method: usize,
+        time: usize,
+        changed: usize,
+        record: usize,
+    },
+    End,
+    Refused(Refusal),
+}
+
+// What stepping on answers, and the state after it.
+pub struct SteppedOn {
+    pub answer: On,
+    pub state: State,
+}
+
+// What stepping back answers.
+pub enum Back {
+    Taken,
+    Refused(Refusal),
+}
+
+// What stepping back answers, and the state after it.
+pub struct SteppedBack {
+    pub answer: Back,
+    pub state: State,
+}
+
+// What opening answers.
+pub enum Opening {
+    Opened,
+    Refused(Refusal),
+}
+
+// What opening answers, and the state after it: six zeros where it is refused.
+pub struct OpenedFile {
+    pub answer: Opening,
+    pub state: State,
+}
