@@ -65,9 +65,13 @@ walkStep id s w = walkOn id w (chunkAt s (w .at))
 unfoldable pub find : ℕ → List ℕ → Res (Option Part)
 find id s = runs (walkStep id s) (λ w. length s - w .at) (fault 21) (record { at = 0; answer = ok none })
 
+-- the bytes of a part
+abbrev pub bytesOf : List ℕ → Part → List ℕ
+bytesOf s p = take (p .size) (drop (p .start) s)
+
 -- the contents that were found, as a part of the parent; an empty part where there are none
 abbrev pub contentsOf : List ℕ → Res (Option Part) → List ℕ
-contentsOf s (ok (some p)) = pick (leb (p .start + p .size) (length s)) (take (p .size) (drop (p .start) s)) []
+contentsOf s (ok (some p)) = pick (leb (p .start + p .size) (length s)) (bytesOf s p) []
 contentsOf s (ok none) = []
 contentsOf s (fault n) = []
 

@@ -5,7 +5,7 @@ use mathlib.Core.List.{List}
 use mathlib.Core.Option.{Option, none, some}
 use mathlib.Core.Bool.{_&&_}
 use lib.Dec.{leb, eqb}
-use lib.ListN.{length}
+use lib.ListN.{length, take, drop}
 use Rattle.laws.specs.Result.{Res, Res.ok, Res.fault, _>>=_, need, pick}
 use Rattle.laws.specs.Loop.{Step, Step.next, Step.done, runs}
 use Rattle.laws.specs.Bytes.{be32}
@@ -40,6 +40,10 @@ pub record Frame : Type 0 where
   pub start : ℕ
   pub size : ℕ
   pub next : ℕ
+
+-- the chunks of a FORM ILBM
+abbrev pub chunksOf : List ℕ → Frame → List ℕ
+chunksOf s f = take (f .size) (drop (f .start) s)
 
 -- a FORM is the next frame if it is an ILBM; one shorter than its type is 21
 abbrev pub formOn : List ℕ → Chunk → Step ℕ (Res (Option Frame))

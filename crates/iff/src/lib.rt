@@ -2,6 +2,7 @@
 ghost use mathlib.Core.Path.{_≡_};
 ghost use Rattle.iff.specs.Chunk.{chunkAt, standingOf, find, foundOf, orPart, contentsOf};
 ghost use Rattle.iff.specs.Form.{animEnd, outerOf, nextFrame, formOf};
+ghost use Rattle.iff.specs.Pair.{findBoth, bothOf};
 use buffer::number32;
 use refusal::Refusal;
 
@@ -27,6 +28,19 @@ pub enum Standing {
 // What a search for a chunk finds: where its contents stand in the parent.
 pub enum Found {
     At { start: usize, len: usize },
+    Missing,
+    Broken(Refusal),
+}
+
+// Where the contents of a chunk stand in the parent.
+pub struct Part {
+    pub start: usize,
+    pub len: usize,
+}
+
+// What a search for two chunks finds.
+pub enum Both {
+    At { first: Part, second: Part },
     Missing,
     Broken(Refusal),
 }
@@ -104,6 +118,29 @@ pub fn find(s: &[u8], wanted: usize) -> Found
                     first = or_part(first, start, len);
                 }
                 at = next;
+            }
+        }
+    }
+}
+
+// The first chunk of each of two ids.
+pub fn find_both(s: &[u8], first: usize, second: usize) -> Both
+    ensures { λ r. ⌜ bothOf r ≡ findBoth first second (now (s .entry)) ⌝ }
+{
+    let p = find(s, first);
+    match p {
+        Found::Broken(why) => Both::Broken(why),
+        Found::Missing => Both::Missing,
+        Found::At { start, len } => {
+            let first = Part { start, len };
+            let q = find(s, second);
+            match q {
+                Found::Broken(why) => Both::Broken(why),
+                Found::Missing => Both::Missing,
+                Found::At { start, len } => Both::At {
+                    first,
+                    second: Part { start, len },
+                },
             }
         }
     }

@@ -20,6 +20,10 @@ pub each-need : {B : Type 0} {Q : B → Type 0} (t : Bool) (n : ℕ) (f : Unit {
 each-need true n f q = q refl
 each-need false n f q = no-value
 
+pub each-any : {A B : Type 0} {Q : B → Type 0} (r : Res A) {f : A → Res B} → ((a : A) → Each Q (f a)) → Each Q (r >>= f)
+each-any (ok a) q = q a
+each-any (fault n) q = no-value
+
 pub each-map : {A : Type 0} {P Q : A → Type 0} {r : Res A} → ((a : A) → P a → Q a) → Each P r → Each Q r
 each-map q (each {a = a} p) = each (q a p)
 each-map q no-value = no-value

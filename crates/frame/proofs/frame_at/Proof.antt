@@ -1,0 +1,49 @@
+-- `frame::frame_at`: what the walk to the next FORM ILBM comes to.
+use native.Mathlib.Omega.{arith}
+use Rattle.frame.specs.Frame.{frameAt}
+use Rattle.iff.specs.FormLaws.{Follows, frame-follows}
+use Rattle.iff.specs.Form.{formOf}
+use Rattle.laws.specs.ResultLaws.{told, each-some}
+use borrow.Author.Needs.{needs}
+use Rattle.frame.proofs.frame_at.Statement.{statement}
+use Rattle.frame.proofs.frame_at.Tie as tie
+
+next-form-requires : tie.Need-next-form-requires
+next-form-requires c κs = search needs
+
+enum-known-f : tie.Need-enum-known-f
+enum-known-f c = search needs
+
+enum-told : tie.Need-enum-told
+enum-told c = search needs
+
+enum-known-f-2 : tie.Need-enum-known-f-2
+enum-known-f-2 c = search needs
+
+frame-in-requires : tie.Need-frame-in-requires
+frame-in-requires c κs = let k : Follows _ _ _ = each-some (told formOf (c .before .before .before .next-form .ensures) (c .before .f2 .given .1)) (frame-follows _ _) in omega (arith, k .holds, k .ends)
+
+returns : tie.Need-returns
+unfolding frameAt
+returns c = rw (told formOf (c .before .before .before .next-form .ensures) (c .before .f .given .1))
+
+returns-2 : tie.Need-returns-2
+unfolding frameAt
+returns-2 c = rw (told formOf (c .before .before .next-form .ensures) (c .enum-told .given .1))
+
+returns-3 : tie.Need-returns-3
+unfolding frameAt
+returns-3 c = rw (told formOf (c .before .before .before .before .next-form .ensures) (c .before .before .f2 .given .1)) (c .frame-in .ensures)
+
+pub frame-at-spec : {M : Type 1} → statement M
+frame-at-spec =
+    tie.close
+    (tie.spec
+    next-form-requires
+    enum-known-f
+    enum-told
+    enum-known-f-2
+    frame-in-requires
+    returns
+    returns-2
+    returns-3)

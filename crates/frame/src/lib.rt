@@ -1,0 +1,70 @@
+// The next frame of an animation: where it stands, its header, and the contents of its delta.
+ghost use mathlib.Core.Path.{_≡_};
+ghost use Prim.Native.Nat.{_+_, _≤_};
+ghost use lib.ListN.{length};
+ghost use mathlib.Core.Option.{some};
+ghost use Rattle.frame.specs.Frame.{frameOr, frameAt, nextOf};
+use anhd::Anhd;
+use anhd::FrameHeader;
+use iff::Both;
+use iff::Form;
+use iff::Found;
+use refusal::Refusal;
+
+pub const ANHD: usize = 0x414E4844;
+
+pub const DLTA: usize = 0x444C5441;
+
+// The next frame: the place after it, its header, and where the contents of its DLTA stand in FORM ANIM.
+pub enum Next {
+    Later {
+        next: usize,
+        header: FrameHeader,
+        start: usize,
+        len: usize,
+    },
+    Last,
+    Refused(Refusal),
+}
+
+// The frame in a FORM ILBM whose chunks are len bytes from start on.
+fn frame_in(anim: &[u8], start: usize, len: usize, next: usize, row: usize) -> Next
+    requires { ⌜ start + len ≤ length (now anim) ⌝ }
+    ensures { λ r. ⌜ nextOf (now (anim .entry)) r ≡ frameOr (now (anim .entry)) row (some (record { start = start; size = len; next = next })) ⌝ }
+{
+    let end = start + len;
+    let chunks = &anim[start..end];
+    let b = iff::find_both(chunks, ANHD, DLTA);
+    match b {
+        Both::Broken(why) => Next::Refused(why),
+        Both::Missing => Next::Refused(Refusal::NoDelta),
+        Both::At { first, second } => {
+            let found = Found::At {
+                start: first.start,
+                len: first.len,
+            };
+            let h = anhd::read_header(iff::contents(chunks, found), row);
+            match h {
+                Anhd::Unread(why) => Next::Refused(why),
+                Anhd::Header(header) => Next::Later {
+                    next,
+                    header,
+                    start: start + second.start,
+                    len: second.len,
+                },
+            }
+        }
+    }
+}
+
+// The next frame from a place of FORM ANIM on, for a picture with row bytes per row.
+pub fn frame_at(anim: &[u8], at: usize, row: usize) -> Next
+    ensures { λ r. ⌜ nextOf (now (anim .entry)) r ≡ frameAt (now (anim .entry)) row at ⌝ }
+{
+    let f = iff::next_form(anim, at);
+    match f {
+        Form::Faulty(why) => Next::Refused(why),
+        Form::Last => Next::Last,
+        Form::Ilbm { start, len, next } => frame_in(anim, start, len, next, row),
+    }
+}
