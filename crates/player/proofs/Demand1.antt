@@ -1,42 +1,52 @@
 -- Demand 1: a refused call changes neither picture, nor the state, nor the record buffer.
-use Prim.Native.Nat.{ℕ}
+use Prim.Native.Nat.{ℕ, suc}
 use native.Mathlib.Omega.{arith}
 use mathlib.Core.Bool.{Bool, true, false}
 use mathlib.Core.List.{List, []}
 use mathlib.Core.Option.{Option, none, some}
 use mathlib.Core.Path.{_≡_, refl}
 use lib.Dec.{leb}
-use lib.ListN.{length}
-use Rattle.laws.specs.Result.{Res, Res.ok, Res.fault, pick, answer}
+use lib.ListN.{length, take}
+use Rattle.laws.specs.Result.{Res, Res.ok, Res.fault, _>>=_, pick, answer}
+use Rattle.opening.specs.Open.{Film, opening, zeros, stateAfter, pictureAfter}
 use Rattle.record.specs.Record.{Past}
-use Rattle.player.specs.Step.{World, Answer.refused, Answer.tookOn, After, Made, advance, settle, stepOn, retreat, settleBack, stepBack}
-use Rattle.player.specs.Open.{Film, opening, zeros, stateAfter, pictureAfter}
+use Rattle.player.specs.Step.{World, Answer, Answer.refused, Answer.ended, Answer.tookOn, shownOf, hiddenOf, ready, Made, advance, Outcome, After, settle, onHidden, stepOn, retreat, settleBack, onShown, stepBack}
+use Rattle.player.proofs.Laws.{on-kept, on-put, back-kept, back-put}
 
 -- what a call left as it came: what it hands on, and the record buffer, into which nothing was written
 pub record Untouched (w : World) (o : After) : Type 0 where
   pub world : o .world ≡ w
   pub bytes : o .bytes ≡ []
 
+kept-on : (w : World) (x : Answer) (k : Option (List ℕ)) → Untouched w (onHidden w (record { answer = x; state = w .state; picture = hiddenOf w; bytes = []; work = k }))
+kept-on w x k = rw (on-kept w x k) (record { world = refl; bytes = refl })
+
 pub refused-on : (file : List ℕ) (w : World) (work room n : ℕ) → stepOn file w work room .answer ≡ refused n → Untouched w (stepOn file w work room)
 unfolding stepOn settle
-refused-on file w work room n e = go (advance file w work) e
+refused-on file w work room n e = go (ready file w work >>= λ _. advance (take (w .state .end) file) (w .state) (shownOf w) (hiddenOf w)) e
   where
-    fits : (m : Made) (t : Bool) (x y : After) → x .answer ≡ tookOn (m .report) → Untouched w y → (pick t x y) .answer ≡ refused n → Untouched w (pick t x y)
-    fits m true x y h u q = let z : _≡_ {A = ℕ} 0 1 = cc in absurd (omega arith)
-    fits m false x y h u q = u
+    took : Made → Outcome
+    took m = record { answer = tookOn (m .report); state = record { sizes = w .state .sizes; frame = suc (w .state .frame); next = m .next; end = w .state .end }; picture = m .picture; bytes = m .bytes; work = some (m .picture) }
 
-    go : (r : Res (Option Made)) → settle w room r .answer ≡ refused n → Untouched w (settle w room r)
-    go (fault k) q = record { world = refl; bytes = refl }
-    go (ok none) q = record { world = refl; bytes = refl }
-    go (ok (some m)) q = fits m (leb (length (m .bytes)) room) _ _ refl (record { world = refl; bytes = refl }) q
+    unfit : Made → Outcome
+    unfit m = record { answer = refused 51; state = w .state; picture = hiddenOf w; bytes = []; work = some (m .picture) }
+
+    fits : (m : Made) (t : Bool) → onHidden w (pick t (took m) (unfit m)) .answer ≡ refused n → Untouched w (onHidden w (pick t (took m) (unfit m)))
+    fits m true q = let k = rw (on-put w (took m)) at q in let z : _≡_ {A = ℕ} 0 1 = cc in absurd (omega arith)
+    fits m false q = kept-on w (refused 51) (some (m .picture))
+
+    go : (r : Res (Option Made)) → onHidden w (settle (w .state) (hiddenOf w) room r) .answer ≡ refused n → Untouched w (onHidden w (settle (w .state) (hiddenOf w) room r))
+    go (fault k) q = kept-on w (refused k) none
+    go (ok none) q = kept-on w ended none
+    go (ok (some m)) q = fits m (leb (length (m .bytes)) room) q
 
 pub refused-back : (w : World) (bytes : List ℕ) (n : ℕ) → stepBack w bytes .answer ≡ refused n → Untouched w (stepBack w bytes)
 unfolding stepBack settleBack
 refused-back w bytes n e = go (retreat w bytes) e
   where
-    go : (r : Res Past) → settleBack w r .answer ≡ refused n → Untouched w (settleBack w r)
-    go (fault k) q = record { world = refl; bytes = refl }
-    go (ok p) q = let z : _≡_ {A = ℕ} 0 1 = cc in absurd (omega arith)
+    go : (r : Res Past) → onShown w (settleBack (w .state) (shownOf w) r) .answer ≡ refused n → Untouched w (onShown w (settleBack (w .state) (shownOf w) r))
+    go (fault k) q = rw (back-kept w (refused k) none) (record { world = refl; bytes = refl })
+    go (ok p) q = let k = rw (back-put w (settleBack (w .state) (shownOf w) (ok p))) at q in let z : _≡_ {A = ℕ} 0 1 = cc in absurd (omega arith)
 
 -- a refused opening leaves both buffers, and answers six zeros for the state
 pub refused-open : (file : List ℕ) (a b n : ℕ) (p : List ℕ) → answer (opening file a b) ≡ fault n

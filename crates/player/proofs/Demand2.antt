@@ -4,20 +4,21 @@ use Prim.Native.Nat.{ℕ, suc, _≤_}
 use mathlib.Core.Bool.{Bool, true, false, not}
 use mathlib.Core.List.{List, []}
 use mathlib.Core.Option.{none, some}
-use mathlib.Core.Path.{_≡_, refl}
-use lib.ListN.{length}
+use mathlib.Core.Path.{_≡_, refl, _∙_}
+use lib.ListN.{length, take}
 use borrow.Author.Tests.{le-leb}
-use Rattle.laws.specs.Result.{Res, Res.ok, Res.fault, pick}
+use Rattle.laws.specs.Result.{Res, Res.ok, Res.fault, _>>=_, pick}
+use Rattle.state.specs.State.{rowBytes}
 use Rattle.delta.specs.Delta.{Op, shapeOf, readDelta, draw}
 use Rattle.record.specs.Record.{recordBytes}
-use Rattle.player.specs.Frame.{Frame, frameAt, change}
-use Rattle.player.specs.Step.{World, Answer.refused, Answer.tookOn, isOdd, shownOf, hiddenOf, ready, Made, makes, make, advance, shows, settle, stepOn}
-use Rattle.player.proofs.Laws.{odd-suc}
+use Rattle.frame.specs.Frame.{Frame, frameAt}
+use Rattle.player.specs.Step.{World, Answer.refused, Answer.tookOn, isOdd, shownOf, hiddenOf, ready, change, makes, make, advance, Outcome, settle, onHidden, stepOn}
+use Rattle.player.proofs.Laws.{odd-suc, on-kept, on-put}
 
 -- a step on with nothing else to refuse: the tests of state and buffers passed, and a frame with a good header stands at the next place
 pub record Free (file : List ℕ) (w : World) (work : ℕ) (x : Frame) : Type 0 where
   pub tests : ready file w work ≡ ok tt
-  pub there : frameAt file (w .state .sizes) (w .state .end) (w .state .next) ≡ ok (some x)
+  pub there : frameAt (take (w .state .end) file) (rowBytes (w .state .sizes .width)) (w .state .next) ≡ ok (some x)
 
 -- the ops of its delta, or its first fault
 abbrev pub opsOf : World → Frame → Res (List Op)
@@ -27,7 +28,8 @@ opsOf w x = readDelta (shapeOf (w .state .sizes) (x .header .items)) (x .dlta)
 abbrev pub newOf : World → Frame → List Op → List ℕ
 newOf w x ops = draw (shapeOf (w .state .sizes) (x .header .items)) (x .dlta) ops (hiddenOf w)
 
-free-advance : (file : List ℕ) (w : World) (work : ℕ) (x : Frame) → Free file w work x → advance file w work ≡ make w (some x)
+free-advance : (file : List ℕ) (w : World) (work : ℕ) (x : Frame) → Free file w work x
+    → (ready file w work >>= λ _. advance (take (w .state .end) file) (w .state) (shownOf w) (hiddenOf w)) ≡ make (w .state) (shownOf w) (hiddenOf w) (some x)
 unfolding advance
 free-advance file w work x f = rw (f .tests, f .there)
 
@@ -35,28 +37,38 @@ free-advance file w work x f = rw (f .tests, f .there)
 pub malformed : (file : List ℕ) (w : World) (work room : ℕ) (x : Frame) (n : ℕ) → Free file w work x → opsOf w x ≡ fault n
     → stepOn file w work room ≡ record { answer = refused n; world = w; bytes = []; work = none }
 unfolding stepOn settle change
-malformed file w work room x n f e = rw (free-advance file w work x f, e)
+malformed file w work room x n f e = rw (free-advance file w work x f, e) (on-kept w (refused n) none)
 
--- a well-formed one is taken, if its record fits
+-- what a well-formed one comes to: the new picture goes to the hidden buffer
+unfoldable pub takenAs : World → Frame → List ℕ → Outcome
+takenAs w x f = record {
+  answer = tookOn (makes (w .state) x (hiddenOf w) f .report);
+  state = record { sizes = w .state .sizes; frame = suc (w .state .frame); next = x .next; end = w .state .end };
+  picture = f;
+  bytes = recordBytes (suc (w .state .frame)) (w .state .next) (hiddenOf w) f;
+  work = some f;
+}
+
+-- it is taken, if its record fits
 pub taken : (file : List ℕ) (w : World) (work room : ℕ) (x : Frame) (ops : List Op) → Free file w work x → opsOf w x ≡ ok ops
     → length (recordBytes (suc (w .state .frame)) (w .state .next) (hiddenOf w) (newOf w x ops)) ≤ room
-    → stepOn file w work room ≡ record { answer = tookOn (makes w x (newOf w x ops) .report); world = shows w (makes w x (newOf w x ops)); bytes = makes w x (newOf w x ops) .bytes; work = some (newOf w x ops) }
-unfolding stepOn settle change makes
-taken file w work room x ops f e h = rw (free-advance file w work x f, e) (rw (le-leb (length (recordBytes (suc (w .state .frame)) (w .state .next) (hiddenOf w) (newOf w x ops))) room h))
+    → stepOn file w work room ≡ onHidden w (takenAs w x (newOf w x ops))
+unfolding stepOn settle change makes takenAs
+taken file w work room x ops f e h = rw (free-advance file w work x f, e) (rw (le-leb (length (recordBytes (suc (w .state .frame)) (w .state .next) (hiddenOf w) (newOf w x ops))) room h) refl)
 
 -- then the hidden picture is the new one and is shown, and the one that was shown is hidden as it was
-pub shown-new : (w : World) (m : Made) → shownOf (shows w m) ≡ m .picture
-unfolding shownOf shows
-shown-new w m = rw (odd-suc (w .state .frame)) (go (isOdd (w .state .frame)))
+pub shown-new : (w : World) (x : Frame) (f : List ℕ) → shownOf (onHidden w (takenAs w x f) .world) ≡ f
+unfolding shownOf takenAs
+shown-new w x f = rw (on-put w (takenAs w x f)) (rw (odd-suc (w .state .frame)) (go (isOdd (w .state .frame))))
   where
-    go : (t : Bool) → pick (not t) (pick t (w .a) (m .picture)) (pick t (m .picture) (w .b)) ≡ m .picture
+    go : (t : Bool) → pick (not t) (pick t (w .a) f) (pick t f (w .b)) ≡ f
     go true = refl
     go false = refl
 
-pub shown-kept : (w : World) (m : Made) → hiddenOf (shows w m) ≡ shownOf w
-unfolding shownOf hiddenOf shows
-shown-kept w m = rw (odd-suc (w .state .frame)) (go (isOdd (w .state .frame)))
+pub shown-kept : (w : World) (x : Frame) (f : List ℕ) → hiddenOf (onHidden w (takenAs w x f) .world) ≡ shownOf w
+unfolding shownOf hiddenOf takenAs
+shown-kept w x f = rw (on-put w (takenAs w x f)) (rw (odd-suc (w .state .frame)) (go (isOdd (w .state .frame))))
   where
-    go : (t : Bool) → pick (not t) (pick t (m .picture) (w .b)) (pick t (w .a) (m .picture)) ≡ pick t (w .a) (w .b)
+    go : (t : Bool) → pick (not t) (pick t f (w .b)) (pick t (w .a) f) ≡ pick t (w .a) (w .b)
     go true = refl
     go false = refl

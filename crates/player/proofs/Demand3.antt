@@ -12,25 +12,26 @@ use lib.ListN.{length, getD, take, drop, length-take}
 use lib.Seq.{take-append-seam}
 use borrow.Author.Tests.{le-leb, lt-ltb, eq-eqb, ne-eqb, ltb-true, leb-true}
 use Rattle.laws.specs.Result.{Res, Res.ok, Res.fault, _>>=_, need, orRefuse, answer, pick}
-use Rattle.laws.specs.ResultLaws.{Each, Each.each, Each.no-value, All, all-value, each-bind, each-need, each-is}
-use Rattle.iff.specs.Chunk.{find}
-use Rattle.iff.specs.Form.{Frame as Form}
+use Rattle.laws.specs.ResultLaws.{Each, Each.each, Each.no-value, All, all-value, each-any, each-bind, each-need, each-is}
+use Rattle.iff.specs.Chunk.{bytesOf}
+use Rattle.iff.specs.Form.{Frame as Form, chunksOf}
 use Rattle.iff.specs.FormLaws.{Closes, anim-closes, Follows, frame-follows}
-use Rattle.bmhd.specs.Header.{sizesAt, refusedAs, header}
-use Rattle.bmhd.specs.declared.Header.{Header}
+use Rattle.iff.specs.Pair.{findBoth}
+use Rattle.bmhd.specs.HeaderLaws.{header-sizes}
 use Rattle.ilbm.specs.BodyLaws.{body-length}
-use Rattle.state.specs.State.{frameBytes, frameLength, stateLength, opened}
+use Rattle.state.specs.State.{rowBytes, frameBytes, frameLength, stateLength, opened}
 use Rattle.state.specs.StateLaws.{Sound, sizes-sound}
 use Rattle.record.specs.Record.{Past, pastOf, restored}
 use Rattle.player.specs.declared.SteppedOn.{SteppedOn}
 use Rattle.player.specs.declared.SteppedBack.{SteppedBack}
-use Rattle.player.specs.Frame.{bytesOf, chunksOf, Frame, frameAt, change}
-use Rattle.player.specs.Step.{World, Report, Answer, Answer.refused, Answer.ended, Answer.tookOn, Answer.tookBack, isOdd, shownOf, hiddenOf, onOf, MeetsOn, MeetsBack, After, ready, Made, makes, make, advance, shows, settle, stepOn, retreat, settleBack, stepBack}
-use Rattle.player.specs.declared.OpenedFile.{OpenedFile}
-use Rattle.player.specs.Open.{Film, BMHD, BODY, firstIn, opening, stateAfter, pictureAfter, openingOf, MeetsOpen}
+use Rattle.frame.specs.Frame.{Frame, frameAt}
+use Rattle.frame.specs.FrameLaws.{Rises, frame-rises}
+use Rattle.player.specs.Step.{World, Report, Answer, Answer.refused, Answer.ended, Answer.tookOn, Answer.tookBack, isOdd, shownOf, hiddenOf, onOf, MeetsOn, MeetsBack, ready, change, Made, makes, make, advance, Outcome, After, settle, onHidden, stepOn, retreat, settleBack, onShown, stepBack}
+use Rattle.opening.specs.declared.OpenedFile.{OpenedFile}
+use Rattle.opening.specs.Open.{BMHD, BODY, First, firstOf, firstIn, firstFrom, Film, film, opening, stateAfter, pictureAfter, openingOf, MeetsOpen}
 use Rattle.player.specs.Model.{Call, Seen, here, past, drawn, placeAt, picture, recordAt, stands, reportAt, answerFor, answerAt, answerOn, answerFirst, moved, leaves, model}
 use Rattle.player.specs.Trace.{given, recordIn, untaken, seenOn, seenBack, Trace, Trace.none-left, Trace.stepped-on, Trace.stepped-back}
-use Rattle.player.proofs.Laws.{each-any, Rises, frame-rises, change-length, odd-suc}
+use Rattle.player.proofs.Laws.{change-length, odd-suc, on-kept, on-put, back-kept, back-put}
 use Rattle.record.specs.RoundLaws.{past-record}
 
 -- what opening gives
@@ -70,14 +71,14 @@ record Good (F : Film) (m : ℕ) : Type 0 where
 
 good : (F : Film) → Opened F → {m : ℕ} → Reached F m → Good F m
 good F o first = unfold picture placeAt in record { hidden = o .whole; shown = o .whole; low = o .from; high = o .inside; few = omega arith }
-good F o (next {m = m} x g p e c h) = go (good F o p) (frame-rises (F .file) (F .sizes) (F .end) (placeAt F m) x e)
+good F o (next {m = m} x g p e c h) = go (good F o p) (frame-rises (take (F .end) (F .file)) (rowBytes (F .sizes .width)) (placeAt F m) x e)
   where
-    go : Good F m → Rises (F .end) (placeAt F m) x → Good F (suc m)
+    go : Good F m → Rises (take (F .end) (F .file)) (placeAt F m) x → Good F (suc m)
     go k r = record {
       hidden = k .shown;
       shown = rw (picture-next F m x g e c) (change-length (F .sizes) x (picture F (suc m)) (picture F m) g c ∙ k .hidden);
       low = rw (place-next F m x e) (omega (arith, k .low, r .rises));
-      high = rw (place-next F m x e) (r .ends);
+      high = rw (place-next F m x e) (omega (arith, r .ends, length-take (F .end) (F .file)));
       few = h;
     }
 
@@ -138,37 +139,45 @@ ready-is F o m k work =
     let f : stands F m .state .frame ≡ suc m = unfold stands in refl in
     rw (state-good F o m k) (rw (e, f) (simp (le-leb (F .end) (length (F .file)) (o .inFile), eq-eqb (length (stands F m .a)) (size F) (left-long F m k), eq-eqb (length (stands F m .b)) (size F) (right-long F m k))))
 
-advance-is : (F : Film) → Opened F → (m : ℕ) → Good F m → (work : ℕ)
-    → advance (F .file) (stands F m) work ≡ (need (eqb work (size F)) 12 >>= λ _. need (ltb (suc m) 1_000_000) 53 >>= λ _. here F (placeAt F m) >>= λ o. make (stands F m) o)
-unfolding advance
-advance-is F o m k work =
-    let h : frameAt (F .file) (stands F m .state .sizes) (stands F m .state .end) (stands F m .state .next) ≡ here F (placeAt F m) = unfold stands in refl in
-    rw (ready-is F o m k work, h) (go (eqb work (size F)) (ltb (suc m) 1_000_000))
+-- what a step on at frame m + 1 comes to before its record is written
+ahead : Film → ℕ → ℕ → Res (Option Made)
+ahead F m work = ready (F .file) (stands F m) work >>= λ _. advance (take (stands F m .state .end) (F .file)) (stands F m .state) (shownOf (stands F m)) (hiddenOf (stands F m))
+
+-- what a frame makes there
+madeOf : Film → ℕ → Option Frame → Res (Option Made)
+madeOf F m o = make (stands F m .state) (picture F (suc m)) (picture F m) o
+
+ahead-is : (F : Film) → Opened F → (m : ℕ) → Good F m → (work : ℕ) → ahead F m work ≡ (need (eqb work (size F)) 12 >>= λ _. need (ltb (suc m) 1_000_000) 53 >>= λ _. here F (placeAt F m) >>= λ o. madeOf F m o)
+unfolding ahead madeOf advance
+ahead-is F o m k work =
+    let h : frameAt (take (stands F m .state .end) (F .file)) (rowBytes (stands F m .state .sizes .width)) (stands F m .state .next) ≡ here F (placeAt F m) = unfold stands in refl in
+    rw (ready-is F o m k work, h, shown-is F m, hidden-is F m) (go (eqb work (size F)) (ltb (suc m) 1_000_000))
   where
-    go : (s t : Bool) → (need s 12 >>= (λ _. need t 53) >>= λ _. here F (placeAt F m) >>= λ o. make (stands F m) o) ≡ (need s 12 >>= λ _. need t 53 >>= λ _. here F (placeAt F m) >>= λ o. make (stands F m) o)
+    go : (s t : Bool) → (need s 12 >>= (λ _. need t 53) >>= λ _. here F (placeAt F m) >>= λ o. madeOf F m o) ≡ (need s 12 >>= λ _. need t 53 >>= λ _. here F (placeAt F m) >>= λ o. madeOf F m o)
     go true true = refl
     go true false = refl
     go false t = refl
 
 -- what a step on makes at frame m + 1 is frame m + 2
 makes-is : (F : Film) (m : ℕ) (x : Frame) (g : List ℕ) → here F (placeAt F m) ≡ ok (some x) → change (F .sizes) x (picture F (suc m)) (picture F m) ≡ ok g
-    → makes (stands F m) x g ≡ record { picture = picture F (suc (suc m)); next = placeAt F (suc m); report = reportAt F m x; bytes = recordAt F m }
+    → makes (stands F m .state) x (picture F m) g ≡ record { picture = picture F (suc (suc m)); next = placeAt F (suc m); report = reportAt F m x; bytes = recordAt F m }
 unfolding makes reportAt recordAt
 makes-is F m x g e c =
     let f : stands F m .state .frame ≡ suc m = unfold stands in refl in
     let n : stands F m .state .next ≡ placeAt F m = unfold stands in refl in
-    rw (hidden-is F m, f, n, picture-next F m x g e c, place-next F m x e)
+    rw (f, n, picture-next F m x g e c, place-next F m x e)
 
-make-is : (F : Film) (m : ℕ) (x : Frame) → make (stands F m) (some x) ≡ (change (F .sizes) x (picture F (suc m)) (picture F m) >>= λ f. ok (some (makes (stands F m) x f)))
+make-is : (F : Film) (m : ℕ) (x : Frame) → madeOf F m (some x) ≡ (change (F .sizes) x (picture F (suc m)) (picture F m) >>= λ f. ok (some (makes (stands F m .state) x (picture F m) f)))
+unfolding madeOf
 make-is F m x =
     let z : stands F m .state .sizes ≡ F .sizes = unfold stands in refl in
-    rw (shown-is F m, hidden-is F m, z)
+    rw z
 
-make-fault : (F : Film) (m : ℕ) (x : Frame) (n : ℕ) → change (F .sizes) x (picture F (suc m)) (picture F m) ≡ fault n → make (stands F m) (some x) ≡ fault n
+make-fault : (F : Film) (m : ℕ) (x : Frame) (n : ℕ) → change (F .sizes) x (picture F (suc m)) (picture F m) ≡ fault n → madeOf F m (some x) ≡ fault n
 make-fault F m x n c = make-is F m x ∙ rw c
 
 make-ok : (F : Film) (m : ℕ) (x : Frame) (g : List ℕ) → here F (placeAt F m) ≡ ok (some x) → change (F .sizes) x (picture F (suc m)) (picture F m) ≡ ok g
-    → make (stands F m) (some x) ≡ ok (some (record { picture = picture F (suc (suc m)); next = placeAt F (suc m); report = reportAt F m x; bytes = recordAt F m }))
+    → madeOf F m (some x) ≡ ok (some (record { picture = picture F (suc (suc m)); next = placeAt F (suc m); report = reportAt F m x; bytes = recordAt F m }))
 make-ok F m x g e c = make-is F m x ∙ rw c (ap (λ (k : Made). ok (some k)) (makes-is F m x g e c))
 
 -- the records not yet taken back at frame m + 1, the latest first
@@ -183,58 +192,68 @@ pub record Comes (F : Film) (m m′ : ℕ) (x : Answer) (rec : List ℕ) (o : Af
   pub bytes : o .bytes ≡ rec
   pub there : Reached F m′
 
-shows-is : (F : Film) (m : ℕ) (r : Report) (bytes : List ℕ) → shows (stands F m) (record { picture = picture F (suc (suc m)); next = placeAt F (suc m); report = r; bytes = bytes }) ≡ stands F (suc m)
-unfolding shows stands
-shows-is F m r bytes =
-    rw (odd-suc (suc m), ← (pick-left (isOdd (suc m)) (picture F (suc m)) (picture F m) (picture F (suc (suc m)))), ← (pick-right (isOdd (suc m)) (picture F (suc m)) (picture F m) (picture F (suc (suc m)))))
+-- a step on that is taken stands at frame m + 2
+took : Film → ℕ → Frame → Outcome
+took F m x = record {
+  answer = tookOn (reportAt F m x);
+  state = record { sizes = stands F m .state .sizes; frame = suc (stands F m .state .frame); next = placeAt F (suc m); end = stands F m .state .end };
+  picture = picture F (suc (suc m));
+  bytes = recordAt F m;
+  work = some (picture F (suc (suc m)));
+}
+
+took-stands : (F : Film) (m : ℕ) (x : Frame) → onHidden (stands F m) (took F m x) ≡ record { answer = tookOn (reportAt F m x); world = stands F (suc m); bytes = recordAt F m; work = some (picture F (suc (suc m))) }
+unfolding took stands
+took-stands F m x =
+    on-put (stands F m) (took F m x)
+    ∙ rw (odd-suc (suc m), ← (pick-left (isOdd (suc m)) (picture F (suc m)) (picture F m) (picture F (suc (suc m)))), ← (pick-right (isOdd (suc m)) (picture F (suc m)) (picture F m) (picture F (suc (suc m)))))
 
 -- stepping on
 module _ (F : Film) (op : Opened F) (m : ℕ) (p : Reached F m) (room : ℕ) where
   Step : Res (Option Made) → Answer → Type 0
-  Step r y = Comes F m (moved m y) y (leaves F m y) (settle (stands F m) room r)
+  Step r y = Comes F m (moved m y) y (leaves F m y) (onHidden (stands F m) (settle (stands F m .state) (hiddenOf (stands F m)) room r))
 
   step-refused : (n : ℕ) → Step (fault n) (refused n)
   unfolding Step moved leaves settle
-  step-refused n = record { answer = refl; world = refl; bytes = refl; there = p }
+  step-refused n = rw (on-kept (stands F m) (refused n) none) (record { answer = refl; world = refl; bytes = refl; there = p })
 
   step-ended : Step (ok none) ended
   unfolding Step moved leaves settle
-  step-ended = record { answer = refl; world = refl; bytes = refl; there = p }
+  step-ended = rw (on-kept (stands F m) ended none) (record { answer = refl; world = refl; bytes = refl; there = p })
 
   step-fits : (x : Frame) (g : List ℕ) → here F (placeAt F m) ≡ ok (some x) → change (F .sizes) x (picture F (suc m)) (picture F m) ≡ ok g → suc m < 1_000_000
       → Step (ok (some (record { picture = picture F (suc (suc m)); next = placeAt F (suc m); report = reportAt F m x; bytes = recordAt F m }))) (pick (leb (length (recordAt F m)) room) (tookOn (reportAt F m x)) (refused 51))
-  unfolding Step moved leaves settle
+  unfolding Step moved leaves settle took
   step-fits x g e c h = go (leb (length (recordAt F m)) room)
     where
-      made : Made
-      made = record { picture = picture F (suc (suc m)); next = placeAt F (suc m); report = reportAt F m x; bytes = recordAt F m }
+      unfit : Outcome
+      unfit = record { answer = refused 51; state = stands F m .state; picture = hiddenOf (stands F m); bytes = []; work = some (picture F (suc (suc m))) }
 
       go : (t : Bool) → Comes F m (moved m (pick t (tookOn (reportAt F m x)) (refused 51))) (pick t (tookOn (reportAt F m x)) (refused 51)) (leaves F m (pick t (tookOn (reportAt F m x)) (refused 51)))
-          (pick t (record { answer = tookOn (reportAt F m x); world = shows (stands F m) made; bytes = recordAt F m; work = some (picture F (suc (suc m))) })
-          (record { answer = refused 51; world = stands F m; bytes = []; work = some (picture F (suc (suc m))) }))
-      go true = record { answer = refl; world = shows-is F m (reportAt F m x) (recordAt F m); bytes = refl; there = next x g p e c h }
-      go false = record { answer = refl; world = refl; bytes = refl; there = p }
+          (onHidden (stands F m) (pick t (took F m x) unfit))
+      go true = rw (took-stands F m x) (record { answer = refl; world = refl; bytes = refl; there = next x g p e c h })
+      go false = rw (on-kept (stands F m) (refused 51) (some (picture F (suc (suc m))))) (record { answer = refl; world = refl; bytes = refl; there = p })
 
   step-change : (x : Frame) → here F (placeAt F m) ≡ ok (some x) → suc m < 1_000_000 → (c : Res (List ℕ)) → change (F .sizes) x (picture F (suc m)) (picture F m) ≡ c
-      → Step (make (stands F m) (some x)) (answerAt F m room (ok (some x)))
+      → Step (madeOf F m (some x)) (answerAt F m room (ok (some x)))
   unfolding answerAt
   step-change x e h (fault n) c = rw (make-fault F m x n c, c) (step-refused n)
   step-change x e h (ok g) c = rw (make-ok F m x g e c, c) (step-fits x g e c h)
 
-  step-here : suc m < 1_000_000 → (o : Res (Option Frame)) → here F (placeAt F m) ≡ o → Step (o >>= λ q. make (stands F m) q) (answerAt F m room o)
+  step-here : suc m < 1_000_000 → (o : Res (Option Frame)) → here F (placeAt F m) ≡ o → Step (o >>= λ q. madeOf F m q) (answerAt F m room o)
   step-here h (fault n) e = unfold answerAt in step-refused n
-  step-here h (ok none) e = unfold answerAt in step-ended
+  step-here h (ok none) e = unfold answerAt madeOf in step-ended
   step-here h (ok (some x)) e = step-change x e h (change (F .sizes) x (picture F (suc m)) (picture F m)) refl
 
   step-tests : (s t : Bool) → ltb (suc m) 1_000_000 ≡ t
-      → Step (need s 12 >>= λ _. need t 53 >>= λ _. here F (placeAt F m) >>= λ o. make (stands F m) o) (pick s (pick t (answerAt F m room (here F (placeAt F m))) (refused 53)) (refused 12))
+      → Step (need s 12 >>= λ _. need t 53 >>= λ _. here F (placeAt F m) >>= λ o. madeOf F m o) (pick s (pick t (answerAt F m room (here F (placeAt F m))) (refused 53)) (refused 12))
   step-tests true true e = step-here (ltb-true (suc m) 1_000_000 e) (here F (placeAt F m)) refl
   step-tests true false e = step-refused 53
   step-tests false t e = step-refused 12
 
   pub on-comes : (work : ℕ) → let y : Answer = answerOn F m work room in Comes F m (moved m y) y (leaves F m y) (stepOn (F .file) (stands F m) work room)
-  unfolding stepOn answerOn Step
-  on-comes work = rw (advance-is F op m (good F op p) work) (step-tests (eqb work (size F)) (ltb (suc m) 1_000_000) refl)
+  unfolding stepOn answerOn Step ahead
+  on-comes work = rw (ahead-is F op m (good F op p) work) (step-tests (eqb work (size F)) (ltb (suc m) 1_000_000) refl)
 
 -- what is left of the tests of a step back
 retreat-is : (F : Film) → Opened F → (m : ℕ) → Good F m → (bytes : List ℕ) → retreat (stands F m) bytes ≡ restored bytes (picture F (suc m)) (suc m) (placeAt F m)
@@ -264,16 +283,20 @@ back-first F o bytes = rw (retreat-is F o 0 (good F o first) bytes) (go (pastOf 
     one : picture F 1 ≡ F .first
     one = unfold picture in refl
 
-    go : (q : Option Past) → pastOf bytes (F .first) ≡ q → Comes F 0 0 (answerFirst (pastOf bytes (F .first))) [] (settleBack (stands F 0) (restored bytes (picture F 1) 1 (placeAt F 0)))
-    go none e = rw (one, e, restored-none bytes (F .first) 1 (placeAt F 0) e) (unfold settleBack in record { answer = refl; world = refl; bytes = refl; there = first })
-    go (some p) e = rw (one, e, restored-first bytes (F .first) (placeAt F 0) p e) (unfold settleBack in record { answer = refl; world = refl; bytes = refl; there = first })
+    go : (q : Option Past) → pastOf bytes (F .first) ≡ q → Comes F 0 0 (answerFirst (pastOf bytes (F .first))) [] (onShown (stands F 0) (settleBack (stands F 0 .state) (shownOf (stands F 0)) (restored bytes (picture F 1) 1 (placeAt F 0))))
+    go none e = rw (one, e, restored-none bytes (F .first) 1 (placeAt F 0) e) (unfold settleBack in rw (back-kept (stands F 0) (refused 61) none) (record { answer = refl; world = refl; bytes = refl; there = first }))
+    go (some p) e = rw (one, e, restored-first bytes (F .first) (placeAt F 0) p e) (unfold settleBack in rw (back-kept (stands F 0) (refused 62) none) (record { answer = refl; world = refl; bytes = refl; there = first }))
 
 -- what was put back stands as at the frame before
-back-is : (F : Film) (m : ℕ) → settleBack (stands F (suc m)) (ok (record { frame = suc (suc m); place = placeAt F m; picture = picture F m })) .world ≡ stands F m
-unfolding settleBack stands
+backTo : Film → ℕ → Past
+backTo F m = record { frame = suc (suc m); place = placeAt F m; picture = picture F m }
+
+back-is : (F : Film) (m : ℕ) → onShown (stands F (suc m)) (settleBack (stands F (suc m) .state) (shownOf (stands F (suc m))) (ok (backTo F m))) ≡ record { answer = tookBack; world = stands F m; bytes = []; work = none }
+unfolding settleBack stands backTo
 back-is F m =
     let e : suc (suc m) - 1 ≡ suc m = omega arith in
-    rw (e, odd-suc (suc m), pick-back-left (isOdd (suc m)) (picture F m) (picture F (suc (suc m))) (picture F (suc m)), pick-back-right (isOdd (suc m)) (picture F m) (picture F (suc (suc m))) (picture F (suc m)))
+    back-put (stands F (suc m)) (settleBack (stands F (suc m) .state) (shownOf (stands F (suc m))) (ok (backTo F m)))
+    ∙ rw (e, odd-suc (suc m), pick-back-left (isOdd (suc m)) (picture F m) (picture F (suc (suc m))) (picture F (suc m)), pick-back-right (isOdd (suc m)) (picture F m) (picture F (suc (suc m))) (picture F (suc m)))
 
 -- stepping back with the unaltered record
 restored-ok : (bytes shown : List ℕ) (n k : ℕ) (p : Past) → pastOf bytes shown ≡ some p → 2 ≤ n → p .frame ≡ n → 12 ≤ p .place → p .place < k → restored bytes shown n k ≡ ok p
@@ -282,20 +305,16 @@ restored-ok bytes shown n k p e h f l u = rw e (simp (le-leb 2 (p .frame) (omega
 
 pub back-taken : (F : Film) → Opened F → {m : ℕ} → Reached F (suc m) → Comes F (suc m) m tookBack [] (stepBack (stands F (suc m)) (recordAt F m))
 unfolding stepBack
-back-taken F o {m} (next x g p e c h) = go (good F o p) (good F o (next x g p e c h)) (frame-rises (F .file) (F .sizes) (F .end) (placeAt F m) x e)
+back-taken F o {m} (next x g p e c h) = go (good F o p) (good F o (next x g p e c h)) (frame-rises (take (F .end) (F .file)) (rowBytes (F .sizes .width)) (placeAt F m) x e)
   where
-    taken : settleBack (stands F (suc m)) (ok (record { frame = suc (suc m); place = placeAt F m; picture = picture F m })) .world ≡ stands F m
-        → Comes F (suc m) m tookBack [] (settleBack (stands F (suc m)) (ok (record { frame = suc (suc m); place = placeAt F m; picture = picture F m })))
-    taken w = record { answer = unfold settleBack in refl; world = w; bytes = unfold settleBack in refl; there = p }
-
-    go : Good F m → Good F (suc m) → Rises (F .end) (placeAt F m) x → Comes F (suc m) m tookBack [] (settleBack (stands F (suc m)) (retreat (stands F (suc m)) (recordAt F m)))
+    go : Good F m → Good F (suc m) → Rises (take (F .end) (F .file)) (placeAt F m) x → Comes F (suc m) m tookBack [] (onShown (stands F (suc m)) (settleBack (stands F (suc m) .state) (shownOf (stands F (suc m))) (retreat (stands F (suc m)) (recordAt F m))))
     go k k′ r =
-        let q : pastOf (recordAt F m) (picture F (suc (suc m))) ≡ some (record { frame = suc (suc m); place = placeAt F m; picture = picture F m }) =
-        unfold recordAt in past-record (suc (suc m)) (placeAt F m) (picture F m) (picture F (suc (suc m))) (omega (arith, k′ .few)) (omega (arith, k .high, o .short)) (k .hidden ∙ sym (k′ .shown)) (omega (arith, k .hidden, k′ .shown, o .sound .length-most)) in
+        let q : pastOf (recordAt F m) (picture F (suc (suc m))) ≡ some (backTo F m) =
+        unfold recordAt backTo in past-record (suc (suc m)) (placeAt F m) (picture F m) (picture F (suc (suc m))) (omega (arith, k′ .few)) (omega (arith, k .high, o .short)) (k .hidden ∙ sym (k′ .shown)) (omega (arith, k .hidden, k′ .shown, o .sound .length-most)) in
         let u : placeAt F m < placeAt F (suc m) = rw (place-next F m x e) (r .rises) in
-        let w : retreat (stands F (suc m)) (recordAt F m) ≡ ok (record { frame = suc (suc m); place = placeAt F m; picture = picture F m }) =
-        retreat-is F o (suc m) k′ (recordAt F m) ∙ restored-ok (recordAt F m) (picture F (suc (suc m))) (suc (suc m)) (placeAt F (suc m)) _ q (omega arith) refl (k .low) u in
-        rw w (taken (back-is F m))
+        let w : retreat (stands F (suc m)) (recordAt F m) ≡ ok (backTo F m) =
+        retreat-is F o (suc m) k′ (recordAt F m) ∙ restored-ok (recordAt F m) (picture F (suc (suc m))) (suc (suc m)) (placeAt F (suc m)) (backTo F m) q (omega arith) (unfold backTo in refl) (unfold backTo in k .low) (unfold backTo in u) in
+        rw (w, back-is F m) (record { answer = refl; world = refl; bytes = refl; there = p })
 
 -- a taken step on reports its record's length
 record Reports (F : Film) (m : ℕ) (x : Answer) : Type 0 where
@@ -421,43 +440,44 @@ pub record OpenedAs (file : List ℕ) (F : Film) : Type 0 where
   pub same : F .file ≡ file
   pub opened : Opened F
 
-header-sizes : (s : List ℕ) → Each (λ (h : Header). frameLength (h .sizes) ≡ ok (h .length)) (header s)
-unfolding header
-header-sizes s =
-    each-need (eqb (length s) 20) 24 _ λ _.
-    each-bind (go (frameLength (sizesAt s)) refl) λ n e.
-    each-need (not (eqb (getD s 9 0) 1)) 24 _ λ _.
-    each-need (leb (getD s 10 0) 1) 24 _ λ _.
-    each e
-  where
-    go : (r : Res ℕ) → frameLength (sizesAt s) ≡ r → Each (λ n. frameLength (sizesAt s) ≡ ok n) (refusedAs 24 r)
-    go (ok n) e = each e
-    go (fault m) e = no-value
+-- what a first picture gives
+record FirstGood (end : ℕ) (p : First) : Type 0 where
+  sizes : frameLength (p .sizes) ≡ ok (frameBytes (p .sizes))
+  sound : Sound (p .sizes) (frameBytes (p .sizes))
+  whole : length (p .picture) ≡ frameBytes (p .sizes)
+  from : 12 ≤ p .next
+  inside : p .next ≤ end
 
-first-opened : (file : List ℕ) (end a b : ℕ) (x : Form) → 12 ≤ x .next → x .next ≤ end → end ≤ length file → end ≤ 2_147_483_647 → Each (OpenedAs file) (firstIn file end a b x)
-unfolding firstIn
-first-opened file end a b x h l u s =
-    each-any (find BMHD (chunksOf file x)) λ h′. each-any (find BODY (chunksOf file x)) λ d′. each-any (orRefuse 23 h′) λ p. each-any (orRefuse 23 d′) λ q.
-    each-bind (header-sizes (bytesOf (chunksOf file x) p)) λ z e.
+first-good : (end : ℕ) (h d : List ℕ) (nx a b : ℕ) → 12 ≤ nx → nx ≤ end → Each (FirstGood end) (firstOf h d nx a b)
+unfolding firstOf
+first-good end h d nx a b l u =
+    each-bind (header-sizes h) λ z e.
     each-need (eqb a (z .length)) 12 _ λ _. each-need (eqb b (z .length)) 12 _ λ _.
-    each-bind (body-length (z .packed) (z .sizes) (bytesOf (chunksOf file x) q)) λ f w.
+    each-bind (body-length (z .packed) (z .sizes) d) λ f w.
     let k : Sound (z .sizes) (z .length) = each-is e (sizes-sound (z .sizes)) in
     let n : z .length ≡ frameBytes (z .sizes) = k .length in
-    each (record { same = refl; opened = record { sizes = rw n at e; sound = rw n at k; whole = w; from = h; inside = l; short = s; inFile = u } })
+    each (record { sizes = rw n at e; sound = rw n at k; whole = w; from = l; inside = u })
+
+in-good : (end : ℕ) (s : List ℕ) (nx a b : ℕ) → 12 ≤ nx → nx ≤ end → Each (FirstGood end) (firstIn s nx a b)
+unfolding firstIn
+in-good end s nx a b l u = each-any (findBoth BMHD BODY s) λ o. each-any (orRefuse 23 o) λ p. first-good end (bytesOf s (p .first)) (bytesOf s (p .second)) nx a b l u
+
+from-good : (end : ℕ) (s : List ℕ) (a b : ℕ) → length s ≤ end → Each (FirstGood end) (firstFrom s a b)
+unfolding firstFrom
+from-good end s a b h = each-bind (frame-follows s 12) go
+  where
+    go : (o : Option Form) → All (Follows s 12) o → Each (FirstGood end) (orRefuse 23 o >>= λ x. firstIn (chunksOf s x) (x .next) a b)
+    go none f = no-value
+    go (some x) f = let k = all-value f in in-good end (chunksOf s x) (x .next) a b (omega (arith, k .rises)) (omega (arith, k .ends))
 
 pub opening-opened : (file : List ℕ) (a b : ℕ) → Each (OpenedAs file) (opening file a b)
 unfolding opening
 opening-opened file a b =
     each-need (leb (length file) 2_147_483_647) 13 _ λ l.
     each-bind (anim-closes file) λ end c.
-    each-bind (frame-follows (take end file) 12) λ o f.
-    go end c (leb-true (length file) 2_147_483_647 l) o f
-  where
-    go : (end : ℕ) → Closes file end → length file ≤ 2_147_483_647 → (o : Option Form) → All (Follows (take end file) 12) o → Each (OpenedAs file) (orRefuse 23 o >>= λ x. firstIn file end a b x)
-    go end c l none f = no-value
-    go end c l (some x) f =
-        let k = all-value f in
-        first-opened file end a b x (omega (arith, k .rises)) (omega (arith, k .ends, length-take end file)) (c .most) (omega (arith, c .most))
+    each-bind (from-good end (take end file) a b (omega (arith, length-take end file))) λ p g.
+    let m : length file ≤ 2_147_483_647 = leb-true (length file) 2_147_483_647 l in
+    each (record { same = refl; opened = record { sizes = g .sizes; sound = g .sound; whole = g .whole; from = g .from; inside = g .inside; short = omega (arith, c .most, m); inFile = c .most } })
 
 -- the world after an opening is the model's first
 opened-stands : (F : Film) → _≡_ {A = World} (record { a = F .first; b = F .first; state = opened (F .sizes) (F .start) (F .end) }) (stands F 0)

@@ -1,5 +1,3 @@
-pub mod Frame
 pub mod Step
-pub mod Open
 pub mod Model
 pub mod Trace

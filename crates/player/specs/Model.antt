@@ -4,15 +4,15 @@ use Prim.Native.Nat.{ℕ, zero, suc}
 use mathlib.Core.List.{List, [], _∷_}
 use mathlib.Core.Option.{Option, none, some}
 use lib.Dec.{leb, ltb, eqb}
-use lib.ListN.{length}
+use lib.ListN.{length, take}
 use Rattle.laws.specs.Result.{Res, Res.ok, Res.fault, pick, orKeep}
-use Rattle.state.specs.State.{frameBytes}
+use Rattle.state.specs.State.{rowBytes, frameBytes}
 use Rattle.runs.specs.Runs.{runsOf}
 use Rattle.record.specs.RunList.{changes}
 use Rattle.record.specs.Record.{recordBytes, Past, pastOf}
-use Rattle.player.specs.Frame.{Frame, frameAt, change}
-use Rattle.player.specs.Step.{World, Report, Answer, Answer.refused, Answer.ended, Answer.tookOn, Answer.tookBack, isOdd}
-use Rattle.player.specs.Open.{Film}
+use Rattle.frame.specs.Frame.{Frame, frameAt}
+use Rattle.opening.specs.Open.{Film}
+use Rattle.player.specs.Step.{World, Report, Answer, Answer.refused, Answer.ended, Answer.tookOn, Answer.tookBack, isOdd, change}
 
 -- a call, with what it is lent besides the file, the pictures and the state: the lengths of the work and record buffers, or bytes
 pub data Call : Type 0 where
@@ -27,7 +27,7 @@ pub record Seen : Type 0 where
 
 -- the frame that stands at a place
 abbrev pub here : Film → ℕ → Res (Option Frame)
-here F at = frameAt (F .file) (F .sizes) (F .end) at
+here F at = frameAt (take (F .end) (F .file)) (rowBytes (F .sizes .width)) at
 
 -- the place past that frame, or the place itself where there is none
 unfoldable pub past : ℕ → Res (Option Frame) → ℕ

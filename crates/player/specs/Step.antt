@@ -5,15 +5,17 @@ use mathlib.Core.List.{List, [], _++_}
 use mathlib.Core.Option.{Option, none, some}
 use mathlib.Core.Path.{_≡_}
 use lib.Dec.{leb, ltb, eqb}
-use lib.ListN.{length, drop}
+use lib.ListN.{length, take, drop}
 use Rattle.laws.specs.Result.{Res, Res.ok, Res.fault, _>>=_, need, pick}
 use Rattle.refusal.specs.Number.{numberOf}
-use Rattle.state.specs.State.{stateLength}
+use Rattle.state.specs.State.{rowBytes, stateLength}
+use Rattle.state.specs.declared.Sizes.{Sizes}
 use Rattle.state.specs.declared.State.{State}
 use Rattle.runs.specs.Runs.{runsOf}
 use Rattle.record.specs.RunList.{changes}
 use Rattle.record.specs.Record.{recordBytes, Past, restored}
-use Rattle.player.specs.Frame.{Frame, frameAt, change}
+use Rattle.delta.specs.Delta.{shapeOf, readDelta, draw}
+use Rattle.frame.specs.Frame.{Frame, frameAt}
 use Rattle.player.specs.declared.On.{On}
 use Rattle.player.specs.declared.On.the-variants.{Taken, End, Refused}
 use Rattle.player.specs.declared.SteppedOn.{SteppedOn}
@@ -51,17 +53,6 @@ shownOf w = pick (isOdd (w .state .frame)) (w .a) (w .b)
 unfoldable pub hiddenOf : World → List ℕ
 hiddenOf w = pick (isOdd (w .state .frame)) (w .b) (w .a)
 
--- what a call leaves: its answer, what it hands on, a record that was written, and a frame that stands in the work buffer
-pub record After : Type 0 where
-  pub answer : Answer
-  pub world : World
-  pub bytes : List ℕ
-  pub work : Option (List ℕ)
-
--- a call that isn't taken leaves all as it came
-abbrev pub stays : World → Answer → After
-stays w x = record { answer = x; world = w; bytes = []; work = none }
-
 -- 11, 12 and 53 of stepping on
 unfoldable pub ready : List ℕ → World → ℕ → Res (Unit {0})
 ready file w work =
@@ -72,6 +63,12 @@ ready file w work =
     need (eqb work n) 12 >>= λ _.
     need (ltb (w .state .frame) 1_000_000) 53
 
+-- what a frame makes of the shown and the hidden picture: it builds on the hidden one
+unfoldable pub change : Sizes → Frame → List ℕ → List ℕ → Res (List ℕ)
+change z x shown hidden =
+    readDelta (shapeOf z (x .header .items)) (x .dlta) >>= λ ops.
+    ok (draw (shapeOf z (x .header .items)) (x .dlta) ops hidden)
+
 -- a step on that a record buffer may still refuse: the new picture, the next place, what is reported, and the record
 pub record Made : Type 0 where
   pub picture : List ℕ
@@ -79,50 +76,75 @@ pub record Made : Type 0 where
   pub report : Report
   pub bytes : List ℕ
 
-unfoldable pub makes : World → Frame → List ℕ → Made
-makes w x f = record {
+unfoldable pub makes : State → Frame → List ℕ → List ℕ → Made
+makes s x hidden f = record {
   picture = f;
   next = x .next;
   report = record {
     method = x .header .method;
     time = x .header .time;
-    changed = changes (runsOf (hiddenOf w) f);
-    length = length (recordBytes (suc (w .state .frame)) (w .state .next) (hiddenOf w) f);
+    changed = changes (runsOf hidden f);
+    length = length (recordBytes (suc (s .frame)) (s .next) hidden f);
   };
-  bytes = recordBytes (suc (w .state .frame)) (w .state .next) (hiddenOf w) f;
+  bytes = recordBytes (suc (s .frame)) (s .next) hidden f;
 }
 
-abbrev pub make : World → Option Frame → Res (Option Made)
-make w none = ok none
-make w (some x) = change (w .state .sizes) x (shownOf w) (hiddenOf w) >>= λ f. ok (some (makes w x f))
+abbrev pub make : State → List ℕ → List ℕ → Option Frame → Res (Option Made)
+make s shown hidden none = ok none
+make s shown hidden (some x) = change (s .sizes) x shown hidden >>= λ f. ok (some (makes s x hidden f))
 
--- what a step on comes to before its record is written: a refusal, no frame left, or the step
-unfoldable pub advance : List ℕ → World → ℕ → Res (Option Made)
-advance file w work =
-    ready file w work >>= λ _.
-    frameAt file (w .state .sizes) (w .state .end) (w .state .next) >>= λ o.
-    make w o
+-- the frame at the next place of FORM ANIM, and what it makes of the pictures
+unfoldable pub advance : List ℕ → State → List ℕ → List ℕ → Res (Option Made)
+advance anim s shown hidden = frameAt anim (rowBytes (s .sizes .width)) (s .next) >>= make s shown hidden
 
--- the hidden picture becomes the new one and is shown
-unfoldable pub shows : World → Made → World
-shows w m = record {
-  a = pick (isOdd (w .state .frame)) (w .a) (m .picture);
-  b = pick (isOdd (w .state .frame)) (m .picture) (w .b);
-  state = record { sizes = w .state .sizes; frame = suc (w .state .frame); next = m .next; end = w .state .end };
-}
+-- what a call comes to: its answer, the state after it, the picture in the one buffer that it may change, a record that was
+-- written, and a frame that stands in the work buffer
+pub record Outcome : Type 0 where
+  pub answer : Answer
+  pub state : State
+  pub picture : List ℕ
+  pub bytes : List ℕ
+  pub work : Option (List ℕ)
+
+-- a call that isn't taken leaves all as it came
+abbrev pub stays : State → List ℕ → Answer → Outcome
+stays s p x = record { answer = x; state = s; picture = p; bytes = []; work = none }
 
 -- a record that doesn't fit is 51, and leaves the frame in the work buffer
-unfoldable pub settle : World → ℕ → Res (Option Made) → After
-settle w room (fault n) = stays w (refused n)
-settle w room (ok none) = stays w ended
-settle w room (ok (some m)) =
+unfoldable pub settle : State → List ℕ → ℕ → Res (Option Made) → Outcome
+settle s hidden room (fault n) = stays s hidden (refused n)
+settle s hidden room (ok none) = stays s hidden ended
+settle s hidden room (ok (some m)) =
     pick (leb (length (m .bytes)) room)
-    (record { answer = tookOn (m .report); world = shows w m; bytes = m .bytes; work = some (m .picture) })
-    (record { answer = refused 51; world = w; bytes = []; work = some (m .picture) })
+    (record { answer = tookOn (m .report); state = record { sizes = s .sizes; frame = suc (s .frame); next = m .next; end = s .end }; picture = m .picture; bytes = m .bytes; work = some (m .picture) })
+    (record { answer = refused 51; state = s; picture = hidden; bytes = []; work = some (m .picture) })
+
+-- what a call leaves: its answer, what it hands on, a record that was written, and a frame that stands in the work buffer
+pub record After : Type 0 where
+  pub answer : Answer
+  pub world : World
+  pub bytes : List ℕ
+  pub work : Option (List ℕ)
+
+-- the one buffer is A, or B
+abbrev pub inA : World → Outcome → After
+inA w o = record { answer = o .answer; world = record { a = o .picture; b = w .b; state = o .state }; bytes = o .bytes; work = o .work }
+
+abbrev pub inB : World → Outcome → After
+inB w o = record { answer = o .answer; world = record { a = w .a; b = o .picture; state = o .state }; bytes = o .bytes; work = o .work }
+
+-- stepping on may change the hidden buffer, stepping back the shown one
+unfoldable pub onHidden : World → Outcome → After
+onHidden w o = pick (isOdd (w .state .frame)) (inB w o) (inA w o)
+
+unfoldable pub onShown : World → Outcome → After
+onShown w o = pick (isOdd (w .state .frame)) (inA w o) (inB w o)
 
 -- stepping on, with a work buffer of `work` bytes and a record buffer of `room` bytes
 unfoldable pub stepOn : List ℕ → World → ℕ → ℕ → After
-stepOn file w work room = settle w room (advance file w work)
+stepOn file w work room =
+    onHidden w (settle (w .state) (hiddenOf w) room
+    (ready file w work >>= λ _. advance (take (w .state .end) file) (w .state) (shownOf w) (hiddenOf w)))
 
 -- stepping back: 11, 12, 61, 62
 unfoldable pub retreat : World → List ℕ → Res Past
@@ -132,21 +154,18 @@ retreat w bytes =
     need (eqb (length (w .b)) n) 12 >>= λ _.
     restored bytes (shownOf w) (w .state .frame) (w .state .next)
 
-unfoldable pub settleBack : World → Res Past → After
-settleBack w (fault n) = stays w (refused n)
-settleBack w (ok p) = record {
+unfoldable pub settleBack : State → List ℕ → Res Past → Outcome
+settleBack s shown (fault n) = stays s shown (refused n)
+settleBack s shown (ok p) = record {
   answer = tookBack;
-  world = record {
-    a = pick (isOdd (w .state .frame)) (p .picture) (w .a);
-    b = pick (isOdd (w .state .frame)) (w .b) (p .picture);
-    state = record { sizes = w .state .sizes; frame = w .state .frame - 1; next = p .place; end = w .state .end };
-  };
+  state = record { sizes = s .sizes; frame = s .frame - 1; next = p .place; end = s .end };
+  picture = p .picture;
   bytes = [];
   work = none;
 }
 
 unfoldable pub stepBack : World → List ℕ → After
-stepBack w bytes = settleBack w (retreat w bytes)
+stepBack w bytes = onShown w (settleBack (w .state) (shownOf w) (retreat w bytes))
 
 -- what the answers say in the paper's terms
 abbrev pub onOf : On → Answer

@@ -31,15 +31,3 @@ pub struct SteppedBack {
     pub answer: Back,
     pub state: State,
 }
-
-// What opening answers.
-pub enum Opening {
-    Opened,
-    Refused(Refusal),
-}
-
-// What opening answers, and the state after it: six zeros where it is refused.
-pub struct OpenedFile {
-    pub answer: Opening,
-    pub state: State,
-}
