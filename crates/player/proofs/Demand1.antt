@@ -11,7 +11,7 @@ use Rattle.laws.specs.Result.{Res, Res.ok, Res.fault, _>>=_, pick, answer}
 use Rattle.opening.specs.Open.{Film, opening, zeros, stateAfter, pictureAfter}
 use Rattle.record.specs.Record.{Past}
 use Rattle.player.specs.Step.{World, Answer, Answer.refused, Answer.ended, Answer.tookOn, shownOf, hiddenOf, ready, Made, advance, Outcome, After, settle, onHidden, stepOn, retreat, settleBack, onShown, stepBack}
-use Rattle.player.proofs.Laws.{on-kept, on-put, back-kept, back-put}
+use Rattle.player.specs.OutcomeLaws.{on-kept, on-put, back-kept, back-put}
 
 -- what a call left as it came: what it hands on, and the record buffer, into which nothing was written
 pub record Untouched (w : World) (o : After) : Type 0 where
@@ -23,7 +23,7 @@ kept-on w x k = rw (on-kept w x k) (record { world = refl; bytes = refl })
 
 pub refused-on : (file : List ℕ) (w : World) (work room n : ℕ) → stepOn file w work room .answer ≡ refused n → Untouched w (stepOn file w work room)
 unfolding stepOn settle
-refused-on file w work room n e = go (ready file w work >>= λ _. advance (take (w .state .end) file) (w .state) (shownOf w) (hiddenOf w)) e
+refused-on file w work room n e = go (ready (length file) (w .state) (length (w .a)) (length (w .b)) work >>= λ _. advance (take (w .state .end) file) (w .state) (shownOf w) (hiddenOf w)) e
   where
     took : Made → Outcome
     took m = record { answer = tookOn (m .report); state = record { sizes = w .state .sizes; frame = suc (w .state .frame); next = m .next; end = w .state .end }; picture = m .picture; bytes = m .bytes; work = some (m .picture) }

@@ -13,11 +13,12 @@ use Rattle.delta.specs.Delta.{Op, shapeOf, readDelta, draw}
 use Rattle.record.specs.Record.{recordBytes}
 use Rattle.frame.specs.Frame.{Frame, frameAt}
 use Rattle.player.specs.Step.{World, Answer.refused, Answer.tookOn, isOdd, shownOf, hiddenOf, ready, change, makes, make, advance, Outcome, settle, onHidden, stepOn}
-use Rattle.player.proofs.Laws.{odd-suc, on-kept, on-put}
+use Rattle.player.specs.OutcomeLaws.{on-kept, on-put}
+use Rattle.player.proofs.Laws.{odd-suc}
 
 -- a step on with nothing else to refuse: the tests of state and buffers passed, and a frame with a good header stands at the next place
 pub record Free (file : List ℕ) (w : World) (work : ℕ) (x : Frame) : Type 0 where
-  pub tests : ready file w work ≡ ok tt
+  pub tests : ready (length file) (w .state) (length (w .a)) (length (w .b)) work ≡ ok tt
   pub there : frameAt (take (w .state .end) file) (rowBytes (w .state .sizes .width)) (w .state .next) ≡ ok (some x)
 
 -- the ops of its delta, or its first fault
@@ -29,7 +30,7 @@ abbrev pub newOf : World → Frame → List Op → List ℕ
 newOf w x ops = draw (shapeOf (w .state .sizes) (x .header .items)) (x .dlta) ops (hiddenOf w)
 
 free-advance : (file : List ℕ) (w : World) (work : ℕ) (x : Frame) → Free file w work x
-    → (ready file w work >>= λ _. advance (take (w .state .end) file) (w .state) (shownOf w) (hiddenOf w)) ≡ make (w .state) (shownOf w) (hiddenOf w) (some x)
+    → (ready (length file) (w .state) (length (w .a)) (length (w .b)) work >>= λ _. advance (take (w .state .end) file) (w .state) (shownOf w) (hiddenOf w)) ≡ make (w .state) (shownOf w) (hiddenOf w) (some x)
 unfolding advance
 free-advance file w work x f = rw (f .tests, f .there)
 

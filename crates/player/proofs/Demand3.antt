@@ -31,7 +31,8 @@ use Rattle.opening.specs.declared.OpenedFile.{OpenedFile}
 use Rattle.opening.specs.Open.{BMHD, BODY, First, firstOf, firstIn, firstFrom, Film, film, opening, stateAfter, pictureAfter, openingOf, MeetsOpen}
 use Rattle.player.specs.Model.{Call, Seen, here, past, drawn, placeAt, picture, recordAt, stands, reportAt, answerFor, answerAt, answerOn, answerFirst, moved, leaves, model}
 use Rattle.player.specs.Trace.{given, recordIn, untaken, seenOn, seenBack, Trace, Trace.none-left, Trace.stepped-on, Trace.stepped-back}
-use Rattle.player.proofs.Laws.{change-length, odd-suc, on-kept, on-put, back-kept, back-put}
+use Rattle.player.specs.OutcomeLaws.{on-kept, on-put, back-kept, back-put}
+use Rattle.player.proofs.Laws.{change-length, odd-suc}
 use Rattle.record.specs.RoundLaws.{past-record}
 
 -- what opening gives
@@ -132,7 +133,7 @@ unfolding stands
 right-long F m k = length-pick (isOdd (suc m)) (picture F m) (picture F (suc m)) (size F) (k .hidden) (k .shown)
 
 -- what is left of the tests of a step on
-ready-is : (F : Film) → Opened F → (m : ℕ) → Good F m → (work : ℕ) → ready (F .file) (stands F m) work ≡ (need (eqb work (size F)) 12 >>= λ _. need (ltb (suc m) 1_000_000) 53)
+ready-is : (F : Film) → Opened F → (m : ℕ) → Good F m → (work : ℕ) → ready (length (F .file)) (stands F m .state) (length (stands F m .a)) (length (stands F m .b)) work ≡ (need (eqb work (size F)) 12 >>= λ _. need (ltb (suc m) 1_000_000) 53)
 unfolding ready
 ready-is F o m k work =
     let e : stands F m .state .end ≡ F .end = unfold stands in refl in
@@ -141,7 +142,7 @@ ready-is F o m k work =
 
 -- what a step on at frame m + 1 comes to before its record is written
 ahead : Film → ℕ → ℕ → Res (Option Made)
-ahead F m work = ready (F .file) (stands F m) work >>= λ _. advance (take (stands F m .state .end) (F .file)) (stands F m .state) (shownOf (stands F m)) (hiddenOf (stands F m))
+ahead F m work = ready (length (F .file)) (stands F m .state) (length (stands F m .a)) (length (stands F m .b)) work >>= λ _. advance (take (stands F m .state .end) (F .file)) (stands F m .state) (shownOf (stands F m)) (hiddenOf (stands F m))
 
 -- what a frame makes there
 madeOf : Film → ℕ → Option Frame → Res (Option Made)

@@ -1,3 +1,5 @@
 pub mod Step
 pub mod Model
 pub mod Trace
+pub mod OutcomeLaws
+pub mod StepLaws

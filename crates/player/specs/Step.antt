@@ -53,15 +53,15 @@ shownOf w = pick (isOdd (w .state .frame)) (w .a) (w .b)
 unfoldable pub hiddenOf : World → List ℕ
 hiddenOf w = pick (isOdd (w .state .frame)) (w .b) (w .a)
 
--- 11, 12 and 53 of stepping on
-unfoldable pub ready : List ℕ → World → ℕ → Res (Unit {0})
-ready file w work =
-    stateLength (w .state) >>= λ n.
-    need (leb (w .state .end) (length file)) 11 >>= λ _.
-    need (eqb (length (w .a)) n) 12 >>= λ _.
-    need (eqb (length (w .b)) n) 12 >>= λ _.
+-- 11, 12 and 53 of stepping on, by the lengths of the file, A, B and the work buffer
+unfoldable pub ready : ℕ → State → ℕ → ℕ → ℕ → Res (Unit {0})
+ready file s a b work =
+    stateLength s >>= λ n.
+    need (leb (s .end) file) 11 >>= λ _.
+    need (eqb a n) 12 >>= λ _.
+    need (eqb b n) 12 >>= λ _.
     need (eqb work n) 12 >>= λ _.
-    need (ltb (w .state .frame) 1_000_000) 53
+    need (ltb (s .frame) 1_000_000) 53
 
 -- what a frame makes of the shown and the hidden picture: it builds on the hidden one
 unfoldable pub change : Sizes → Frame → List ℕ → List ℕ → Res (List ℕ)
@@ -144,7 +144,7 @@ onShown w o = pick (isOdd (w .state .frame)) (inA w o) (inB w o)
 unfoldable pub stepOn : List ℕ → World → ℕ → ℕ → After
 stepOn file w work room =
     onHidden w (settle (w .state) (hiddenOf w) room
-    (ready file w work >>= λ _. advance (take (w .state .end) file) (w .state) (shownOf w) (hiddenOf w)))
+    (ready (length file) (w .state) (length (w .a)) (length (w .b)) work >>= λ _. advance (take (w .state .end) file) (w .state) (shownOf w) (hiddenOf w)))
 
 -- stepping back: 11, 12, 61, 62
 unfoldable pub retreat : World → List ℕ → Res Past
@@ -182,18 +182,26 @@ abbrev pub workAfter : List ℕ → Option (List ℕ) → List ℕ
 workAfter work none = work
 workAfter work (some f) = f
 
--- the contract of stepping on: answer, state, both pictures, the work buffer and the record buffer, whose bytes past the record stay
-pub record MeetsOn (file : List ℕ) (w : World) (work rec : List ℕ) (r : SteppedOn) (a b work′ rec′ : List ℕ) : Type 0 where
-  pub answer : onOf (r .answer) ≡ stepOn file w (length work) (length rec) .answer
-  pub state : r .state ≡ stepOn file w (length work) (length rec) .world .state
-  pub left : a ≡ stepOn file w (length work) (length rec) .world .a
-  pub right : b ≡ stepOn file w (length work) (length rec) .world .b
-  pub drawn : work′ ≡ workAfter work (stepOn file w (length work) (length rec) .work)
-  pub written : rec′ ≡ stepOn file w (length work) (length rec) .bytes ++ drop (length (stepOn file w (length work) (length rec) .bytes)) rec
+-- answer, state, both pictures, the work buffer and the record buffer, whose bytes past the record stay, after a step on that leaves o
+pub record LeavesOn (o : After) (work rec : List ℕ) (r : SteppedOn) (a b work′ rec′ : List ℕ) : Type 0 where
+  pub answer : onOf (r .answer) ≡ o .answer
+  pub state : r .state ≡ o .world .state
+  pub left : a ≡ o .world .a
+  pub right : b ≡ o .world .b
+  pub drawn : work′ ≡ workAfter work (o .work)
+  pub written : rec′ ≡ o .bytes ++ drop (length (o .bytes)) rec
+
+-- the contract of stepping on
+abbrev pub MeetsOn : (file : List ℕ) (w : World) (work rec : List ℕ) (r : SteppedOn) (a b work′ rec′ : List ℕ) → Type 0
+MeetsOn file w work rec r a b work′ rec′ = LeavesOn (stepOn file w (length work) (length rec)) work rec r a b work′ rec′
+
+-- answer, state and both pictures after a step back that leaves o
+pub record LeavesBack (o : After) (r : SteppedBack) (a b : List ℕ) : Type 0 where
+  pub answer : backOf (r .answer) ≡ o .answer
+  pub state : r .state ≡ o .world .state
+  pub left : a ≡ o .world .a
+  pub right : b ≡ o .world .b
 
 -- the contract of stepping back
-pub record MeetsBack (w : World) (bytes : List ℕ) (r : SteppedBack) (a b : List ℕ) : Type 0 where
-  pub answer : backOf (r .answer) ≡ stepBack w bytes .answer
-  pub state : r .state ≡ stepBack w bytes .world .state
-  pub left : a ≡ stepBack w bytes .world .a
-  pub right : b ≡ stepBack w bytes .world .b
+abbrev pub MeetsBack : (w : World) (bytes : List ℕ) (r : SteppedBack) (a b : List ℕ) → Type 0
+MeetsBack w bytes r a b = LeavesBack (stepBack w bytes) r a b

@@ -1,5 +1,18 @@
-// What the player answers: opening, stepping on, stepping back.
+// The player: stepping on and stepping back.
+ghost use mathlib.Core.List.{[]};
+ghost use mathlib.Core.Option.{some};
+ghost use mathlib.Core.Path.{_≡_};
+ghost use lib.ListN.{length};
+ghost use Rattle.player.specs.Step.{ready, makes, make, advance, MeetsOn};
+ghost use Rattle.player.specs.StepLaws.{readyOf, Fits, Records, Builds};
+use anhd::FrameHeader;
+use buffer::copy;
+use delta::Applied;
+use frame::Next;
+use iff::Found;
+use record::Recorded;
 use refusal::Refusal;
+use state::Length;
 use state::State;
 
 // What stepping on answers.
@@ -30,4 +43,164 @@ pub enum Back {
 pub struct SteppedBack {
     pub answer: Back,
     pub state: State,
+}
+
+// Whether state and buffers let a step on begin.
+enum Begins {
+    Yes,
+    No(Refusal),
+}
+
+// The tests of a step on, by the lengths of the file, A, B and the work buffer.
+fn ready(file: usize, state: State, a: usize, b: usize, work: usize) -> Begins
+    ensures { λ r. ⌜ readyOf r ≡ ready file state a b work ⌝ }
+{
+    let l = state.frame_length();
+    match l {
+        Length::Refused(why) => Begins::No(why),
+        Length::Bytes(n) => {
+            if file < state.end {
+                return Begins::No(Refusal::OutsideLimits);
+            }
+            if a != n {
+                return Begins::No(Refusal::BufferLength);
+            }
+            if b != n {
+                return Begins::No(Refusal::BufferLength);
+            }
+            if work != n {
+                return Begins::No(Refusal::BufferLength);
+            }
+            if State::MAX_FRAME <= state.frame {
+                return Begins::No(Refusal::LastFrame);
+            }
+            Begins::Yes
+        }
+    }
+}
+
+// Records the frame in the work buffer and copies it to the hidden buffer, unless the record doesn't fit.
+fn record_frame(
+    header: FrameHeader,
+    next: usize,
+    state: State,
+    hidden: &mut [u8],
+    work: &[u8],
+    rec: &mut [u8],
+) -> SteppedOn
+    requires { ⌜ Fits state (length (now hidden)) (length (now work)) ⌝ }
+    ensures { λ r. ⌜ Records (makes state (record { next = next; header = header; dlta = [] }) (now (hidden .entry)) (now (work .entry))) state (now (hidden .entry)) (now (rec .entry)) r (now (hidden .exit)) (now (rec .exit)) ⌝ }
+{
+    let sizes = state.sizes;
+    let frame = state.frame + 1;
+    let w = record::write(rec, frame as u32, state.next as u32, hidden, work);
+    match w {
+        Recorded::Refused(why) => SteppedOn {
+            answer: On::Refused(why),
+            state,
+        },
+        Recorded::Written { length, changed } => {
+            copy(hidden, work);
+            SteppedOn {
+                answer: On::Taken {
+                    method: header.method,
+                    time: header.time,
+                    changed,
+                    record: length,
+                },
+                state: State {
+                    sizes,
+                    frame,
+                    next,
+                    end: state.end,
+                },
+            }
+        }
+    }
+}
+
+// Builds a frame in the work buffer from the hidden picture, then records it.
+fn build_frame(
+    header: FrameHeader,
+    dlta: &[u8],
+    next: usize,
+    state: State,
+    hidden: &mut [u8],
+    work: &mut [u8],
+    rec: &mut [u8],
+) -> SteppedOn
+    requires { ⌜ Fits state (length (now hidden)) (length (now work)) ⌝ }
+    ensures { λ r. ⌜ Builds (λ shown. make state shown (now (hidden .entry)) (some (record { next = next; header = header; dlta = now (dlta .entry) }))) state (now (hidden .entry)) (now (work .entry)) (now (rec .entry)) r (now (hidden .exit)) (now (work .exit)) (now (rec .exit)) ⌝ }
+{
+    let items = header.items;
+    let d = delta::apply(work, hidden, dlta, state.sizes, items);
+    match d {
+        Applied::Refused(why) => SteppedOn {
+            answer: On::Refused(why),
+            state,
+        },
+        Applied::Drawn { ops: _ } => record_frame(header, next, state, hidden, work, rec),
+    }
+}
+
+// Steps to the next frame of FORM ANIM.
+fn advance(
+    anim: &[u8],
+    state: State,
+    hidden: &mut [u8],
+    work: &mut [u8],
+    rec: &mut [u8],
+) -> SteppedOn
+    requires { ⌜ Fits state (length (now hidden)) (length (now work)) ⌝ }
+    ensures { λ r. ⌜ Builds (λ shown. advance (now (anim .entry)) state shown (now (hidden .entry))) state (now (hidden .entry)) (now (work .entry)) (now (rec .entry)) r (now (hidden .exit)) (now (work .exit)) (now (rec .exit)) ⌝ }
+{
+    let sizes = state.sizes;
+    let f = frame::frame_at(anim, state.next, sizes.row_bytes());
+    match f {
+        Next::Refused(why) => SteppedOn {
+            answer: On::Refused(why),
+            state,
+        },
+        Next::Last => SteppedOn {
+            answer: On::End,
+            state,
+        },
+        Next::Later {
+            next,
+            header,
+            start,
+            len,
+        } => {
+            let dlta = iff::contents(anim, Found::At { start, len });
+            build_frame(header, dlta, next, state, hidden, work, rec)
+        }
+    }
+}
+
+// Steps on: the next frame is built, recorded and shown.
+pub fn step_on(
+    file: &[u8],
+    state: State,
+    a: &mut [u8],
+    b: &mut [u8],
+    work: &mut [u8],
+    rec: &mut [u8],
+) -> SteppedOn
+    ensures { λ r. ⌜ MeetsOn (now (file .entry)) (record { a = now (a .entry); b = now (b .entry); state = state }) (now (work .entry)) (now (rec .entry)) r (now (a .exit)) (now (b .exit)) (now (work .exit)) (now (rec .exit)) ⌝ }
+{
+    let t = ready(file.len(), state, a.len(), b.len(), work.len());
+    match t {
+        Begins::No(why) => SteppedOn {
+            answer: On::Refused(why),
+            state,
+        },
+        Begins::Yes => {
+            let end = state.end;
+            let anim = &file[..end];
+            if state.frame % 2 == 1 {
+                return advance(anim, state, b, work, rec);
+            }
+            advance(anim, state, a, work, rec)
+        }
+    }
 }

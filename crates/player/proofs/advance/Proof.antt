@@ -1,0 +1,65 @@
+-- `player::advance`: the next frame, if there is one, is built.
+use Rattle.player.specs.StepLaws.{advance-refused, advance-ended, advance-built}
+use Rattle.frame.specs.Frame.{nextOf}
+use Rattle.laws.specs.ResultLaws.{told}
+use mathlib.Core.Path.{sym, ap, _∙_}
+use borrow.Author.Needs.{needs}
+use Rattle.player.proofs.advance.Statement.{statement}
+use Rattle.player.proofs.advance.Tie as tie
+
+row-bytes-requires : tie.Need-row-bytes-requires
+row-bytes-requires c κs = search needs
+
+frame-at-requires : tie.Need-frame-at-requires
+frame-at-requires c κs = search needs
+
+enum-known-f : tie.Need-enum-known-f
+enum-known-f c = search needs
+
+enum-told : tie.Need-enum-told
+enum-told c = search needs
+
+enum-known-f-2 : tie.Need-enum-known-f-2
+enum-known-f-2 c = search needs
+
+contents-requires : tie.Need-contents-requires
+contents-requires c κs = search needs
+
+build-frame-requires : tie.Need-build-frame-requires
+build-frame-requires c κs = search needs
+
+returns : tie.Need-returns
+returns c = let k = c .before .before .before .before .before .before .before .before .before .before .args in advance-refused (k .anim .now) (k .state) (k .hidden .now) (k .work .now) (k .rec .now) (told (nextOf (k .anim .now)) (rw (c .before .before .before .before .row-bytes .ensures) at (c .before .before .before .frame-at .ensures)) (c .before .f .given .1))
+
+returns-2 : tie.Need-returns-2
+returns-2 c = let k = c .before .before .before .before .before .before .before .before .before .args in advance-ended (k .anim .now) (k .state) (k .hidden .now) (k .work .now) (k .rec .now) (told (nextOf (k .anim .now)) (rw (c .before .before .before .row-bytes .ensures) at (c .before .before .frame-at .ensures)) (c .enum-told .given .1))
+
+same-length : tie.Need-same-length
+same-length c = search needs
+
+same-length-2 : tie.Need-same-length-2
+same-length-2 c = search needs
+
+same-length-3 : tie.Need-same-length-3
+same-length-3 c = search needs
+
+returns-3 : tie.Need-returns-3
+returns-3 c = let k = c .before .before .before .before .before .before .before .before .before .before .before .before .before .before .before .before .before .before .before .before .before .args in advance-built (k .anim .now) (k .state) (k .hidden .now) (k .work .now) (k .rec .now) (told (nextOf (k .anim .now)) (rw (c .before .before .before .before .before .before .before .before .before .before .before .before .before .before .before .row-bytes .ensures) at (c .before .before .before .before .before .before .before .before .before .before .before .before .before .before .frame-at .ensures)) (c .before .before .before .before .before .before .before .before .before .before .before .before .f2 .given .1)) (rw (c .before .before .before .before .before .before .before .before .before .before .contents .ensures) at (c .before .before .before .before .before .before .build-frame .ensures))
+
+pub advance-spec : {M : Type 1} → statement M
+advance-spec =
+    tie.close
+    (tie.spec
+    row-bytes-requires
+    frame-at-requires
+    enum-known-f
+    enum-told
+    enum-known-f-2
+    contents-requires
+    build-frame-requires
+    returns
+    returns-2
+    same-length
+    same-length-2
+    same-length-3
+    returns-3)

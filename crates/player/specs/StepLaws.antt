@@ -1,0 +1,210 @@
+-- Laws of the steps: the order of their refusals, and what is left in the buffers.
+use Prim.Native.Nat.{ℕ, suc, _<_, _≤_}
+use native.Mathlib.Omega.{arith}
+use mathlib.Core.Bool.{Bool, true, false}
+use mathlib.Core.List.{List, [], _++_}
+use mathlib.Core.Option.{Option, none, some}
+use mathlib.Core.Path.{_≡_, refl, sym, ap, _∙_}
+use lib.Dec.{leb, ltb, eqb}
+use lib.ListN.{length, take, drop}
+use borrow.Author.Tests.{eq-eqb, le-leb, leb-true, ltb-true, eqb-true}
+use Rattle.laws.specs.Result.{Res, Res.ok, Res.fault, _>>=_, need, orKeep}
+use Rattle.laws.specs.ResultLaws.{Each, Each.each, each-bind, each-need}
+use Rattle.refusal.specs.Number.{numberOf}
+use Rattle.refusal.specs.declared.Refusal.{Refusal}
+use Rattle.state.specs.declared.Sizes.{Sizes}
+use Rattle.state.specs.declared.State.{State}
+use Rattle.state.specs.State.{rowBytes, frameLength}
+use Rattle.state.specs.StateLaws.{Sound, state-sound}
+use Rattle.anhd.specs.declared.Items.{Items}
+use Rattle.delta.specs.Delta.{Op, shapeOf, draw, readFrame, newFrame, opCount, Applies}
+use Rattle.delta.specs.ApplyLaws.{frame-delta}
+use Rattle.frame.specs.Frame.{Frame, frameAt}
+use Rattle.record.specs.Record.{recordBytes, Measure, measure, written, bufferAfter}
+use Rattle.player.specs.declared.On.the-variants.{Taken, End, Refused}
+use Rattle.player.specs.declared.SteppedOn.{SteppedOn}
+use Rattle.player.specs.declared.Begins.{Begins}
+use Rattle.player.specs.declared.Begins.the-variants.{Yes, No}
+use Rattle.player.specs.Step.{World, Answer.refused, isOdd, shownOf, hiddenOf, ready, change, Made, makes, make, advance, Outcome, settle, onHidden, stepOn, onOf, workAfter, MeetsOn}
+use Rattle.player.specs.OutcomeLaws.{on-kept}
+
+-- what the tests of a step on answer
+abbrev pub readyOf : Begins → Res (Unit {0})
+readyOf Yes = ok tt
+readyOf (No why) = fault (numberOf why)
+
+-- a state, a hidden picture and a work buffer that a step on can go on with
+pub record Fits (s : State) (hidden work : ℕ) : Type 0 where
+  pub sizes : frameLength (s .sizes) ≡ ok hidden
+  pub same : work ≡ hidden
+  pub short : hidden ≤ 1_048_576
+  pub few : s .frame < 1_000_000
+  pub place : s .next ≤ 2_147_483_647
+
+sound-length : {z : Sizes} {n : ℕ} → Sound z n → frameLength z ≡ ok n
+unfolding frameLength
+sound-length {z} {n} k =
+    simp (le-leb 1 (z .width) (k .width-least), le-leb (z .width) 1024 (k .width-most), le-leb 1 (z .height) (k .height-least), le-leb (z .height) 1024 (k .height-most), le-leb 1 (z .planes) (k .planes-least), le-leb (z .planes) 8 (k .planes-most), k .length)
+
+-- what passed the tests
+pub record Passed (file : ℕ) (s : State) (a b work : ℕ) : Type 0 where
+  pub inFile : s .end ≤ file
+  pub onA : Fits s a work
+  pub onB : Fits s b work
+
+pub ready-passed : (file : ℕ) (s : State) (a b work : ℕ) → Each (λ _. Passed file s a b work) (ready file s a b work)
+unfolding ready
+ready-passed file s a b work =
+    each-bind (state-sound s) λ n k.
+    each-need (leb (s .end) file) 11 _ λ e. each-need (eqb a n) 12 _ λ x. each-need (eqb b n) 12 _ λ y. each-need (eqb work n) 12 _ λ z.
+    let p : s .next ≤ 2_147_483_647 = omega (arith, k .next-most, k .end-most) in
+    let f : (m : ℕ) → eqb m n ≡ true → s .frame < 1_000_000 → Fits s m work =
+    λ m h l. let q : m ≡ n = eqb-true m n h in record { sizes = rw q (sound-length (k .sizes)); same = eqb-true work n z ∙ sym q; short = rw q (k .sizes .length-most); few = l; place = p } in
+    each-last (ltb (s .frame) 1_000_000) 53 λ t. let l = ltb-true (s .frame) 1_000_000 t in record { inFile = leb-true (s .end) file e; onA = f a x l; onB = f b y l }
+  where
+    each-last : {P : Unit {0} → Type 0} (t : Bool) (n : ℕ) → (t ≡ true → P tt) → Each P (need t n)
+    each-last true n h = each (h refl)
+    each-last false n h = Each.no-value
+
+-- how a step on leaves its one picture, the work buffer and the record buffer
+pub record Steps (o : Outcome) (work rec : List ℕ) (r : SteppedOn) (p work′ rec′ : List ℕ) : Type 0 where
+  pub answer : onOf (r .answer) ≡ o .answer
+  pub state : r .state ≡ o .state
+  pub picture : p ≡ o .picture
+  pub drawn : work′ ≡ workAfter work (o .work)
+  pub written : rec′ ≡ o .bytes ++ drop (length (o .bytes)) rec
+
+-- a frame that was built, whatever the work buffer held before
+pub record Records (m : Made) (s : State) (hidden rec : List ℕ) (r : SteppedOn) (p rec′ : List ℕ) : Type 0 where
+  pub steps : (work : List ℕ) → Steps (settle s hidden (length rec) (ok (some m))) work rec r p (m .picture) rec′
+
+-- a frame that builds on the hidden picture, whatever is shown
+pub record Builds (q : List ℕ → Res (Option Made)) (s : State) (hidden work rec : List ℕ) (r : SteppedOn) (p work′ rec′ : List ℕ) : Type 0 where
+  pub steps : (shown : List ℕ) → Steps (settle s hidden (length rec) (q shown)) work rec r p work′ rec′
+
+-- recording a frame f
+module _ (s : State) (x : Frame) (hidden f rec : List ℕ) (k : Fits s (length hidden) (length f)) {n : ℕ} (en : n ≡ suc (s .frame)) where
+  bytes : List ℕ
+  bytes = recordBytes (suc (s .frame)) (s .next) hidden f
+
+  writes : ℕ → Res Measure
+  writes room = written (suc (s .frame)) (s .next) hidden f room
+
+  writes-is : (room : ℕ) → writes room ≡ (need (leb (length bytes) room) 51 >>= λ _. ok (measure (suc (s .frame)) (s .next) hidden f))
+  unfolding written writes bytes
+  writes-is room = simp (eq-eqb (length hidden) (length f) (sym (k .same)), le-leb (length hidden) 1_048_576 (k .short))
+
+  pub records-unfit : {why : Refusal} {rec′ : List ℕ} → written n (s .next) hidden f (length rec) ≡ fault (numberOf why)
+      → rec′ ≡ bufferAfter (recordBytes n (s .next) hidden f) rec (written n (s .next) hidden f (length rec))
+      → Records (makes s x hidden f) s hidden rec (record { answer = Refused why; state = s }) hidden rec′
+  unfolding writes bytes settle makes
+  records-unfit {why} {rec′} e₀ h₀ = go (leb (length bytes) (length rec)) refl
+    where
+      e : writes (length rec) ≡ fault (numberOf why)
+      e = rw en at e₀
+
+      h : rec′ ≡ bufferAfter bytes rec (writes (length rec))
+      h = rw en at h₀
+
+      go : (t : Bool) → leb (length bytes) (length rec) ≡ t → Records (makes s x hidden f) s hidden rec (record { answer = Refused why; state = s }) hidden rec′
+      go true q = let w : writes (length rec) ≡ ok (measure (suc (s .frame)) (s .next) hidden f) = writes-is (length rec) ∙ rw q in let z : _≡_ {A = ℕ} 0 1 = cc in absurd (omega arith)
+      go false q =
+          let w : writes (length rec) ≡ fault 51 = writes-is (length rec) ∙ rw q in
+          let n : numberOf why ≡ 51 = cc in
+          record { steps = λ work. rw q (record { answer = rw n; state = refl; picture = refl; drawn = refl; written = rw e at h }) }
+
+  pub records-fit : {size count : ℕ} {rec′ : List ℕ} → written n (s .next) hidden f (length rec) ≡ ok (record { length = size; changed = count })
+      → rec′ ≡ bufferAfter (recordBytes n (s .next) hidden f) rec (written n (s .next) hidden f (length rec))
+      → Records (makes s x hidden f) s hidden rec (record { answer = Taken (x .header .method) (x .header .time) count size; state = record { sizes = s .sizes; frame = n; next = x .next; end = s .end } }) f rec′
+  unfolding writes bytes settle makes measure
+  records-fit {size} {count} {rec′} e₀ h₀ = go (leb (length bytes) (length rec)) refl
+    where
+      e : writes (length rec) ≡ ok (record { length = size; changed = count })
+      e = rw en at e₀
+
+      h : rec′ ≡ bufferAfter bytes rec (writes (length rec))
+      h = rw en at h₀
+
+      go : (t : Bool) → leb (length bytes) (length rec) ≡ t
+          → Records (makes s x hidden f) s hidden rec (record { answer = Taken (x .header .method) (x .header .time) count size; state = record { sizes = s .sizes; frame = n; next = x .next; end = s .end } }) f rec′
+      go false q = let w : writes (length rec) ≡ fault 51 = writes-is (length rec) ∙ rw q in let z : _≡_ {A = ℕ} 0 1 = cc in absurd (omega arith)
+      go true q =
+          let w : writes (length rec) ≡ ok (measure (suc (s .frame)) (s .next) hidden f) = writes-is (length rec) ∙ rw q in
+          let n : record { length = size; changed = count } ≡ measure (suc (s .frame)) (s .next) hidden f = cc in
+          let l = ap (λ (g : Measure). g .length) n in
+          let d = ap (λ (g : Measure). g .changed) n in
+          record { steps = λ work. rw q (record { answer = rw (l, d); state = rw en; picture = refl; drawn = refl; written = rw e at h }) }
+
+-- what was applied
+module _ {z : Sizes} {i : Items} {d f w g : List ℕ} where
+  applied-refused : {n : ℕ} → Applies z i d f w (fault n) g → newFrame z i d f (length w) ≡ fault n
+  unfolding opCount newFrame
+  applied-refused {n} p = go (readFrame z i d (length f) (length w)) (p .counts)
+    where
+      go : (r : Res (List Op)) → fault n ≡ (r >>= λ ops. ok (length ops)) → (r >>= λ ops. ok (draw (shapeOf z i) d ops f)) ≡ fault n
+      go (ok ops) e = let q : _≡_ {A = ℕ} 0 1 = cc in absurd (omega arith)
+      go (fault m) e = let q : m ≡ n = cc in rw q
+
+  applied-drawn : {c : ℕ} → Applies z i d f w (ok c) g → newFrame z i d f (length w) ≡ ok g
+  unfolding opCount newFrame
+  applied-drawn {c} p = go (readFrame z i d (length f) (length w)) (p .counts) (p .leaves)
+    where
+      go : (r : Res (List Op)) → ok c ≡ (r >>= λ ops. ok (length ops)) → g ≡ orKeep w (r >>= λ ops. ok (draw (shapeOf z i) d ops f)) → (r >>= λ ops. ok (draw (shapeOf z i) d ops f)) ≡ ok g
+      go (ok ops) e h = rw h
+      go (fault m) e h = let q : _≡_ {A = ℕ} 0 1 = cc in absurd (omega arith)
+
+-- building frame x
+module _ (s : State) (x : Frame) (hidden work rec : List ℕ) (k : Fits s (length hidden) (length work)) where
+  change-is : (shown : List ℕ) → change (s .sizes) x shown hidden ≡ newFrame (s .sizes) (x .header .items) (x .dlta) hidden (length work)
+  unfolding change newFrame
+  change-is shown = rw (frame-delta (s .sizes) (x .header .items) (x .dlta) (length hidden) (length work) (k .sizes) refl (k .same))
+
+  pub builds-refused : {why : Refusal} {work′ : List ℕ} → Applies (s .sizes) (x .header .items) (x .dlta) hidden work (fault (numberOf why)) work′
+      → Builds (λ shown. make s shown hidden (some x)) s hidden work rec (record { answer = Refused why; state = s }) hidden work′ rec
+  unfolding settle
+  builds-refused p =
+      let e = applied-refused p in
+      record { steps = λ shown. rw (change-is shown, e) (record { answer = refl; state = refl; picture = refl; drawn = p .leaves ∙ rw e; written = refl }) }
+
+  pub builds-recorded : {c : ℕ} {f p rec′ : List ℕ} {r : SteppedOn} → Applies (s .sizes) (x .header .items) (x .dlta) hidden work (ok c) f
+      → Records (makes s (record { next = x .next; header = x .header; dlta = [] }) hidden f) s hidden rec r p rec′ → Builds (λ shown. make s shown hidden (some x)) s hidden work rec r p f rec′
+  unfolding makes
+  builds-recorded h q = record { steps = λ shown. rw (change-is shown, applied-drawn h) (q .steps work) }
+
+-- the next frame
+module _ (anim : List ℕ) (s : State) (hidden work rec : List ℕ) where
+  pub advance-refused : {why : Refusal} → frameAt anim (rowBytes (s .sizes .width)) (s .next) ≡ fault (numberOf why)
+      → Builds (λ shown. advance anim s shown hidden) s hidden work rec (record { answer = Refused why; state = s }) hidden work rec
+  unfolding advance settle
+  advance-refused e = record { steps = λ shown. rw e (record { answer = refl; state = refl; picture = refl; drawn = refl; written = refl }) }
+
+  pub advance-ended : frameAt anim (rowBytes (s .sizes .width)) (s .next) ≡ ok none
+      → Builds (λ shown. advance anim s shown hidden) s hidden work rec (record { answer = End; state = s }) hidden work rec
+  unfolding advance settle
+  advance-ended e = record { steps = λ shown. rw e (record { answer = refl; state = refl; picture = refl; drawn = refl; written = refl }) }
+
+  pub advance-built : {x : Frame} {r : SteppedOn} {p work′ rec′ : List ℕ} → frameAt anim (rowBytes (s .sizes .width)) (s .next) ≡ ok (some x)
+      → Builds (λ shown. make s shown hidden (some x)) s hidden work rec r p work′ rec′ → Builds (λ shown. advance anim s shown hidden) s hidden work rec r p work′ rec′
+  unfolding advance
+  advance-built e q = record { steps = λ shown. rw e (q .steps shown) }
+
+-- stepping on from a file
+module _ (file : List ℕ) (w : World) (work rec : List ℕ) where
+  tests : Res (Unit {0})
+  tests = ready (length file) (w .state) (length (w .a)) (length (w .b)) (length work)
+
+  pub on-refused : {why : Refusal} → ready (length file) (w .state) (length (w .a)) (length (w .b)) (length work) ≡ fault (numberOf why)
+      → MeetsOn file w work rec (record { answer = Refused why; state = w .state }) (w .a) (w .b) work rec
+  unfolding stepOn settle
+  on-refused {why} e = rw e (rw (on-kept w (refused (numberOf why)) none) (record { answer = refl; state = refl; left = refl; right = refl; drawn = refl; written = refl }))
+
+  module _ (e : ready (length file) (w .state) (length (w .a)) (length (w .b)) (length work) ≡ ok tt) {r : SteppedOn} {p work′ rec′ : List ℕ} where
+    pub on-odd : isOdd (w .state .frame) ≡ true → Builds (λ shown. advance (take (w .state .end) file) (w .state) shown (w .b)) (w .state) (w .b) work rec r p work′ rec′
+        → MeetsOn file w work rec r (w .a) p work′ rec′
+    unfolding stepOn onHidden hiddenOf shownOf
+    on-odd h q = let k = q .steps (w .a) in rw (e, h) (record { answer = k .answer; state = k .state; left = refl; right = k .picture; drawn = k .drawn; written = k .written })
+
+    pub on-even : isOdd (w .state .frame) ≡ false → Builds (λ shown. advance (take (w .state .end) file) (w .state) shown (w .a)) (w .state) (w .a) work rec r p work′ rec′
+        → MeetsOn file w work rec r p (w .b) work′ rec′
+    unfolding stepOn onHidden hiddenOf shownOf
+    on-even h q = let k = q .steps (w .b) in rw (e, h) (record { answer = k .answer; state = k .state; left = k .picture; right = refl; drawn = k .drawn; written = k .written })
