@@ -3,3 +3,4 @@ pub mod Model
 pub mod Trace
 pub mod OutcomeLaws
 pub mod StepLaws
+pub mod BackLaws
