@@ -1,0 +1,39 @@
+-- `words::read_state`: the six numbers.
+use Rattle.words.specs.Words.{stateIn}
+use borrow.Author.Needs.{needs}
+use Rattle.words.proofs.read_state.Statement.{statement}
+use Rattle.words.proofs.read_state.Tie as tie
+
+number64-requires : tie.Need-number64-requires
+number64-requires c κs = search needs
+
+number64-requires-2 : tie.Need-number64-requires-2
+number64-requires-2 c κs = search needs
+
+number64-requires-3 : tie.Need-number64-requires-3
+number64-requires-3 c κs = search needs
+
+number64-requires-4 : tie.Need-number64-requires-4
+number64-requires-4 c κs = search needs
+
+number64-requires-5 : tie.Need-number64-requires-5
+number64-requires-5 c κs = search needs
+
+number64-requires-6 : tie.Need-number64-requires-6
+number64-requires-6 c κs = search needs
+
+returns : tie.Need-returns
+unfolding stateIn
+returns c = rw (c .before .before .before .before .before .number64 .ensures, c .before .before .before .before .number642 .ensures, c .before .before .before .number643 .ensures, c .before .before .number644 .ensures, c .before .number645 .ensures, c .number646 .ensures)
+
+pub read-state-spec : {M : Type 1} → statement M
+read-state-spec =
+    tie.close
+    (tie.spec
+    number64-requires
+    number64-requires-2
+    number64-requires-3
+    number64-requires-4
+    number64-requires-5
+    number64-requires-6
+    returns)

@@ -1,0 +1,39 @@
+-- `words::write_report`: the four numbers, one after the other.
+use Rattle.words.specs.WordLaws.{put-none, put-more, laid, not-laid}
+use mathlib.Core.List.{[], _∷_}
+use borrow.Author.Needs.{needs}
+use Rattle.words.proofs.write_report.Statement.{statement}
+use Rattle.words.proofs.write_report.Tie as tie
+
+returns : tie.Need-returns
+returns c = not-laid (_ ∷ _ ∷ _ ∷ _ ∷ []) (c .if1 .taken)
+
+put64-requires : tie.Need-put64-requires
+put64-requires c κs = search needs
+
+put64-requires-2 : tie.Need-put64-requires-2
+put64-requires-2 c κs = search needs
+
+put64-requires-3 : tie.Need-put64-requires-3
+put64-requires-3 c κs = search needs
+
+put64-requires-4 : tie.Need-put64-requires-4
+put64-requires-4 c κs = search needs
+
+same-length : tie.Need-same-length
+same-length c = search needs
+
+returns-2 : tie.Need-returns-2
+returns-2 c = let k = c .before .before .before .before .before .before .before .before .before .before .before .before .before .before .before .before .before .before .args in laid (k .method ∷ k .time ∷ k .changed ∷ k .length ∷ []) (c .before .before .before .before .before .before .before .before .before .before .before .before .before .before .before .before .if1 .left) (put-more (k .method ∷ k .time ∷ k .changed ∷ []) (k .length) (put-more (k .method ∷ k .time ∷ []) (k .changed) (put-more (k .method ∷ []) (k .time) (put-more [] (k .method) put-none (c .before .before .before .before .before .before .before .before .before .before .before .before .before .before .put64 .ensures .0)) (c .before .before .before .before .before .before .before .before .before .before .put642 .ensures .0)) (c .before .before .before .before .before .before .put643 .ensures .0)) (c .before .before .put644 .ensures .0))
+
+pub write-report-spec : {M : Type 1} → statement M
+write-report-spec =
+    tie.close
+    (tie.spec
+    returns
+    put64-requires
+    put64-requires-2
+    put64-requires-3
+    put64-requires-4
+    same-length
+    returns-2)

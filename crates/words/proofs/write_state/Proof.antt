@@ -1,0 +1,50 @@
+-- `words::write_state`: the six numbers, one after the other.
+use Rattle.words.specs.WordLaws.{put-none, put-more, laid, not-laid}
+use Rattle.words.specs.Words.{stateWords}
+use mathlib.Core.List.{[], _∷_}
+use borrow.Author.Needs.{needs}
+use Rattle.words.proofs.write_state.Statement.{statement}
+use Rattle.words.proofs.write_state.Tie as tie
+
+returns : tie.Need-returns
+unfolding stateWords
+returns c = not-laid (_ ∷ _ ∷ _ ∷ _ ∷ _ ∷ _ ∷ []) (c .if1 .taken)
+
+put64-requires : tie.Need-put64-requires
+put64-requires c κs = search needs
+
+put64-requires-2 : tie.Need-put64-requires-2
+put64-requires-2 c κs = search needs
+
+put64-requires-3 : tie.Need-put64-requires-3
+put64-requires-3 c κs = search needs
+
+put64-requires-4 : tie.Need-put64-requires-4
+put64-requires-4 c κs = search needs
+
+put64-requires-5 : tie.Need-put64-requires-5
+put64-requires-5 c κs = search needs
+
+put64-requires-6 : tie.Need-put64-requires-6
+put64-requires-6 c κs = search needs
+
+same-length : tie.Need-same-length
+same-length c = search needs
+
+returns-2 : tie.Need-returns-2
+unfolding stateWords
+returns-2 c = let k = c .before .before .before .before .before .before .before .before .before .before .before .before .before .before .before .before .before .before .before .before .before .before .before .before .before .before .before .args .state in laid (k .sizes .width ∷ k .sizes .height ∷ k .sizes .planes ∷ k .frame ∷ k .next ∷ k .end ∷ []) (c .before .before .before .before .before .before .before .before .before .before .before .before .before .before .before .before .before .before .before .before .before .before .before .before .before .if1 .left) (put-more (k .sizes .width ∷ k .sizes .height ∷ k .sizes .planes ∷ k .frame ∷ k .next ∷ []) (k .end) (put-more (k .sizes .width ∷ k .sizes .height ∷ k .sizes .planes ∷ k .frame ∷ []) (k .next) (put-more (k .sizes .width ∷ k .sizes .height ∷ k .sizes .planes ∷ []) (k .frame) (put-more (k .sizes .width ∷ k .sizes .height ∷ []) (k .sizes .planes) (put-more (k .sizes .width ∷ []) (k .sizes .height) (put-more [] (k .sizes .width) put-none (c .before .before .before .before .before .before .before .before .before .before .before .before .before .before .before .before .before .before .before .before .before .before .put64 .ensures .0)) (c .before .before .before .before .before .before .before .before .before .before .before .before .before .before .before .before .before .before .put642 .ensures .0)) (c .before .before .before .before .before .before .before .before .before .before .before .before .before .before .put643 .ensures .0)) (c .before .before .before .before .before .before .before .before .before .before .put644 .ensures .0)) (c .before .before .before .before .before .before .put645 .ensures .0)) (c .before .before .put646 .ensures .0))
+
+pub write-state-spec : {M : Type 1} → statement M
+write-state-spec =
+    tie.close
+    (tie.spec
+    returns
+    put64-requires
+    put64-requires-2
+    put64-requires-3
+    put64-requires-4
+    put64-requires-5
+    put64-requires-6
+    same-length
+    returns-2)

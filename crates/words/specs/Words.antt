@@ -1,0 +1,52 @@
+-- Numbers of eight bytes, the lowest byte first, as a C program on x86-64 keeps them. A state is six of them in the paper's order:
+-- width, height, planes, frame number, next place, end place.
+use Prim.Native.Nat.{ℕ, _+_, _*_, _/_, _%_}
+use mathlib.Core.List.{List, [], _∷_, _++_}
+use mathlib.Core.Path.{_≡_, refl}
+use lib.Dec.{eqb}
+use lib.ListN.{length, getD}
+use Rattle.laws.specs.Result.{pick}
+use Rattle.state.specs.declared.State.{State}
+
+-- the number in four bytes and in eight, from a place on
+unfoldable pub le32 : List ℕ → ℕ → ℕ
+le32 s at = getD s at 0 + 256 * getD s (at + 1) 0 + 65536 * getD s (at + 2) 0 + 16777216 * getD s (at + 3) 0
+
+unfoldable pub le64 : List ℕ → ℕ → ℕ
+le64 s at = le32 s at + 4294967296 * le32 s (at + 4)
+
+-- the bytes of a number
+unfoldable pub le32Bytes : ℕ → List ℕ
+le32Bytes n = n % 256 ∷ n / 256 % 256 ∷ n / 65536 % 256 ∷ n / 16777216 % 256 ∷ []
+
+unfoldable pub le64Bytes : ℕ → List ℕ
+le64Bytes n = le32Bytes (n % 4294967296) ++ le32Bytes (n / 4294967296)
+
+unfoldable pub wordsBytes : List ℕ → List ℕ
+wordsBytes [] = []
+wordsBytes (n ∷ ns) = le64Bytes n ++ wordsBytes ns
+
+-- the state in 48 bytes, and the six numbers of a state
+unfoldable pub stateIn : List ℕ → State
+stateIn s = record {
+  sizes = record { width = le64 s 0; height = le64 s 8; planes = le64 s 16 };
+  frame = le64 s 24;
+  next = le64 s 32;
+  end = le64 s 40;
+}
+
+unfoldable pub stateWords : State → List ℕ
+stateWords x = x .sizes .width ∷ x .sizes .height ∷ x .sizes .planes ∷ x .frame ∷ x .next ∷ x .end ∷ []
+
+-- numbers laid into a buffer of their length; a buffer of another length stays
+unfoldable pub lay : List ℕ → List ℕ → List ℕ
+lay ns out = pick (eqb (length out) (8 * length ns)) (wordsBytes ns) out
+
+-- 300 in eight bytes, and back
+there : wordsBytes (300 ∷ []) ≡ 44 ∷ 1 ∷ 0 ∷ 0 ∷ 0 ∷ 0 ∷ 0 ∷ 0 ∷ []
+unfolding wordsBytes le64Bytes le32Bytes
+there = refl
+
+back : le64 (44 ∷ 1 ∷ 0 ∷ 0 ∷ 0 ∷ 0 ∷ 0 ∷ 0 ∷ []) 0 ≡ 300
+unfolding le64 le32
+back = refl
