@@ -1,0 +1,105 @@
+-- The C interface: what each exported function answers, and what it leaves in the buffers. A state crosses as 48 bytes, a report as
+-- 32 and a length as 8 (numbers of eight bytes); a slice for one of them of another length is 11, before everything.
+use Prim.Native.Nat.{ℕ}
+use mathlib.Core.Bool.{Bool, _&&_}
+use mathlib.Core.List.{List, [], _∷_, _++_}
+use mathlib.Core.Option.{none}
+use mathlib.Core.Path.{_≡_}
+use lib.Dec.{eqb}
+use lib.ListN.{length, drop}
+use Rattle.laws.specs.Result.{Res, Res.ok, Res.fault, pick}
+use Rattle.state.specs.declared.State.{State}
+use Rattle.state.specs.declared.Sizes.{Sizes}
+use Rattle.opening.specs.Open.{Film, opening, stateAfter, pictureAfter}
+use Rattle.player.specs.Step.{World, Report, Answer, Answer.refused, Answer.ended, Answer.tookOn, Answer.tookBack, After, stepOn, stepBack, workAfter}
+use Rattle.shown.specs.Row.{rowPlace}
+use Rattle.writer.specs.Write.{deltaBytes, written, bufferAfter}
+use Rattle.words.specs.Words.{stateIn, stateWords, lay}
+
+-- 0 where there is a value, otherwise the refusal's number
+abbrev pub numberOr : {A : Type 0} → Res A → ℕ
+numberOr (ok a) = 0
+numberOr (fault n) = n
+
+-- 11 unless the slices for state, report or length have their lengths
+abbrev pub sized : {A : Type 0} → Bool → Res A → Res A
+sized t q = pick t q (fault 11)
+
+-- opening
+pub record OpensC (file a b state : List ℕ) (r : ℕ) (a′ b′ state′ : List ℕ) : Type 0 where
+  pub answer : r ≡ numberOr (sized (eqb (length state) 48) (opening file (length a) (length b)))
+  pub left : a′ ≡ pictureAfter a (sized (eqb (length state) 48) (opening file (length a) (length b)))
+  pub right : b′ ≡ pictureAfter b (sized (eqb (length state) 48) (opening file (length a) (length b)))
+  pub stateOut : state′ ≡ lay (stateWords (stateAfter (opening file (length a) (length b)))) state
+
+-- a step's answer: 0 taken, 1 End, otherwise the refusal's number
+abbrev pub answerNumber : Answer → ℕ
+answerNumber (refused n) = n
+answerNumber ended = 1
+answerNumber (tookOn r) = 0
+answerNumber tookBack = 0
+
+-- the state's bytes change where a step is taken, the report's where a step on is
+abbrev pub stateLeft : Answer → State → List ℕ → List ℕ
+stateLeft (refused n) s out = out
+stateLeft ended s out = out
+stateLeft (tookOn r) s out = lay (stateWords s) out
+stateLeft tookBack s out = lay (stateWords s) out
+
+abbrev pub reportLeft : Answer → List ℕ → List ℕ
+reportLeft (refused n) out = out
+reportLeft ended out = out
+reportLeft (tookOn r) out = lay (r .method ∷ r .time ∷ r .changed ∷ r .length ∷ []) out
+reportLeft tookBack out = out
+
+-- what a step leaves, or 11 for a slice of a wrong length
+abbrev pub sizedStep : Bool → World → After → After
+sizedStep t w o = pick t o (record { answer = refused 11; world = w; bytes = []; work = none })
+
+abbrev pub worldIn : List ℕ → List ℕ → List ℕ → World
+worldIn state a b = record { a = a; b = b; state = stateIn state }
+
+-- stepping on
+pub record LeavesOnC (o : After) (work rec state report : List ℕ) (r : ℕ) (a′ b′ work′ rec′ state′ report′ : List ℕ) : Type 0 where
+  pub answer : r ≡ answerNumber (o .answer)
+  pub left : a′ ≡ o .world .a
+  pub right : b′ ≡ o .world .b
+  pub drawn : work′ ≡ workAfter work (o .work)
+  pub written : rec′ ≡ o .bytes ++ drop (length (o .bytes)) rec
+  pub stateOut : state′ ≡ stateLeft (o .answer) (o .world .state) state
+  pub reportOut : report′ ≡ reportLeft (o .answer) report
+
+abbrev pub StepsOnC : (file a b work rec state report : List ℕ) (r : ℕ) (a′ b′ work′ rec′ state′ report′ : List ℕ) → Type 0
+StepsOnC file a b work rec state report r a′ b′ work′ rec′ state′ report′ =
+    LeavesOnC (sizedStep (eqb (length state) 48 && eqb (length report) 32) (worldIn state a b) (stepOn file (worldIn state a b) (length work) (length rec))) work rec state report r a′ b′ work′ rec′ state′ report′
+
+-- stepping back
+pub record LeavesBackC (o : After) (state : List ℕ) (r : ℕ) (a′ b′ state′ : List ℕ) : Type 0 where
+  pub answer : r ≡ answerNumber (o .answer)
+  pub left : a′ ≡ o .world .a
+  pub right : b′ ≡ o .world .b
+  pub stateOut : state′ ≡ stateLeft (o .answer) (o .world .state) state
+
+abbrev pub StepsBackC : (bytes a b state : List ℕ) (r : ℕ) (a′ b′ state′ : List ℕ) → Type 0
+StepsBackC bytes a b state r a′ b′ state′ = LeavesBackC (sizedStep (eqb (length state) 48) (worldIn state a b) (stepBack (worldIn state a b) bytes)) state r a′ b′ state′
+
+-- a row's place, 0 if it is refused, and the refusal's number
+unfoldable pub rowC : List ℕ → ℕ → ℕ → ℕ → ℕ → Res ℕ
+rowC state a b plane row = sized (eqb (length state) 48) (rowPlace (stateIn state) a b plane row)
+
+abbrev pub placeOr : Res ℕ → ℕ
+placeOr (ok at) = at
+placeOr (fault n) = 0
+
+-- writing a delta
+unfoldable pub writtenC : Sizes → List ℕ → List ℕ → ℕ → ℕ → Res ℕ
+writtenC z old new room size = sized (eqb size 8) (written z old new room)
+
+abbrev pub lengthLeft : List ℕ → Res ℕ → List ℕ
+lengthLeft out (ok n) = lay (n ∷ []) out
+lengthLeft out (fault n) = out
+
+pub record WritesC (z : Sizes) (old new out len : List ℕ) (r : ℕ) (out′ len′ : List ℕ) : Type 0 where
+  pub answer : r ≡ numberOr (writtenC z old new (length out) (length len))
+  pub deltaOut : out′ ≡ bufferAfter (deltaBytes z old new) out (writtenC z old new (length out) (length len))
+  pub lengthOut : len′ ≡ lengthLeft len (writtenC z old new (length out) (length len))

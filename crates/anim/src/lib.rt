@@ -1,0 +1,153 @@
+// The C interface: each function is a thin cover of the library's, on numbers and byte slices.
+ghost use mathlib.Core.Path.{_≡_};
+ghost use lib.ListN.{length};
+ghost use Rattle.anim.specs.Export.{OpensC, StepsOnC, StepsBackC, rowC, numberOr, placeOr, WritesC};
+use opening::Opening;
+use player::Back;
+use player::On;
+use refusal::Refusal;
+use shown::Place;
+use state::Sizes;
+use writer::Delta;
+
+// The number of a slice of a wrong length.
+fn wrong_length() -> u64
+    ensures { λ r. ⌜ r ≡ 11 ⌝ }
+{
+    let why = Refusal::OutsideLimits;
+    why.number()
+}
+
+// Opens a file: A and B get its first picture, and state the state after it.
+#[no_mangle]
+pub extern "C" fn anim_open(file: &[u8], a: &mut [u8], b: &mut [u8], state: &mut [u8]) -> u64
+    ensures { λ r. ⌜ OpensC (now (file .entry)) (now (a .entry)) (now (b .entry)) (now (state .entry)) r (now (a .exit)) (now (b .exit)) (now (state .exit)) ⌝ }
+{
+    if state.len() != 48 {
+        return wrong_length();
+    }
+    let o = opening::open(file, a, b);
+    words::write_state(state, o.state);
+    let answer = o.answer;
+    match answer {
+        Opening::Refused(why) => why.number(),
+        Opening::Opened => 0,
+    }
+}
+
+// Steps on from the state in its slice.
+#[no_mangle]
+pub extern "C" fn anim_step_on(
+    file: &[u8],
+    state: &mut [u8],
+    a: &mut [u8],
+    b: &mut [u8],
+    work: &mut [u8],
+    rec: &mut [u8],
+    report: &mut [u8],
+) -> u64
+    ensures { λ r. ⌜ StepsOnC (now (file .entry)) (now (a .entry)) (now (b .entry)) (now (work .entry)) (now (rec .entry)) (now (state .entry)) (now (report .entry)) r (now (a .exit)) (now (b .exit)) (now (work .exit)) (now (rec .exit)) (now (state .exit)) (now (report .exit)) ⌝ }
+{
+    if state.len() != 48 {
+        return wrong_length();
+    }
+    if report.len() != 32 {
+        return wrong_length();
+    }
+    let s = player::step_on(file, words::read_state(state), a, b, work, rec);
+    let answer = s.answer;
+    match answer {
+        On::Refused(why) => why.number(),
+        On::End => 1,
+        On::Taken {
+            method,
+            time,
+            changed,
+            record,
+        } => {
+            words::write_state(state, s.state);
+            words::write_report(report, method, time, changed, record);
+            0
+        }
+    }
+}
+
+// Steps back from the state in its slice with a record.
+#[no_mangle]
+pub extern "C" fn anim_step_back(bytes: &[u8], state: &mut [u8], a: &mut [u8], b: &mut [u8]) -> u64
+    ensures { λ r. ⌜ StepsBackC (now (bytes .entry)) (now (a .entry)) (now (b .entry)) (now (state .entry)) r (now (a .exit)) (now (b .exit)) (now (state .exit)) ⌝ }
+{
+    if state.len() != 48 {
+        return wrong_length();
+    }
+    let s = player::step_back(words::read_state(state), a, b, bytes);
+    let answer = s.answer;
+    match answer {
+        Back::Refused(why) => why.number(),
+        Back::Taken => {
+            words::write_state(state, s.state);
+            0
+        }
+    }
+}
+
+// The place of a row of a plane in A or B, 0 if it is refused.
+#[no_mangle]
+pub extern "C" fn anim_row_place(state: &[u8], a: &[u8], b: &[u8], plane: u64, row: u64) -> u64
+    ensures { λ r. ⌜ r ≡ placeOr (rowC (now (state .entry)) (length (now (a .entry))) (length (now (b .entry))) plane row) ⌝ }
+{
+    if state.len() != 48 {
+        return 0;
+    }
+    let p = shown::row_place(words::read_state(state), a, b, plane as usize, row as usize);
+    match p {
+        Place::Refused(_) => 0,
+        Place::At(at) => at as u64,
+    }
+}
+
+// The number of the refusal of such a row, 0 if it isn't refused.
+#[no_mangle]
+pub extern "C" fn anim_row_refusal(state: &[u8], a: &[u8], b: &[u8], plane: u64, row: u64) -> u64
+    ensures { λ r. ⌜ r ≡ numberOr (rowC (now (state .entry)) (length (now (a .entry))) (length (now (b .entry))) plane row) ⌝ }
+{
+    if state.len() != 48 {
+        return wrong_length();
+    }
+    let p = shown::row_place(words::read_state(state), a, b, plane as usize, row as usize);
+    match p {
+        Place::Refused(why) => why.number(),
+        Place::At(_) => 0,
+    }
+}
+
+// Writes the delta that turns the old frame into the new one, and its length.
+#[no_mangle]
+pub extern "C" fn anim_write_delta(
+    old: &[u8],
+    new: &[u8],
+    out: &mut [u8],
+    len: &mut [u8],
+    width: u64,
+    height: u64,
+    planes: u64,
+) -> u64
+    ensures { λ r. ⌜ WritesC (record { width = width; height = height; planes = planes }) (now (old .entry)) (now (new .entry)) (now (out .entry)) (now (len .entry)) r (now (out .exit)) (now (len .exit)) ⌝ }
+{
+    if len.len() != 8 {
+        return wrong_length();
+    }
+    let sizes = Sizes {
+        width: width as usize,
+        height: height as usize,
+        planes: planes as usize,
+    };
+    let d = writer::write(out, old, new, sizes);
+    match d {
+        Delta::Refused(why) => why.number(),
+        Delta::Written(n) => {
+            words::write_number(len, n);
+            0
+        }
+    }
+}
