@@ -25,12 +25,16 @@ numberOr (fault n) = n
 abbrev pub sized : {A : Type 0} → Bool → Res A → Res A
 sized t q = pick t q (fault 11)
 
--- opening
-pub record OpensC (file a b state : List ℕ) (r : ℕ) (a′ b′ state′ : List ℕ) : Type 0 where
-  pub answer : r ≡ numberOr (sized (eqb (length state) 48) (opening file (length a) (length b)))
-  pub left : a′ ≡ pictureAfter a (sized (eqb (length state) 48) (opening file (length a) (length b)))
-  pub right : b′ ≡ pictureAfter b (sized (eqb (length state) 48) (opening file (length a) (length b)))
-  pub stateOut : state′ ≡ lay (stateWords (stateAfter (opening file (length a) (length b)))) state
+-- opening that comes to q and answers the state s
+pub record LeavesOpenC (q : Res Film) (s : State) (a b state : List ℕ) (r : ℕ) (a′ b′ state′ : List ℕ) : Type 0 where
+  pub answer : r ≡ numberOr q
+  pub left : a′ ≡ pictureAfter a q
+  pub right : b′ ≡ pictureAfter b q
+  pub stateOut : state′ ≡ lay (stateWords s) state
+
+abbrev pub OpensC : (file a b state : List ℕ) (r : ℕ) (a′ b′ state′ : List ℕ) → Type 0
+OpensC file a b state r a′ b′ state′ =
+    LeavesOpenC (sized (eqb (length state) 48) (opening file (length a) (length b))) (stateAfter (opening file (length a) (length b))) a b state r a′ b′ state′
 
 -- a step's answer: 0 taken, 1 End, otherwise the refusal's number
 abbrev pub answerNumber : Answer → ℕ
@@ -84,22 +88,22 @@ abbrev pub StepsBackC : (bytes a b state : List ℕ) (r : ℕ) (a′ b′ state�
 StepsBackC bytes a b state r a′ b′ state′ = LeavesBackC (sizedStep (eqb (length state) 48) (worldIn state a b) (stepBack (worldIn state a b) bytes)) state r a′ b′ state′
 
 -- a row's place, 0 if it is refused, and the refusal's number
-unfoldable pub rowC : List ℕ → ℕ → ℕ → ℕ → ℕ → Res ℕ
+abbrev pub rowC : List ℕ → ℕ → ℕ → ℕ → ℕ → Res ℕ
 rowC state a b plane row = sized (eqb (length state) 48) (rowPlace (stateIn state) a b plane row)
 
 abbrev pub placeOr : Res ℕ → ℕ
 placeOr (ok at) = at
 placeOr (fault n) = 0
 
--- writing a delta
-unfoldable pub writtenC : Sizes → List ℕ → List ℕ → ℕ → ℕ → Res ℕ
-writtenC z old new room size = sized (eqb size 8) (written z old new room)
-
+-- writing a delta that comes to q
 abbrev pub lengthLeft : List ℕ → Res ℕ → List ℕ
 lengthLeft out (ok n) = lay (n ∷ []) out
 lengthLeft out (fault n) = out
 
-pub record WritesC (z : Sizes) (old new out len : List ℕ) (r : ℕ) (out′ len′ : List ℕ) : Type 0 where
-  pub answer : r ≡ numberOr (writtenC z old new (length out) (length len))
-  pub deltaOut : out′ ≡ bufferAfter (deltaBytes z old new) out (writtenC z old new (length out) (length len))
-  pub lengthOut : len′ ≡ lengthLeft len (writtenC z old new (length out) (length len))
+pub record LeavesDeltaC (q : Res ℕ) (bytes out len : List ℕ) (r : ℕ) (out′ len′ : List ℕ) : Type 0 where
+  pub answer : r ≡ numberOr q
+  pub deltaOut : out′ ≡ bufferAfter bytes out q
+  pub lengthOut : len′ ≡ lengthLeft len q
+
+abbrev pub WritesC : (z : Sizes) (old new out len : List ℕ) (r : ℕ) (out′ len′ : List ℕ) → Type 0
+WritesC z old new out len r out′ len′ = LeavesDeltaC (sized (eqb (length len) 8) (written z old new (length out))) (deltaBytes z old new) out len r out′ len′
