@@ -5,7 +5,7 @@ use mathlib.Core.Bool.{Bool, true, false}
 use mathlib.Core.List.{List, [], _∷_}
 use mathlib.Core.Path.{_≡_, refl, sym, _∙_}
 use lib.ListN.{length, take, drop, length-append}
-use Rattle.writer.specs.Column.{Op, Op.skip, Op.uniq, Op.same, columnOps, opBytes, opsBytes, columnBytes}
+use Rattle.column.specs.Column.{Op, Op.skip, Op.uniq, Op.same, columnOps, opBytes, opsBytes, columnBytes}
 use Rattle.writer.specs.Write.{columnAt, columnsBytes, equal, planeBytes, listsBytes}
 use Rattle.writer.specs.PlaneLaws.{length-column}
 use Rattle.roundtrip.specs.OpLaws.{reach, reachAll, Valid, ValidAll, valid-column, reach-column}

@@ -11,7 +11,7 @@ use lib.ListN.{length, getD, take, drop, set, length-append, length-drop, length
 use lib.Seq.{getD-set-other, getD-set-same, drop-drop, drop-append-seam, take-all}
 use borrow.Author.Tests.{ltb-true, ltb-false}
 use Rattle.laws.specs.Result.{Res, Res.ok}
-use Rattle.writer.specs.Column.{Op, columnOps, opsBytes, columnBytes}
+use Rattle.column.specs.Column.{Op, columnOps, opsBytes, columnBytes}
 use Rattle.writer.specs.Write.{columnAt, columnsBytes}
 use Rattle.delta.specs.Delta.{Reading, byteAt, readOps, readColumn, readColumns, draw}
 use Rattle.roundtrip.specs.OpLaws.{reachAll, passedAll, valid-column, reach-column, column, column-new}

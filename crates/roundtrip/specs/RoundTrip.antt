@@ -15,7 +15,7 @@ use Rattle.laws.specs.Bytes.{be32}
 use Rattle.state.specs.declared.Sizes.{Sizes}
 use Rattle.state.specs.State.{rowBytes, frameBytes, frameLength}
 use Rattle.state.specs.StateLaws.{Sound, sizes-sound}
-use Rattle.writer.specs.Column.{columnBytes}
+use Rattle.column.specs.Column.{columnBytes}
 use Rattle.writer.specs.Write.{columnsBytes, equal, planeBytes, be32Bytes, pointerOf, pointersBytes, listsBytes, deltaBytes}
 use Rattle.writer.specs.PlaneLaws.{length-be32, pointers-length}
 use Rattle.delta.specs.Delta.{Reading, shapeOf, readColumns, pointer, readPlane, readPlanes, readPicture, readDelta, draw, newFrame, readFrame}

@@ -1,9 +1,4 @@
-pub mod Column
 pub mod Write
-pub mod ColumnLaws
-pub mod Piece
-pub mod WalkLaws
-pub mod CutLaws
 pub mod Planes
 pub mod PlaneLaws
 pub mod DeltaLaws

@@ -12,7 +12,7 @@ use lib.Seq.{length-take-le, take-at, drop-cons}
 use borrow.Author.Tests.{eq-eqb, ne-eqb}
 use Rattle.laws.specs.Result.{pick}
 use Rattle.laws.specs.Put.{Parts}
-use Rattle.writer.specs.Column.{columnBytes}
+use Rattle.column.specs.Column.{columnBytes}
 use Rattle.writer.specs.Write.{columnAt, columnsBytes, equal, planeBytes, be32Bytes, pointerOf, pointersBytes, listsBytes}
 use Rattle.writer.specs.Planes.{InFrame, Plane, Frames, Walking}
 

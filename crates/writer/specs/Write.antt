@@ -11,7 +11,7 @@ use Rattle.refusal.specs.Number.{numberOf}
 use Rattle.runs.specs.Runs.{kept, changed, runsOf}
 use Rattle.state.specs.State.{rowBytes, frameLength}
 use Rattle.state.specs.declared.Sizes.{Sizes}
-use Rattle.writer.specs.Column.{join, groupsOf, loose, stretch, restOf, uniqs, cut, cutAll, opsOf, columnOps, opBytes, opsBytes, columnBytes}
+use Rattle.column.specs.Column.{join, groupsOf, loose, stretch, restOf, uniqs, cut, cutAll, opsOf, columnOps, opBytes, opsBytes, columnBytes}
 use Rattle.writer.specs.declared.Delta.{Delta}
 use Rattle.writer.specs.declared.Delta.the-variants.{Written, Refused}
 

@@ -1,18 +1,15 @@
 // The writer of method 5 deltas: what turns one frame into another.
 ghost use mathlib.Core.Path.{_≡_};
-ghost use Prim.Native.Nat.{ℕ, _+_, _-_, _*_, _<_, _≤_};
-ghost use lib.ListN.{length, getD, drop};
+ghost use Prim.Native.Nat.{ℕ, _+_, _*_, _<_, _≤_};
+ghost use lib.ListN.{length, take, drop};
 ghost use lib.Dec.{eqb};
 ghost use lib.Seq.{sets};
 ghost use Rattle.laws.specs.Result.{pick};
 ghost use Rattle.laws.specs.Put.{Put};
 ghost use Rattle.state.specs.State.{rowBytes};
-ghost use Rattle.runs.specs.Runs.{runsOf};
-ghost use Rattle.writer.specs.Column.{Op, cut, opsOf, opBytes, opsBytes, columnBytes};
+ghost use Rattle.column.specs.Column.{columnBytes};
 ghost use Rattle.writer.specs.Planes.{InFrame, Plane, Frames};
 ghost use Rattle.writer.specs.Write.{columnAt, columnsBytes, equal, planeBytes, be32Bytes, pointersBytes, listsBytes, deltaBytes, written, bufferAfter, deltaOf};
-ghost use Rattle.writer.specs.Piece.{Unchanged, GroupRows, LooseRows, NextPiece, pieceOps, opsIn, bytesIn, Measured};
-use buffer::copy;
 use buffer::fill;
 use refusal::Refusal;
 use state::Length;
@@ -22,292 +19,6 @@ use state::Sizes;
 pub enum Delta {
     Written(usize),
     Refused(Refusal),
-}
-
-// What becomes of rows of a column: unchanged rows behind the last changed one write nothing.
-enum Kind {
-    Rest,
-    Skip,
-    Same,
-    Uniq,
-}
-
-// Rows of a column that are written as ops of one kind.
-struct Piece {
-    kind: Kind,
-    rows: usize,
-}
-
-// The ops of a column: how many, and the bytes that they are written in.
-struct Totals {
-    ops: usize,
-    bytes: usize,
-}
-
-// The first changed row from a row on, or the end.
-fn first_changed(old: &[u8], new: &[u8], from: usize) -> usize
-    requires { ⌜ (length (now old) ≡ length (now new)) × (from ≤ length (now new)) ⌝ }
-    ensures { λ r. ⌜ Unchanged (now (old .entry)) (now (new .entry)) from r ⌝ }
-{
-    let mut i = from;
-    while i < new.len() {
-        if new[i] != old[i] {
-            return i;
-        }
-        i += 1;
-    }
-    i
-}
-
-// The first row behind a changed row that is unchanged or has another new value, or the end.
-fn group_end(old: &[u8], new: &[u8], from: usize) -> usize
-    requires { ⌜ (length (now old) ≡ length (now new)) × (from < length (now new)) × (getD (now new) from 0 ≡ getD (now old) from 0 → ⊥) ⌝ }
-    ensures { λ r. ⌜ GroupRows (now (old .entry)) (now (new .entry)) from r ⌝ }
-{
-    let value = new[from];
-    let mut i = from + 1;
-    while i < new.len() {
-        if new[i] != value {
-            return i;
-        }
-        if new[i] == old[i] {
-            return i;
-        }
-        i += 1;
-    }
-    i
-}
-
-// The end of the rows that become Uniqs, of which the first group is given: a group of at least four, or the stretch's end.
-fn loose_end(old: &[u8], new: &[u8], from: usize, first: usize) -> usize
-    requires { ⌜ (length (now old) ≡ length (now new)) × GroupRows (now old) (now new) from first × (first - from < 4) ⌝ }
-    ensures { λ r. ⌜ LooseRows (now (old .entry)) (now (new .entry)) from r ⌝ }
-{
-    let mut i = first;
-    while i < new.len() {
-        if new[i] == old[i] {
-            return i;
-        }
-        let end = group_end(old, new, i);
-        if 4 <= end - i {
-            return i;
-        }
-        i = end;
-    }
-    i
-}
-
-// The next rows of a column, from a row on, that are written as ops of one kind.
-fn next_piece(old: &[u8], new: &[u8], from: usize) -> Piece
-    requires { ⌜ (length (now old) ≡ length (now new)) × (from < length (now new)) ⌝ }
-    ensures { λ r. ⌜ NextPiece (now (old .entry)) (now (new .entry)) from (r .kind) (r .rows) ⌝ }
-{
-    let start = first_changed(old, new, from);
-    if new.len() <= start {
-        return Piece {
-            kind: Kind::Rest,
-            rows: start - from,
-        };
-    }
-    if from < start {
-        return Piece {
-            kind: Kind::Skip,
-            rows: start - from,
-        };
-    }
-    let first = group_end(old, new, from);
-    if 4 <= first - from {
-        return Piece {
-            kind: Kind::Same,
-            rows: first - from,
-        };
-    }
-    let end = loose_end(old, new, from, first);
-    Piece {
-        kind: Kind::Uniq,
-        rows: end - from,
-    }
-}
-
-// How many ops a piece is cut into.
-fn piece_ops(piece: Piece) -> usize
-    requires { ⌜ piece .rows ≤ 1024 ⌝ }
-    ensures { λ r. ⌜ r ≡ opsIn (piece .kind) (piece .rows) ⌝ }
-{
-    let kind = piece.kind;
-    match kind {
-        Kind::Rest => 0,
-        Kind::Skip => (piece.rows + 126) / 127,
-        Kind::Same => (piece.rows + 254) / 255,
-        Kind::Uniq => (piece.rows + 126) / 127,
-    }
-}
-
-// How many bytes those ops are written in.
-fn piece_bytes(piece: Piece) -> usize
-    requires { ⌜ piece .rows ≤ 1024 ⌝ }
-    ensures { λ r. ⌜ r ≡ bytesIn (piece .kind) (piece .rows) ⌝ }
-{
-    let kind = piece.kind;
-    match kind {
-        Kind::Rest => 0,
-        Kind::Skip => (piece.rows + 126) / 127,
-        Kind::Same => (piece.rows + 254) / 255 * 3,
-        Kind::Uniq => (piece.rows + 126) / 127 + piece.rows,
-    }
-}
-
-// Measures the ops of a column.
-fn measure(old: &[u8], new: &[u8]) -> Totals
-    requires { ⌜ (length (now old) ≡ length (now new)) × (length (now new) ≤ 1024) ⌝ }
-    ensures { λ r. ⌜ Measured (now (old .entry)) (now (new .entry)) (r .ops) (r .bytes) ⌝ }
-{
-    let mut row = 0;
-    let mut ops = 0;
-    let mut bytes = 0;
-    while row < new.len() {
-        let piece = next_piece(old, new, row);
-        ops += piece_ops(piece);
-        bytes += piece_bytes(piece);
-        row += piece.rows;
-    }
-    Totals { ops, bytes }
-}
-
-// How many bytes a column is written in.
-fn column_length(old: &[u8], new: &[u8]) -> usize
-    requires { ⌜ (length (now old) ≡ length (now new)) × (length (now new) ≤ 1024) ⌝ }
-    ensures { λ r. ⌜ (r ≡ length (columnBytes (now (old .entry)) (now (new .entry)))) × (r ≤ 3073) ⌝ }
-{
-    let totals = measure(old, new);
-    if 255 < totals.ops {
-        return 1 + (new.len() + 126) / 127 + new.len();
-    }
-    1 + totals.bytes
-}
-
-// Writes Skips over rows at a place of out where they fit, and answers the place after them.
-fn write_skips(out: &mut [u8], at: usize, rows: usize) -> usize
-    requires { ⌜ at + length (opsBytes (cut (Op.skip rows))) ≤ length (now out) ⌝ }
-    ensures { λ r. ⌜ Put (now (out .entry)) at (opsBytes (cut (Op.skip rows))) (now (out .exit)) r ⌝ }
-{
-    let mut place = at;
-    let mut left = rows;
-    while 127 <= left {
-        out[place] = 127;
-        place += 1;
-        left -= 127;
-    }
-    if left == 0 {
-        return place;
-    }
-    out[place] = left as u8;
-    place + 1
-}
-
-// Writes one Same.
-fn write_same(out: &mut [u8], at: usize, rows: usize, value: u8) -> usize
-    requires { ⌜ (rows ≤ 255) × (at + length (opBytes (Op.same rows value)) ≤ length (now out)) ⌝ }
-    ensures { λ r. ⌜ Put (now (out .entry)) at (opBytes (Op.same rows value)) (now (out .exit)) r ⌝ }
-{
-    out[at] = 0;
-    out[at + 1] = rows as u8;
-    out[at + 2] = value;
-    at + 3
-}
-
-// Writes Sames over rows, all of one value.
-fn write_sames(out: &mut [u8], at: usize, rows: usize, value: u8) -> usize
-    requires { ⌜ at + length (opsBytes (cut (Op.same rows value))) ≤ length (now out) ⌝ }
-    ensures { λ r. ⌜ Put (now (out .entry)) at (opsBytes (cut (Op.same rows value))) (now (out .exit)) r ⌝ }
-{
-    let mut place = at;
-    let mut left = rows;
-    while 255 <= left {
-        place = write_same(out, place, 255, value);
-        left -= 255;
-    }
-    if left == 0 {
-        return place;
-    }
-    write_same(out, place, left, value)
-}
-
-// Writes one Uniq of the given rows.
-fn write_uniq(out: &mut [u8], at: usize, rows: &[u8]) -> usize
-    requires { ⌜ (length (now rows) ≤ 127) × (at + length (opBytes (Op.uniq (now rows))) ≤ length (now out)) ⌝ }
-    ensures { λ r. ⌜ Put (now (out .entry)) at (opBytes (Op.uniq (now (rows .entry)))) (now (out .exit)) r ⌝ }
-{
-    out[at] = (128 + rows.len()) as u8;
-    let start = at + 1;
-    let end = start + rows.len();
-    copy(&mut out[start..end], rows);
-    end
-}
-
-// Writes Uniqs of the given rows.
-fn write_uniqs(out: &mut [u8], at: usize, rows: &[u8]) -> usize
-    requires { ⌜ at + length (opsBytes (cut (Op.uniq (now rows)))) ≤ length (now out) ⌝ }
-    ensures { λ r. ⌜ Put (now (out .entry)) at (opsBytes (cut (Op.uniq (now (rows .entry))))) (now (out .exit)) r ⌝ }
-{
-    let mut place = at;
-    let mut from = 0;
-    while 127 <= rows.len() - from {
-        let end = from + 127;
-        place = write_uniq(out, place, &rows[from..end]);
-        from = end;
-    }
-    if from == rows.len() {
-        return place;
-    }
-    write_uniq(out, place, &rows[from..])
-}
-
-// Writes a piece of a column that begins at a row.
-fn write_piece(out: &mut [u8], at: usize, new: &[u8], row: usize, piece: Piece) -> usize
-    requires { ⌜ (0 < piece .rows) × (row + piece .rows ≤ length (now new)) × (at + length (opsBytes (pieceOps (piece .kind) (piece .rows) (drop row (now new)))) ≤ length (now out)) ⌝ }
-    ensures { λ r. ⌜ Put (now (out .entry)) at (opsBytes (pieceOps (piece .kind) (piece .rows) (drop row (now (new .entry))))) (now (out .exit)) r ⌝ }
-{
-    let kind = piece.kind;
-    let rows = piece.rows;
-    match kind {
-        Kind::Rest => at,
-        Kind::Skip => write_skips(out, at, rows),
-        Kind::Same => write_sames(out, at, rows, new[row]),
-        Kind::Uniq => {
-            let end = row + rows;
-            write_uniqs(out, at, &new[row..end])
-        }
-    }
-}
-
-// Writes the ops of a column.
-fn write_ops(out: &mut [u8], at: usize, old: &[u8], new: &[u8]) -> usize
-    requires { ⌜ (length (now old) ≡ length (now new)) × (at + length (opsBytes (opsOf (runsOf (now new) (now old)))) ≤ length (now out)) ⌝ }
-    ensures { λ r. ⌜ Put (now (out .entry)) at (opsBytes (opsOf (runsOf (now (new .entry)) (now (old .entry))))) (now (out .exit)) r ⌝ }
-{
-    let mut place = at;
-    let mut row = 0;
-    while row < new.len() {
-        let piece = next_piece(old, new, row);
-        place = write_piece(out, place, new, row, piece);
-        row += piece.rows;
-    }
-    place
-}
-
-// Writes a column: the op count byte and the ops, or Uniqs over all rows where the ops would be too many.
-fn write_column(out: &mut [u8], at: usize, old: &[u8], new: &[u8]) -> usize
-    requires { ⌜ (length (now old) ≡ length (now new)) × (length (now new) ≤ 1024) × (at + length (columnBytes (now old) (now new)) ≤ length (now out)) ⌝ }
-    ensures { λ r. ⌜ Put (now (out .entry)) at (columnBytes (now (old .entry)) (now (new .entry))) (now (out .exit)) r ⌝ }
-{
-    let totals = measure(old, new);
-    if 255 < totals.ops {
-        out[at] = ((new.len() + 126) / 127) as u8;
-        return write_uniqs(out, at + 1, new);
-    }
-    out[at] = totals.ops as u8;
-    write_ops(out, at + 1, old, new)
 }
 
 // Copies a column of a frame: its rows lie row bytes apart, from a place on.
@@ -320,6 +31,23 @@ fn copy_column(column: &mut [u8], frame: &[u8], row: usize, at: usize)
         column[i] = frame[at + i * row];
         i += 1;
     }
+}
+
+// Copies the column that starts at a place out of both frames, into the front of was and is.
+fn copy_columns(
+    was: &mut [u8],
+    is: &mut [u8],
+    old: &[u8],
+    new: &[u8],
+    row: usize,
+    height: usize,
+    at: usize,
+)
+    requires { ⌜ (height ≤ length (now was)) × (height ≤ length (now is)) × InFrame (now old) (now new) row height at ⌝ }
+    ensures { λ _. ⌜ (take height (now (was .exit)) ≡ columnAt (now (old .entry)) row at height) × (take height (now (is .exit)) ≡ columnAt (now (new .entry)) row at height) ⌝ }
+{
+    copy_column(&mut was[..height], old, row, at);
+    copy_column(&mut is[..height], new, row, at);
 }
 
 // How many bytes a column of the frames is written in; was and is are room for its rows.
@@ -335,9 +63,12 @@ fn length_in(
     requires { ⌜ (height ≤ length (now was)) × (height ≤ length (now is)) × InFrame (now old) (now new) row height at ⌝ }
     ensures { λ r. ⌜ (r ≡ length (columnBytes (columnAt (now (old .entry)) row at height) (columnAt (now (new .entry)) row at height))) × (r ≤ 3073) ⌝ }
 {
-    copy_column(&mut was[..height], old, row, at);
-    copy_column(&mut is[..height], new, row, at);
-    column_length(&was[..height], &is[..height])
+    copy_columns(was, is, old, new, row, height, at);
+    let l = column::length(&was[..height], &is[..height]);
+    match l {
+        column::Size::Bytes(n) => n,
+        column::Size::Refused(_) => 0,
+    }
 }
 
 // How many bytes the column is written in that starts at a place of the frames.
@@ -365,9 +96,12 @@ fn write_in(
     requires { ⌜ (height ≤ length (now was)) × (height ≤ length (now is)) × InFrame (now old) (now new) row height at × (place + length (columnBytes (columnAt (now old) row at height) (columnAt (now new) row at height)) ≤ length (now out)) ⌝ }
     ensures { λ r. ⌜ Put (now (out .entry)) place (columnBytes (columnAt (now (old .entry)) row at height) (columnAt (now (new .entry)) row at height)) (now (out .exit)) r ⌝ }
 {
-    copy_column(&mut was[..height], old, row, at);
-    copy_column(&mut is[..height], new, row, at);
-    write_column(out, place, &was[..height], &is[..height])
+    copy_columns(was, is, old, new, row, height, at);
+    let p = column::write(out, place, &was[..height], &is[..height]);
+    match p {
+        column::Placed::Next(next) => next,
+        column::Placed::Refused(_) => place,
+    }
 }
 
 // Writes the column that starts at a place of the frames.
@@ -440,13 +174,21 @@ fn equal(old: &[u8], new: &[u8]) -> bool
     same
 }
 
+// Whether the plane that starts at a place is unchanged.
+fn unchanged(old: &[u8], new: &[u8], row: usize, height: usize, at: usize) -> bool
+    requires { ⌜ Plane (now old) (now new) row height at ⌝ }
+    ensures { λ r. ⌜ r ≡ equal (take (height * row) (drop at (now (old .entry)))) (take (height * row) (drop at (now (new .entry)))) ⌝ }
+{
+    let end = at + height * row;
+    equal(&old[at..end], &new[at..end])
+}
+
 // How many bytes the list of a plane has.
 fn plane_length(old: &[u8], new: &[u8], row: usize, height: usize, at: usize) -> usize
     requires { ⌜ Plane (now old) (now new) row height at ⌝ }
     ensures { λ r. ⌜ (r ≡ length (planeBytes (now (old .entry)) (now (new .entry)) row height at)) × (r ≤ 393344) ⌝ }
 {
-    let end = at + height * row;
-    if equal(&old[at..end], &new[at..end]) {
+    if unchanged(old, new, row, height, at) {
         return 0;
     }
     columns_length(old, new, row, height, at)
@@ -465,8 +207,7 @@ fn write_plane(
     requires { ⌜ Plane (now old) (now new) row height at × (place + length (planeBytes (now old) (now new) row height at) ≤ length (now out)) ⌝ }
     ensures { λ r. ⌜ Put (now (out .entry)) place (planeBytes (now (old .entry)) (now (new .entry)) row height at) (now (out .exit)) r ⌝ }
 {
-    let end = at + height * row;
-    if equal(&old[at..end], &new[at..end]) {
+    if unchanged(old, new, row, height, at) {
         return place;
     }
     write_columns(out, place, old, new, row, height, at)

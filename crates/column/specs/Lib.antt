@@ -1,0 +1,7 @@
+pub mod Column
+pub mod ColumnLaws
+pub mod Piece
+pub mod WalkLaws
+pub mod CutLaws
+pub mod Place
+pub mod PlaceLaws
