@@ -7,7 +7,7 @@ use mathlib.Core.Path.{_≡_, refl, sym, _∙_}
 use lib.ListN.{length, take, drop, length-append}
 use Rattle.column.specs.Column.{Op, Op.skip, Op.uniq, Op.same, columnOps, opBytes, opsBytes, columnBytes}
 use Rattle.writer.specs.Write.{columnAt, columnsBytes, equal, planeBytes, listsBytes}
-use Rattle.writer.specs.PlaneLaws.{length-column}
+use Rattle.writer.specs.ColumnLaws.{length-column}
 use Rattle.roundtrip.specs.OpLaws.{reach, reachAll, Valid, ValidAll, valid-column, reach-column}
 
 -- no op has more than three bytes for each of its rows

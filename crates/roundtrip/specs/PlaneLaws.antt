@@ -15,7 +15,7 @@ use Rattle.column.specs.Column.{Op, columnOps, opsBytes, columnBytes}
 use Rattle.writer.specs.Write.{columnAt, columnsBytes}
 use Rattle.delta.specs.Delta.{Reading, byteAt, readOps, readColumn, readColumns, draw}
 use Rattle.roundtrip.specs.OpLaws.{reachAll, passedAll, valid-column, reach-column, column, column-new}
-use Rattle.writer.specs.PlaneLaws.{length-column}
+use Rattle.writer.specs.ColumnLaws.{length-column}
 use Rattle.roundtrip.specs.ColumnLaws.{putColumn, length-putColumn, put-kept, length-passedAll, Head, head, byte-is, bytewise, col, At, ops-are}
 
 -- the new column, put at once

@@ -1,5 +1,6 @@
 pub mod Write
 pub mod Planes
+pub mod ColumnLaws
 pub mod PlaneLaws
 pub mod DeltaLaws
 pub mod WriteLaws

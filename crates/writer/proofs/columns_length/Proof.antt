@@ -4,9 +4,10 @@ use Prim.Native.Nat.{ℕ, _+_, _-_, _*_, _≤_, _<_}
 use mathlib.Core.List.{List}
 use mathlib.Core.Path.{_≡_, ap, _∙_}
 use lib.ListN.{length, length-append}
-use Rattle.writer.specs.Column.{columnBytes}
+use Rattle.column.specs.Column.{columnBytes}
 use Rattle.writer.specs.Write.{columnAt, columnsBytes}
-use Rattle.writer.specs.PlaneLaws.{plane-column, columns-parts, columns-none, columns-start}
+use Rattle.writer.specs.ColumnLaws.{plane-column}
+use Rattle.writer.specs.PlaneLaws.{columns-parts, columns-none, columns-start}
 use borrow.Author.Needs.{needs}
 use Rattle.writer.proofs.columns_length.Statement.{statement}
 use Rattle.writer.proofs.columns_length.Tie as tie

@@ -6,7 +6,7 @@ use mathlib.Core.Path.{_≡_, refl, sym, _∙_}
 use lib.ListN.{length, getD, set, length-set}
 use Rattle.laws.specs.Store.{Copied, copied-none, copied-more, copied-all, over-whole}
 use Rattle.writer.specs.Write.{columnAt}
-use Rattle.writer.specs.PlaneLaws.{length-column, getD-column}
+use Rattle.writer.specs.ColumnLaws.{length-column, getD-column}
 use borrow.Author.Needs.{needs}
 use Rattle.writer.proofs.copy_column.Statement.{statement}
 use Rattle.writer.proofs.copy_column.Tie as tie

@@ -3,7 +3,8 @@ use native.Mathlib.Omega.{arith}
 use Prim.Native.Nat.{_+_, _-_}
 use Rattle.laws.specs.Put.{Putting, putting, putting-room, putting-more, putting-last}
 use Rattle.writer.specs.Write.{columnsBytes}
-use Rattle.writer.specs.PlaneLaws.{plane-column, columns-parts, columns-none, columns-start}
+use Rattle.writer.specs.ColumnLaws.{plane-column}
+use Rattle.writer.specs.PlaneLaws.{columns-parts, columns-none, columns-start}
 use borrow.Author.Needs.{needs}
 use Rattle.writer.proofs.write_columns.Statement.{statement}
 use Rattle.writer.proofs.write_columns.Tie as tie

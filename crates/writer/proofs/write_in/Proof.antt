@@ -1,52 +1,32 @@
--- `writer::write_in`: the columns are copied, and then written.
-use Prim.Native.Nat.{ℕ}
-use mathlib.Core.Path.{sym, ap₂, _∙_}
-use mathlib.Core.List.{List}
-use lib.ListN.{length}
-use Rattle.laws.specs.Put.{put-as}
-use Rattle.writer.specs.Column.{columnBytes}
-use Rattle.writer.specs.PlaneLaws.{front-length, copied-column, copied-length, rows-inside}
-use native.Mathlib.Omega.{arith}
+-- `writer::write_in`: the columns are copied, and then written, which is not refused.
+use Rattle.writer.specs.ColumnLaws.{held-length, is-put, not-left-out}
 use borrow.Author.Needs.{needs}
 use Rattle.writer.proofs.write_in.Statement.{statement}
 use Rattle.writer.proofs.write_in.Tie as tie
 
-slice-relend-prefix-copy-column : tie.Need-slice-relend-prefix-copy-column
-slice-relend-prefix-copy-column c = search needs
+copy-columns-requires : tie.Need-copy-columns-requires
+copy-columns-requires c κs = search needs
 
-slice-aggregate-copy-column : tie.Need-slice-aggregate-copy-column
-slice-aggregate-copy-column c = front-length _ _ (c .before .before .before .before .before .before .pre .0)
+slice-reshare-prefix-write : tie.Need-slice-reshare-prefix-write
+slice-reshare-prefix-write c = search needs
 
-copy-column-requires : tie.Need-copy-column-requires
-copy-column-requires c κs = rows-inside (c .before .before .before .before .before .before .args .old .now) (c .before .before .before .before .before .before .args .row) (c .before .before .before .before .before .before .args .at) (c .before .before .before .before .before .before .args .height) (c .before .before .before .before .before .before .args .was .now) (c .before .before .before .before .before .before .pre .2 .inOld) (c .before .before .before .before .before .before .pre .0)
+slice-aggregate-write : tie.Need-slice-aggregate-write
+slice-aggregate-write c = held-length _ _ _ _ _ (c .before .before .before .before .before .before .copy-columns .ensures .0)
 
-slice-relend-prefix-copy-column-2 : tie.Need-slice-relend-prefix-copy-column-2
-slice-relend-prefix-copy-column-2 c = search needs
+slice-reshare-prefix-write-2 : tie.Need-slice-reshare-prefix-write-2
+slice-reshare-prefix-write-2 c = search needs
 
-slice-aggregate-copy-column-2 : tie.Need-slice-aggregate-copy-column-2
-slice-aggregate-copy-column-2 c = front-length _ _ (c .before .before .before .before .before .before .before .before .before .before .pre .1)
+slice-aggregate-write-2 : tie.Need-slice-aggregate-write-2
+slice-aggregate-write-2 c = held-length _ _ _ _ _ (c .before .before .before .before .before .before .before .copy-columns .ensures .1)
 
-copy-column-requires-2 : tie.Need-copy-column-requires-2
-copy-column-requires-2 c κs = rows-inside (c .before .before .before .before .before .before .before .before .before .before .args .new .now) (c .before .before .before .before .before .before .before .before .before .before .args .row) (c .before .before .before .before .before .before .before .before .before .before .args .at) (c .before .before .before .before .before .before .before .before .before .before .args .height) (c .before .before .before .before .before .before .before .before .before .before .args .is .now) (c .before .before .before .before .before .before .before .before .before .before .pre .2 .inNew) (c .before .before .before .before .before .before .before .before .before .before .pre .1)
+write-requires : tie.Need-write-requires
+write-requires c κs = search needs
 
-slice-reshare-prefix-write-column : tie.Need-slice-reshare-prefix-write-column
-slice-reshare-prefix-write-column c = search needs
+enum-known-p : tie.Need-enum-known-p
+enum-known-p c = search needs
 
-slice-aggregate-write-column : tie.Need-slice-aggregate-write-column
-slice-aggregate-write-column c = copied-length _ _ _ _ _ _ (c .before .before .before .before .before .before .before .before .before .before .before .before .before .before .before .pre .0) (c .before .before .before .before .before .before .before .before .copy-column .ensures)
-
-slice-reshare-prefix-write-column-2 : tie.Need-slice-reshare-prefix-write-column-2
-slice-reshare-prefix-write-column-2 c = search needs
-
-slice-aggregate-write-column-2 : tie.Need-slice-aggregate-write-column-2
-slice-aggregate-write-column-2 c = copied-length _ _ _ _ _ _ (c .before .before .before .before .before .before .before .before .before .before .before .before .before .before .before .before .pre .1) (c .before .before .before .before .before .copy-column2 .ensures)
-
-write-column-requires : tie.Need-write-column-requires
-write-column-requires c κs =
-    let was = copied-length _ _ _ _ _ _ (c .before .before .before .before .before .before .before .before .before .before .before .before .before .before .before .before .pre .0) (c .before .before .before .before .before .before .before .before .before .copy-column .ensures) in
-    let is = copied-length _ _ _ _ _ _ (c .before .before .before .before .before .before .before .before .before .before .before .before .before .before .before .before .pre .1) (c .before .before .before .before .before .copy-column2 .ensures) in
-    let same = ap₂ (λ (a b : List ℕ). length (columnBytes a b)) (copied-column _ _ _ _ _ _ (c .before .before .before .before .before .before .before .before .before .before .before .before .before .before .before .before .pre .0) (c .before .before .before .before .before .before .before .before .before .copy-column .ensures)) (copied-column _ _ _ _ _ _ (c .before .before .before .before .before .before .before .before .before .before .before .before .before .before .before .before .pre .1) (c .before .before .before .before .before .copy-column2 .ensures)) in
-    (sym was ∙ is, omega (arith, is, c .before .before .before .before .before .before .before .before .before .before .before .before .before .before .before .before .pre .2 .tall), omega (arith, same, c .before .before .before .before .before .before .before .before .before .before .before .before .before .before .before .before .pre .3))
+enum-told : tie.Need-enum-told
+enum-told c = search needs
 
 same-length : tie.Need-same-length
 same-length c = search needs
@@ -58,27 +38,37 @@ same-length-3 : tie.Need-same-length-3
 same-length-3 c = search needs
 
 returns : tie.Need-returns
-returns c =
-    let was = copied-column _ _ _ _ _ _ (c .before .before .before .before .before .before .before .before .before .before .before .before .before .before .before .before .before .before .before .pre .0) (c .before .before .before .before .before .before .before .before .before .before .before .before .copy-column .ensures) in
-    let is = copied-column _ _ _ _ _ _ (c .before .before .before .before .before .before .before .before .before .before .before .before .before .before .before .before .before .before .before .pre .1) (c .before .before .before .before .before .before .before .before .copy-column2 .ensures) in
-    put-as (c .before .before .write-column .ensures) (sym (ap₂ (λ (a b : List ℕ). columnBytes a b) was is))
+returns c = is-put _ _ _ _ _ _ _ (c .before .before .before .before .before .before .before .before .before .before .before .before .before .copy-columns .ensures .0) (c .before .before .before .before .before .before .before .before .before .before .before .before .before .copy-columns .ensures .1) (c .before .before .before .before .before .before .before .before .before .before .before .before .before .before .before .before .before .before .before .before .before .pre .2 .tall) _ _ _ _ (c .before .before .before .before .before .write .ensures) (c .before .before .before .before .before .before .before .before .before .before .before .before .before .before .before .before .before .before .before .before .before .pre .3) _ (c .before .p .given .1)
+
+same-length-4 : tie.Need-same-length-4
+same-length-4 c = search needs
+
+same-length-5 : tie.Need-same-length-5
+same-length-5 c = search needs
+
+same-length-6 : tie.Need-same-length-6
+same-length-6 c = search needs
+
+returns-2 : tie.Need-returns-2
+returns-2 c = not-left-out _ _ _ _ _ _ _ (c .before .before .before .before .before .before .before .before .before .before .before .before .copy-columns .ensures .0) (c .before .before .before .before .before .before .before .before .before .before .before .before .copy-columns .ensures .1) (c .before .before .before .before .before .before .before .before .before .before .before .before .before .before .before .before .before .before .before .before .pre .2 .tall) (c .before .before .before .before .before .before .before .before .before .before .before .before .before .before .before .before .before .before .before .before .args .out .now) _ _ _ (c .before .before .before .before .write .ensures) (c .before .before .before .before .before .before .before .before .before .before .before .before .before .before .before .before .before .before .before .before .pre .3) _ (c .enum-told .given .1)
 
 pub write-in-spec : {M : Type 1} → statement M
 write-in-spec =
     tie.close
     (tie.spec
-    slice-relend-prefix-copy-column
-    slice-aggregate-copy-column
-    copy-column-requires
-    slice-relend-prefix-copy-column-2
-    slice-aggregate-copy-column-2
-    copy-column-requires-2
-    slice-reshare-prefix-write-column
-    slice-aggregate-write-column
-    slice-reshare-prefix-write-column-2
-    slice-aggregate-write-column-2
-    write-column-requires
+    copy-columns-requires
+    slice-reshare-prefix-write
+    slice-aggregate-write
+    slice-reshare-prefix-write-2
+    slice-aggregate-write-2
+    write-requires
+    enum-known-p
+    enum-told
     same-length
     same-length-2
     same-length-3
-    returns)
+    returns
+    same-length-4
+    same-length-5
+    same-length-6
+    returns-2)
