@@ -1,5 +1,6 @@
 pub mod Column
 pub mod ColumnLaws
+pub mod Count
 pub mod Piece
 pub mod WalkLaws
 pub mod CutLaws

@@ -1,17 +1,13 @@
 -- Laws of measuring and writing a column: the order of the checks, what is left in the buffer, and that a column that fits is written.
-use Prim.Native.Nat.{ℕ, _+_, _-_, _≤_, _<_}
-use native.Mathlib.Omega.{arith}
-use mathlib.Core.Bool.{Bool}
+use Prim.Native.Nat.{ℕ, _+_, _≤_, _<_}
 use mathlib.Core.List.{List}
 use mathlib.Core.Logic.{_≢_}
-use mathlib.Core.Path.{_≡_, sym, ap, _∙_}
+use mathlib.Core.Path.{_≡_, sym}
 use lib.ListN.{length}
 use borrow.Author.Tests.{eq-eqb, ne-eqb, le-leb, lt-leb}
 use Rattle.laws.specs.Result.{Res, Res.ok, Res.fault}
-use Rattle.laws.specs.Put.{Put, put-is}
+use Rattle.laws.specs.Put.{Put}
 use Rattle.column.specs.Column.{columnBytes}
-use Rattle.column.specs.Piece.{Planned}
-use Rattle.column.specs.CutLaws.{planned-length}
 use Rattle.column.specs.Place.{columnLength, placed, bufferAfter}
 
 -- what measuring comes to

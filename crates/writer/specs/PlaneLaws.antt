@@ -1,20 +1,19 @@
 -- Laws of planes and of the lists that follow one another.
 use Prim.Native.Nat.{ℕ, zero, suc, _+_, _-_, _*_, _≤_, _<_}
-use native.Mathlib.Nat.{mul-le-mul-right}
 use native.Mathlib.Numerals.{add-one}
 use native.Mathlib.Omega.{arith}
 use mathlib.Core.Bool.{Bool, true, false}
-use mathlib.Core.List.{List, [], _∷_, _++_}
-use mathlib.Core.Path.{_≡_, refl, sym, ap, _∙_}
+use mathlib.Core.List.{List, [], _∷_}
+use mathlib.Core.Path.{_≡_, refl, sym, _∙_}
 use lib.Dec.{eqb}
 use lib.ListN.{length, getD, take, drop, length-append, drop-of-length-le}
-use lib.Seq.{length-take-le, take-at, drop-cons}
+use lib.Seq.{drop-cons}
 use borrow.Author.Tests.{eq-eqb, ne-eqb}
 use Rattle.laws.specs.Result.{pick}
 use Rattle.laws.specs.Put.{Parts}
 use Rattle.column.specs.Column.{columnBytes}
 use Rattle.writer.specs.Write.{columnAt, columnsBytes, equal, planeBytes, be32Bytes, pointerOf, pointersBytes, listsBytes}
-use Rattle.writer.specs.Planes.{InFrame, Plane, Frames, Walking}
+use Rattle.writer.specs.Planes.{Plane, Frames, Walking}
 
 -- the columns of a plane, the next one first
 pub columns-parts : (old new : List ℕ) (row height at column : ℕ) → column < row

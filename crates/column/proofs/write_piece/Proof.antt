@@ -1,5 +1,5 @@
-use native.Mathlib.Omega.{arith}
 -- `column::write_piece`: the kind decides which ops are written.
+use native.Mathlib.Omega.{arith}
 use Prim.Native.Nat.{ℕ, _+_, _-_}
 use mathlib.Core.List.{List, []}
 use mathlib.Core.Path.{_≡_, ap}

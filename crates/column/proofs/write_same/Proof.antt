@@ -1,5 +1,5 @@
-use native.Mathlib.Omega.{arith}
 -- `column::write_same`: three stores.
+use native.Mathlib.Omega.{arith}
 use native.Mathlib.Numerals.{add-one}
 use Prim.Native.Nat.{ℕ, suc, _+_}
 use mathlib.Core.List.{List}

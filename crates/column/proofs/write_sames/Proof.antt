@@ -1,6 +1,6 @@
+-- `column::write_sames`: the Sames of what is left, from here, come to the whole.
 use mathlib.Core.Path.{refl}
 use native.Mathlib.Omega.{arith}
--- `column::write_sames`: the Sames of what is left, from here, come to the whole.
 use Rattle.laws.specs.Put.{Putting, putting, putting-room, putting-more, putting-last}
 use Rattle.column.specs.Column.{Op.same, cut, opsBytes}
 use Rattle.column.specs.CutLaws.{same-more, same-last, same-none}

@@ -1,6 +1,6 @@
+-- `column::write_skips`: the Skips of what is left, from here, come to the whole.
 use mathlib.Core.Path.{refl}
 use native.Mathlib.Omega.{arith}
--- `column::write_skips`: the Skips of what is left, from here, come to the whole.
 use Rattle.laws.specs.Put.{Putting, putting, put-byte, putting-room, putting-more, putting-last}
 use Rattle.column.specs.Column.{Op.skip, cut, opsBytes}
 use Rattle.column.specs.CutLaws.{skip-more, skip-last, skip-none}

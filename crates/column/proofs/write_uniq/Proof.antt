@@ -1,5 +1,5 @@
-use native.Mathlib.Omega.{arith}
 -- `column::write_uniq`: the op and its rows are put one after the other.
+use native.Mathlib.Omega.{arith}
 use Prim.Native.Nat.{ℕ, _+_, _-_, _≤_, _<_}
 use mathlib.Core.List.{List, _++_}
 use mathlib.Core.Path.{_≡_, refl}

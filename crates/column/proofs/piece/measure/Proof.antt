@@ -1,12 +1,13 @@
 -- `column::piece::measure`: what is counted and what is left, from here, come to the whole.
 use Prim.Native.Nat.{ℕ, _+_, _-_, _*_, _≤_}
 use mathlib.Core.List.{List, []}
-use mathlib.Core.Path.{_≡_, refl, ap, _∙_}
+use mathlib.Core.Path.{_≡_, refl, sym, ap, _∙_}
 use lib.ListN.{length, drop, length-append, length-drop}
 use Rattle.runs.specs.RunLaws.{runsAt}
-use Rattle.column.specs.Column.{Op, opsBytes}
+use Rattle.column.specs.Column.{opsBytes}
+use Rattle.column.specs.Count.{Counting, counting, counting-more, counting-last}
 use Rattle.column.specs.Piece.{opsAt, pieceOps, opsIn, bytesIn, NextPiece, Measured}
-use Rattle.column.specs.CutLaws.{none-left, length-bytes-append, piece-count, piece-size, piece-few, planned-few, planned-many}
+use Rattle.column.specs.CutLaws.{none-left, piece-parts, piece-count, piece-size, piece-few, planned-few, planned-many}
 use Rattle.column.specs.declared.piece.Kind.{Kind}
 use native.Mathlib.Omega.{arith}
 use Rattle.column.proofs.piece.measure.Statement.{statement}
@@ -18,10 +19,10 @@ record Measuring (old new : List ℕ) (row ops bytes : ℕ) : Type 0 where
   few : ops ≤ row
   short : bytes ≤ 3 * row
   ops-left : ops + length (opsAt old new row) ≡ length (opsAt old new 0)
-  bytes-left : bytes + length (opsBytes (opsAt old new row)) ≡ length (opsBytes (opsAt old new 0))
+  bytes-left : Counting (opsBytes (opsAt old new 0)) bytes (opsBytes (opsAt old new row))
 
 starts : (old new : List ℕ) → Measuring old new 0 0 0
-starts old new = record { inside = omega arith; few = omega arith; short = omega arith; ops-left = omega arith; bytes-left = omega arith }
+starts old new = record { inside = omega arith; few = omega arith; short = omega arith; ops-left = omega arith; bytes-left = counting }
 
 module _ {old new : List ℕ} {row ops bytes : ℕ} (m : Measuring old new row ops bytes) where
   more : {kind : Kind} {rows n b : ℕ} → NextPiece old new row kind rows → n ≡ opsIn kind rows → b ≡ bytesIn kind rows → Measuring old new (row + rows) (ops + n) (bytes + b)
@@ -34,14 +35,7 @@ module _ {old new : List ℕ} {row ops bytes : ℕ} (m : Measuring old new row o
         short = omega (arith, m .short, few .1, f);
         ops-left =
             omega (arith, m .ops-left, e, piece-count kind rows (drop row new) k, ap length (p .ops) ∙ length-append (pieceOps kind rows (drop row new)) (opsAt old new (row + rows)));
-        bytes-left =
-            omega (
-              arith,
-              m .bytes-left,
-              f,
-              piece-size kind rows (drop row new) k,
-              ap (λ (os : List Op). length (opsBytes os)) (p .ops) ∙ length-bytes-append (pieceOps kind rows (drop row new)) (opsAt old new (row + rows)),
-            );
+        bytes-left = counting-more (m .bytes-left) (piece-parts p) (f ∙ sym (piece-size kind rows (drop row new) k));
       }
 
   all : length new ≤ row → Measured old new ops bytes
@@ -50,7 +44,7 @@ module _ {old new : List ℕ} {row ops bytes : ℕ} (m : Measuring old new row o
       let e : opsAt old new row ≡ [] = none-left old new row h in
       record {
         count = omega (arith, rw e at (m .ops-left));
-        size = omega (arith, rw e at (m .bytes-left));
+        size = counting-last (m .bytes-left) (rw e);
         few = omega (arith, m .few, m .inside);
         short = omega (arith, m .short, m .inside);
       }

@@ -1,8 +1,8 @@
--- `writer::write_in`: the columns are copied, and then written, which is not refused.
+-- `writer::plane::write_in`: the columns are copied, and then written, which is not refused.
 use Rattle.writer.specs.ColumnLaws.{held-length, is-put, not-left-out}
 use borrow.Author.Needs.{needs}
-use Rattle.writer.proofs.write_in.Statement.{statement}
-use Rattle.writer.proofs.write_in.Tie as tie
+use Rattle.writer.proofs.plane.write_in.Statement.{statement}
+use Rattle.writer.proofs.plane.write_in.Tie as tie
 
 copy-columns-requires : tie.Need-copy-columns-requires
 copy-columns-requires c κs = search needs

@@ -1,8 +1,8 @@
--- `writer::length_in`: the columns are copied, and then measured, which is not refused.
+-- `writer::plane::length_in`: the columns are copied, and then measured, which is not refused.
 use Rattle.writer.specs.ColumnLaws.{held-length, is-measured, not-refused}
 use borrow.Author.Needs.{needs}
-use Rattle.writer.proofs.length_in.Statement.{statement}
-use Rattle.writer.proofs.length_in.Tie as tie
+use Rattle.writer.proofs.plane.length_in.Statement.{statement}
+use Rattle.writer.proofs.plane.length_in.Tie as tie
 
 copy-columns-requires : tie.Need-copy-columns-requires
 copy-columns-requires c κs = search needs

@@ -1,8 +1,8 @@
--- `writer::copy_columns`: one column after the other.
+-- `writer::plane::copy_columns`: one column after the other.
 use Rattle.writer.specs.ColumnLaws.{front-length, copied-column, rows-inside}
 use borrow.Author.Needs.{needs}
-use Rattle.writer.proofs.copy_columns.Statement.{statement}
-use Rattle.writer.proofs.copy_columns.Tie as tie
+use Rattle.writer.proofs.plane.copy_columns.Statement.{statement}
+use Rattle.writer.proofs.plane.copy_columns.Tie as tie
 
 slice-relend-prefix-copy-column : tie.Need-slice-relend-prefix-copy-column
 slice-relend-prefix-copy-column c = search needs

@@ -1,11 +1,11 @@
--- `writer::plane_length`: an unchanged plane has no list.
+-- `writer::plane::plane_length`: an unchanged plane has no list.
 use mathlib.Core.Path.{sym, ap, _∙_}
 use lib.ListN.{length}
 use Rattle.writer.specs.PlaneLaws.{plane-unchanged, plane-changed}
 use native.Mathlib.Omega.{arith}
 use borrow.Author.Needs.{needs}
-use Rattle.writer.proofs.plane_length.Statement.{statement}
-use Rattle.writer.proofs.plane_length.Tie as tie
+use Rattle.writer.proofs.plane.plane_length.Statement.{statement}
+use Rattle.writer.proofs.plane.plane_length.Tie as tie
 
 unchanged-requires : tie.Need-unchanged-requires
 unchanged-requires c κs = search needs

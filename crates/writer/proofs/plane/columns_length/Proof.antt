@@ -1,47 +1,37 @@
--- `writer::columns_length`: what is counted and what is left, from here, come to the whole.
+-- `writer::plane::columns_length`: what is counted and what is left, from here, come to the whole.
 use native.Mathlib.Omega.{arith}
 use Prim.Native.Nat.{ℕ, _+_, _-_, _*_, _≤_, _<_}
 use mathlib.Core.List.{List}
-use mathlib.Core.Path.{_≡_, ap, _∙_}
-use lib.ListN.{length, length-append}
+use mathlib.Core.Path.{_≡_}
+use lib.ListN.{length}
 use Rattle.column.specs.Column.{columnBytes}
+use Rattle.column.specs.Count.{Counting, counting, counting-more, counting-last}
 use Rattle.writer.specs.Write.{columnAt, columnsBytes}
 use Rattle.writer.specs.ColumnLaws.{plane-column}
 use Rattle.writer.specs.PlaneLaws.{columns-parts, columns-none, columns-start}
 use borrow.Author.Needs.{needs}
-use Rattle.writer.proofs.columns_length.Statement.{statement}
-use Rattle.writer.proofs.columns_length.Tie as tie
+use Rattle.writer.proofs.plane.columns_length.Statement.{statement}
+use Rattle.writer.proofs.plane.columns_length.Tie as tie
 
 -- the loop's invariant
-record Counting (old new : List ℕ) (row height at sum column : ℕ) : Type 0 where
+record Columns (old new : List ℕ) (row height at sum column : ℕ) : Type 0 where
   inside : column ≤ row
   small : sum ≤ 3073 * column
-  left : sum + length (columnsBytes old new row height (row - column) (at + column)) ≡ length (columnsBytes old new row height row at)
+  left : Counting (columnsBytes old new row height row at) sum (columnsBytes old new row height (row - column) (at + column))
 
-starts : (old new : List ℕ) (row height at : ℕ) → Counting old new row height at 0 0
-starts old new row height at = record { inside = omega arith; small = omega arith; left = rw (columns-start old new row height at) (omega arith) }
+starts : (old new : List ℕ) (row height at : ℕ) → Columns old new row height at 0 0
+starts old new row height at = record { inside = omega arith; small = omega arith; left = rw (columns-start old new row height at) counting }
 
-module _ {old new : List ℕ} {row height at sum column : ℕ} (w : Counting old new row height at sum column) where
+module _ {old new : List ℕ} {row height at sum column : ℕ} (w : Columns old new row height at sum column) where
   more : {n : ℕ} → column < row → (n ≡ length (columnBytes (columnAt old row (at + column) height) (columnAt new row (at + column) height))) × (n ≤ 3073)
-      → Counting old new row height at (sum + n) (column + 1)
-  more h e = record {
-    inside = omega arith;
-    small = omega (arith, w .small, e .1);
-    left =
-        omega (
-          arith,
-          w .left,
-          e .0,
-          ap length (columns-parts old new row height at column h .is)
-              ∙ length-append (columnBytes (columnAt old row (at + column) height) (columnAt new row (at + column) height)) (columnsBytes old new row height (row - (column + 1)) (at + (column + 1))),
-        );
-  }
+      → Columns old new row height at (sum + n) (column + 1)
+  more h e = record { inside = omega arith; small = omega (arith, w .small, e .1); left = counting-more (w .left) (columns-parts old new row height at column h) (e .0) }
 
   all : row ≤ column → (sum ≡ length (columnsBytes old new row height row at)) × (sum ≤ 3073 * row)
-  all h = (omega (arith, w .left, ap length (columns-none old new row height at column h)), omega (arith, w .small, w .inside))
+  all h = (counting-last (w .left) (columns-none old new row height at column h), omega (arith, w .small, w .inside))
 
 abbrev Inv-loop : tie.InvT-loop
-Inv-loop old new row height at sum₀ column₀ sum column = Counting old new row height at sum column
+Inv-loop old new row height at sum₀ column₀ sum column = Columns old new row height at sum column
 
 abbrev μ-loop : tie.MeasureT-loop
 μ-loop old new row height at sum₀ column₀ sum column = row - column

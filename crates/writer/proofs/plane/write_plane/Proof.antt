@@ -1,12 +1,12 @@
--- `writer::write_plane`: an unchanged plane writes nothing.
+-- `writer::plane::write_plane`: an unchanged plane writes nothing.
 use mathlib.Core.Path.{ap}
 use lib.ListN.{length}
 use Rattle.laws.specs.Put.{put-as, put-nothing}
 use Rattle.writer.specs.PlaneLaws.{plane-unchanged, plane-changed}
 use native.Mathlib.Omega.{arith}
 use borrow.Author.Needs.{needs}
-use Rattle.writer.proofs.write_plane.Statement.{statement}
-use Rattle.writer.proofs.write_plane.Tie as tie
+use Rattle.writer.proofs.plane.write_plane.Statement.{statement}
+use Rattle.writer.proofs.plane.write_plane.Tie as tie
 
 unchanged-requires : tie.Need-unchanged-requires
 unchanged-requires c κs = search needs

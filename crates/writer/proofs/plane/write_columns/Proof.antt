@@ -1,4 +1,4 @@
--- `writer::write_columns`: the columns that are left, from here, come to the whole.
+-- `writer::plane::write_columns`: the columns that are left, from here, come to the whole.
 use native.Mathlib.Omega.{arith}
 use Prim.Native.Nat.{_+_, _-_}
 use Rattle.laws.specs.Put.{Putting, putting, putting-room, putting-more, putting-last}
@@ -6,8 +6,8 @@ use Rattle.writer.specs.Write.{columnsBytes}
 use Rattle.writer.specs.ColumnLaws.{plane-column}
 use Rattle.writer.specs.PlaneLaws.{columns-parts, columns-none, columns-start}
 use borrow.Author.Needs.{needs}
-use Rattle.writer.proofs.write_columns.Statement.{statement}
-use Rattle.writer.proofs.write_columns.Tie as tie
+use Rattle.writer.proofs.plane.write_columns.Statement.{statement}
+use Rattle.writer.proofs.plane.write_columns.Tie as tie
 
 abbrev Inv-loop : tie.InvT-loop
 Inv-loop out₀ from old new row height at place₀ column₀ out place column = Putting out₀ from (columnsBytes old new row height row at) out place (columnsBytes old new row height (row - column) (at + column))

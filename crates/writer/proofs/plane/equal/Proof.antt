@@ -1,11 +1,11 @@
--- `writer::equal`: the outcome so far, and what is left, decide.
+-- `writer::plane::equal`: the outcome so far, and what is left, decide.
 use Prim.Native.Nat.{_-_}
 use mathlib.Core.Logic.{⊎-elim}
 use lib.ListN.{length}
 use Rattle.writer.specs.PlaneLaws.{Comparing, comparing, same-more, other-more, compared}
 use borrow.Author.Needs.{needs}
-use Rattle.writer.proofs.equal.Statement.{statement}
-use Rattle.writer.proofs.equal.Tie as tie
+use Rattle.writer.proofs.plane.equal.Statement.{statement}
+use Rattle.writer.proofs.plane.equal.Tie as tie
 
 abbrev Inv-loop : tie.InvT-loop
 Inv-loop old new same₀ i₀ same i = Comparing old new same i

@@ -1,4 +1,4 @@
--- `writer::unchanged`: the parts that are compared are the planes.
+-- `writer::plane::unchanged`: the parts that are compared are the planes.
 use Prim.Native.Nat.{ℕ, _+_, _-_, _*_}
 use mathlib.Core.Bool.{Bool}
 use mathlib.Core.List.{List}
@@ -7,8 +7,8 @@ use lib.ListN.{take, drop}
 use Rattle.writer.specs.Write.{equal}
 use native.Mathlib.Omega.{arith}
 use borrow.Author.Needs.{needs}
-use Rattle.writer.proofs.unchanged.Statement.{statement}
-use Rattle.writer.proofs.unchanged.Tie as tie
+use Rattle.writer.proofs.plane.unchanged.Statement.{statement}
+use Rattle.writer.proofs.plane.unchanged.Tie as tie
 
 planes : (old new : List ℕ) (at n : ℕ) {r : Bool} → r ≡ equal (take (at + n - at) (drop at old)) (take (at + n - at) (drop at new)) → r ≡ equal (take n (drop at old)) (take n (drop at new))
 planes old new at n e = let m : at + n - at ≡ n = omega arith in rw m at e

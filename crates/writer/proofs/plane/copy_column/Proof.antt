@@ -1,4 +1,4 @@
--- `writer::copy_column`: after i turns the first i bytes are the column's.
+-- `writer::plane::copy_column`: after i turns the first i bytes are the column's.
 use native.Mathlib.Omega.{arith}
 use Prim.Native.Nat.{ℕ, _+_, _-_, _*_, _≤_, _<_}
 use mathlib.Core.List.{List}
@@ -8,8 +8,8 @@ use Rattle.laws.specs.Store.{Copied, copied-none, copied-more, copied-all, over
 use Rattle.writer.specs.Write.{columnAt}
 use Rattle.writer.specs.ColumnLaws.{length-column, getD-column}
 use borrow.Author.Needs.{needs}
-use Rattle.writer.proofs.copy_column.Statement.{statement}
-use Rattle.writer.proofs.copy_column.Tie as tie
+use Rattle.writer.proofs.plane.copy_column.Statement.{statement}
+use Rattle.writer.proofs.plane.copy_column.Tie as tie
 
 -- the loop's invariant
 record Copying (column₀ frame : List ℕ) (row at : ℕ) (column : List ℕ) (i : ℕ) : Type 0 where
