@@ -19,14 +19,13 @@ use Rattle.bmhd.specs.Header.{header}
 use Rattle.ilbm.specs.ByteRun.{unpackRow, packetAt}
 use Rattle.ilbm.specs.Body.{body, rowsFrom, rowAt, place, draw as drawRows}
 use Rattle.anhd.specs.Anhd.{frameHeader}
-use Rattle.anhd.specs.declared.Items.{Items}
 use Rattle.anhd.specs.declared.Items.the-variants.{Bytes, Shorts}
 use Rattle.delta.specs.Delta.{byteAt, skip, fill, readOp, readOps, readColumn, readColumns, pointer, readPlane, readPlanes, readPicture, readDelta, put, draw, readFrame, newFrame}
 use Rattle.column.specs.Column.{join, groupsOf, loose, stretch, restOf, uniqs, cut, cutAll, opsOf, columnOps, opBytes, opsBytes, columnBytes}
-use Rattle.writer.specs.Write.{columnAt, columnsBytes, equal, planeBytes, be32Bytes, pointerOf, pointersBytes, listsBytes, deltaBytes, written}
+use Rattle.writer.specs.Write.{columnAt, columnIn, columnsBytes, equal, planeBytes, be32Bytes, pointerOf, pointersBytes, listsBytes, deltaBytes, written}
 use Rattle.player.specs.Frame.{frameIn, frameAt, change}
-use Rattle.player.specs.Step.{After, isOdd, shownOf, hiddenOf, ready, makes, advance, shows, settle, stepOn}
-use Rattle.player.specs.Open.{Film, firstIn, opening}
+use Rattle.player.specs.Step.{isOdd, shownOf, hiddenOf, ready, makes, advance, shows, settle, stepOn}
+use Rattle.player.specs.Open.{firstIn, opening}
 use Rattle.bench.specs.Film.{film}
 
 -- what an example comes to
@@ -119,5 +118,5 @@ table =
 
 -- every example comes to what the paper says
 pub bench : map (λ (r : Row). r .comes) table ≡ map (λ (r : Row). r .says) table
-unfolding table film runs be16 be32 rowBytes frameBytes frameLength stateLength readNumber groups lastGroup writeNumber writeGroups kept changed runsOf changes runBytes runsBytes listBytes recordBytes chunkAt find animEnd nextFrame header unpackRow packetAt body rowsFrom rowAt place drawRows frameHeader byteAt skip fill readOp readOps readColumn readColumns pointer readPlane readPlanes readPicture readDelta put draw readFrame newFrame join groupsOf loose stretch restOf uniqs cut cutAll opsOf columnOps opBytes opsBytes columnBytes columnAt columnsBytes equal planeBytes be32Bytes pointerOf pointersBytes listsBytes deltaBytes written frameIn frameAt change isOdd shownOf hiddenOf ready makes advance shows settle stepOn firstIn opening
+unfolding table film runs be16 be32 rowBytes frameBytes frameLength stateLength readNumber groups lastGroup writeNumber writeGroups kept changed runsOf changes runBytes runsBytes listBytes recordBytes chunkAt find animEnd nextFrame header unpackRow packetAt body rowsFrom rowAt place drawRows frameHeader byteAt skip fill readOp readOps readColumn readColumns pointer readPlane readPlanes readPicture readDelta put draw readFrame newFrame join groupsOf loose stretch restOf uniqs cut cutAll opsOf columnOps opBytes opsBytes columnBytes columnAt columnIn columnsBytes equal planeBytes be32Bytes pointerOf pointersBytes listsBytes deltaBytes written frameIn frameAt change isOdd shownOf hiddenOf ready makes advance shows settle stepOn firstIn opening
 bench = refl

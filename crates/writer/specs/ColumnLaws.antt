@@ -16,7 +16,7 @@ use Rattle.column.specs.declared.Size.{Size}
 use Rattle.column.specs.declared.Size.the-variants.{Bytes, Refused}
 use Rattle.column.specs.declared.Placed.{Placed}
 use Rattle.column.specs.declared.Placed.the-variants.{Next, Refused as NotPlaced}
-use Rattle.writer.specs.Write.{columnAt}
+use Rattle.writer.specs.Write.{columnAt, columnIn}
 use Rattle.writer.specs.Planes.{InFrame, Plane}
 
 -- a column in a frame
@@ -56,13 +56,14 @@ ok-fault : {A : Type 0} {k m : ℕ} → fault k ≡ ok m → A
 ok-fault e = let z : _≡_ {A = ℕ} 0 1 = cc in absurd (omega arith)
 
 module _ (a b old new : List ℕ) (row at n : ℕ) (p : take n a ≡ columnAt old row at n) (q : take n b ≡ columnAt new row at n) (t : n ≤ 1024) where
-  whole : columnLength (take n a) (take n b) ≡ ok (length (columnBytes (columnAt old row at n) (columnAt new row at n)))
+  whole : columnLength (take n a) (take n b) ≡ ok (length (columnIn old new row n at))
+  unfolding columnIn
   whole =
       let l = length-column new row at n in
       rw (p, q) (measured (columnAt old row at n) (columnAt new row at n) (length-column old row at n ∙ sym l) (omega (arith, l)))
 
   module _ (r : Size) (w : (sizeOf r ≡ columnLength (take n a) (take n b)) × Short r) where
-    pub is-measured : (k : ℕ) → r ≡ Bytes k → (k ≡ length (columnBytes (columnAt old row at n) (columnAt new row at n))) × (k ≤ 3073)
+    pub is-measured : (k : ℕ) → r ≡ Bytes k → (k ≡ length (columnIn old new row n at)) × (k ≤ 3073)
     is-measured k e = (ok-same (sym (ap sizeOf e) ∙ w .0 ∙ whole), subst Short e (w .1))
 
     pub not-refused : {A : Type 0} (why : Refusal) → r ≡ Refused why → A
@@ -70,11 +71,12 @@ module _ (a b old new : List ℕ) (row at n : ℕ) (p : take n a ≡ columnAt ol
 
   module _ (out out′ : List ℕ) (place : ℕ) (r : Placed)
       (w : (placedOf r ≡ placed (take n a) (take n b) place (length out)) × (out′ ≡ bufferAfter (columnBytes (take n a) (take n b)) out place (placed (take n a) (take n b) place (length out))))
-      (h : place + length (columnBytes (columnAt old row at n) (columnAt new row at n)) ≤ length out) where
-    room : placed (take n a) (take n b) place (length out) ≡ ok (place + length (columnBytes (columnAt old row at n) (columnAt new row at n)))
+      (h : place + length (columnIn old new row n at) ≤ length out) where
+    room : placed (take n a) (take n b) place (length out) ≡ ok (place + length (columnIn old new row n at))
     room = fits (take n a) (take n b) out place whole h
 
-    pub is-put : (next : ℕ) → r ≡ Next next → Put out place (columnBytes (columnAt old row at n) (columnAt new row at n)) out′ next
+    pub is-put : (next : ℕ) → r ≡ Next next → Put out place (columnIn old new row n at) out′ next
+    unfolding columnIn
     is-put next e = put-is (ok-same (sym (ap placedOf e) ∙ w .0 ∙ room)) (w .1 ∙ rw (room, p, q))
 
     pub not-left-out : {A : Type 0} (why : Refusal) → r ≡ NotPlaced why → A

@@ -11,13 +11,12 @@ use lib.Seq.{drop-cons}
 use borrow.Author.Tests.{eq-eqb, ne-eqb}
 use Rattle.laws.specs.Result.{pick}
 use Rattle.laws.specs.Put.{Parts}
-use Rattle.column.specs.Column.{columnBytes}
-use Rattle.writer.specs.Write.{columnAt, columnsBytes, equal, planeBytes, be32Bytes, pointerOf, pointersBytes, listsBytes}
+use Rattle.writer.specs.Write.{columnIn, columnsBytes, equal, planeBytes, be32Bytes, pointerOf, pointersBytes, listsBytes}
 use Rattle.writer.specs.Planes.{Plane, Frames, Walking}
 
 -- the columns of a plane, the next one first
 pub columns-parts : (old new : List ℕ) (row height at column : ℕ) → column < row
-    → Parts (columnsBytes old new row height (row - column) (at + column)) (columnBytes (columnAt old row (at + column) height) (columnAt new row (at + column) height)) (columnsBytes old new row height (row - (column + 1)) (at + (column + 1)))
+    → Parts (columnsBytes old new row height (row - column) (at + column)) (columnIn old new row height (at + column)) (columnsBytes old new row height (row - (column + 1)) (at + (column + 1)))
 unfolding columnsBytes
 columns-parts old new row height at column h =
     let e : row - column ≡ suc (row - (column + 1)) = omega arith in

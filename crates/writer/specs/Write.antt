@@ -18,11 +18,14 @@ unfoldable pub columnAt : List ℕ → ℕ → ℕ → ℕ → List ℕ
 columnAt f row at zero = []
 columnAt f row at (suc n) = getD f at 0 ∷ columnAt f row (at + row) n
 
+-- the bytes of the column that starts at a place of two frames
+unfoldable pub columnIn : List ℕ → List ℕ → ℕ → ℕ → ℕ → List ℕ
+columnIn old new row height at = columnBytes (columnAt old row at height) (columnAt new row at height)
+
 -- k columns, from the one that starts at a place on
 unfoldable pub columnsBytes : List ℕ → List ℕ → ℕ → ℕ → ℕ → ℕ → List ℕ
 columnsBytes old new row height zero at = []
-columnsBytes old new row height (suc k) at =
-    columnBytes (columnAt old row at height) (columnAt new row at height) ++ columnsBytes old new row height k (at + 1)
+columnsBytes old new row height (suc k) at = columnIn old new row height at ++ columnsBytes old new row height k (at + 1)
 
 unfoldable pub equal : List ℕ → List ℕ → Bool
 equal [] [] = true

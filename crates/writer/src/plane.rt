@@ -3,9 +3,8 @@ ghost use mathlib.Core.Path.{_≡_};
 ghost use Prim.Native.Nat.{ℕ, _+_, _*_, _<_, _≤_};
 ghost use lib.ListN.{length, take, drop};
 ghost use Rattle.laws.specs.Put.{Put};
-ghost use Rattle.column.specs.Column.{columnBytes};
 ghost use Rattle.writer.specs.Planes.{InFrame, Plane};
-ghost use Rattle.writer.specs.Write.{columnAt, columnsBytes, equal, planeBytes};
+ghost use Rattle.writer.specs.Write.{columnAt, columnIn, columnsBytes, equal, planeBytes};
 
 // Copies a column of a frame: its rows lie row bytes apart, from a place on.
 fn copy_column(column: &mut [u8], frame: &[u8], row: usize, at: usize)
@@ -47,7 +46,7 @@ fn length_in(
     at: usize,
 ) -> usize
     requires { ⌜ (height ≤ length (now was)) × (height ≤ length (now is)) × InFrame (now old) (now new) row height at ⌝ }
-    ensures { λ r. ⌜ (r ≡ length (columnBytes (columnAt (now (old .entry)) row at height) (columnAt (now (new .entry)) row at height))) × (r ≤ 3073) ⌝ }
+    ensures { λ r. ⌜ (r ≡ length (columnIn (now (old .entry)) (now (new .entry)) row height at)) × (r ≤ 3073) ⌝ }
 {
     copy_columns(was, is, old, new, row, height, at);
     let l = column::length(&was[..height], &is[..height]);
@@ -60,7 +59,7 @@ fn length_in(
 // How many bytes the column is written in that starts at a place of the frames.
 fn length_at(old: &[u8], new: &[u8], row: usize, height: usize, at: usize) -> usize
     requires { ⌜ InFrame (now old) (now new) row height at ⌝ }
-    ensures { λ r. ⌜ (r ≡ length (columnBytes (columnAt (now (old .entry)) row at height) (columnAt (now (new .entry)) row at height))) × (r ≤ 3073) ⌝ }
+    ensures { λ r. ⌜ (r ≡ length (columnIn (now (old .entry)) (now (new .entry)) row height at)) × (r ≤ 3073) ⌝ }
 {
     let mut was = [0u8; 1024];
     let mut is = [0u8; 1024];
@@ -79,8 +78,8 @@ fn write_in(
     height: usize,
     at: usize,
 ) -> usize
-    requires { ⌜ (height ≤ length (now was)) × (height ≤ length (now is)) × InFrame (now old) (now new) row height at × (place + length (columnBytes (columnAt (now old) row at height) (columnAt (now new) row at height)) ≤ length (now out)) ⌝ }
-    ensures { λ r. ⌜ Put (now (out .entry)) place (columnBytes (columnAt (now (old .entry)) row at height) (columnAt (now (new .entry)) row at height)) (now (out .exit)) r ⌝ }
+    requires { ⌜ (height ≤ length (now was)) × (height ≤ length (now is)) × InFrame (now old) (now new) row height at × (place + length (columnIn (now old) (now new) row height at) ≤ length (now out)) ⌝ }
+    ensures { λ r. ⌜ Put (now (out .entry)) place (columnIn (now (old .entry)) (now (new .entry)) row height at) (now (out .exit)) r ⌝ }
 {
     copy_columns(was, is, old, new, row, height, at);
     let p = column::write(out, place, &was[..height], &is[..height]);
@@ -100,8 +99,8 @@ fn write_at(
     height: usize,
     at: usize,
 ) -> usize
-    requires { ⌜ InFrame (now old) (now new) row height at × (place + length (columnBytes (columnAt (now old) row at height) (columnAt (now new) row at height)) ≤ length (now out)) ⌝ }
-    ensures { λ r. ⌜ Put (now (out .entry)) place (columnBytes (columnAt (now (old .entry)) row at height) (columnAt (now (new .entry)) row at height)) (now (out .exit)) r ⌝ }
+    requires { ⌜ InFrame (now old) (now new) row height at × (place + length (columnIn (now old) (now new) row height at) ≤ length (now out)) ⌝ }
+    ensures { λ r. ⌜ Put (now (out .entry)) place (columnIn (now (old .entry)) (now (new .entry)) row height at) (now (out .exit)) r ⌝ }
 {
     let mut was = [0u8; 1024];
     let mut is = [0u8; 1024];

@@ -4,9 +4,8 @@ use Prim.Native.Nat.{ℕ, _+_, _-_, _*_, _≤_, _<_}
 use mathlib.Core.List.{List}
 use mathlib.Core.Path.{_≡_}
 use lib.ListN.{length}
-use Rattle.column.specs.Column.{columnBytes}
 use Rattle.column.specs.Count.{Counting, counting, counting-more, counting-last}
-use Rattle.writer.specs.Write.{columnAt, columnsBytes}
+use Rattle.writer.specs.Write.{columnIn, columnsBytes}
 use Rattle.writer.specs.ColumnLaws.{plane-column}
 use Rattle.writer.specs.PlaneLaws.{columns-parts, columns-none, columns-start}
 use borrow.Author.Needs.{needs}
@@ -23,7 +22,7 @@ starts : (old new : List ℕ) (row height at : ℕ) → Columns old new row heig
 starts old new row height at = record { inside = omega arith; small = omega arith; left = rw (columns-start old new row height at) counting }
 
 module _ {old new : List ℕ} {row height at sum column : ℕ} (w : Columns old new row height at sum column) where
-  more : {n : ℕ} → column < row → (n ≡ length (columnBytes (columnAt old row (at + column) height) (columnAt new row (at + column) height))) × (n ≤ 3073)
+  more : {n : ℕ} → column < row → (n ≡ length (columnIn old new row height (at + column))) × (n ≤ 3073)
       → Columns old new row height at (sum + n) (column + 1)
   more h e = record { inside = omega arith; small = omega (arith, w .small, e .1); left = counting-more (w .left) (columns-parts old new row height at column h) (e .0) }
 
