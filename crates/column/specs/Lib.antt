@@ -4,5 +4,6 @@ pub mod Count
 pub mod Piece
 pub mod WalkLaws
 pub mod CutLaws
+pub mod PlanLaws
 pub mod Place
 pub mod PlaceLaws

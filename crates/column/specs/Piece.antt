@@ -59,9 +59,9 @@ opsIn Uniq n = (n + 126) / 127
 
 abbrev pub bytesIn : Kind → ℕ → ℕ
 bytesIn Rest n = 0
-bytesIn Skip n = (n + 126) / 127
-bytesIn Same n = (n + 254) / 255 * 3
-bytesIn Uniq n = (n + 126) / 127 + n
+bytesIn Skip n = opsIn Skip n
+bytesIn Same n = 3 * opsIn Same n
+bytesIn Uniq n = opsIn Uniq n + n
 
 -- the next piece from a row on
 pub record NextPiece (old new : List ℕ) (from : ℕ) (kind : Kind) (rows : ℕ) : Type 0 where

@@ -18,6 +18,12 @@ pub(crate) struct Piece {
     pub(crate) rows: usize,
 }
 
+// How many ops there are, and the bytes of those.
+struct Totals {
+    ops: usize,
+    bytes: usize,
+}
+
 // How a column is written: whether as Uniqs over all rows, in how many ops, and the bytes of those.
 pub(crate) struct Plan {
     pub(crate) whole: bool,
@@ -110,31 +116,33 @@ pub(crate) fn next_piece(old: &[u8], new: &[u8], from: usize) -> Piece
     }
 }
 
-// How many ops a piece is cut into.
-fn piece_ops(piece: Piece) -> usize
+// How many ops a piece is cut into, and the bytes of those.
+fn piece_totals(piece: Piece) -> Totals
     requires { ⌜ piece .rows ≤ 1024 ⌝ }
-    ensures { λ r. ⌜ r ≡ opsIn (piece .kind) (piece .rows) ⌝ }
+    ensures { λ r. ⌜ (r .ops ≡ opsIn (piece .kind) (piece .rows)) × (r .bytes ≡ bytesIn (piece .kind) (piece .rows)) ⌝ }
 {
     let kind = piece.kind;
+    let rows = piece.rows;
     match kind {
-        Kind::Rest => 0,
-        Kind::Skip => (piece.rows + 126) / 127,
-        Kind::Same => (piece.rows + 254) / 255,
-        Kind::Uniq => (piece.rows + 126) / 127,
-    }
-}
-
-// How many bytes those ops are written in.
-fn piece_bytes(piece: Piece) -> usize
-    requires { ⌜ piece .rows ≤ 1024 ⌝ }
-    ensures { λ r. ⌜ r ≡ bytesIn (piece .kind) (piece .rows) ⌝ }
-{
-    let kind = piece.kind;
-    match kind {
-        Kind::Rest => 0,
-        Kind::Skip => (piece.rows + 126) / 127,
-        Kind::Same => (piece.rows + 254) / 255 * 3,
-        Kind::Uniq => (piece.rows + 126) / 127 + piece.rows,
+        Kind::Rest => Totals { ops: 0, bytes: 0 },
+        Kind::Skip => {
+            let ops = (rows + 126) / 127;
+            Totals { ops, bytes: ops }
+        }
+        Kind::Same => {
+            let ops = (rows + 254) / 255;
+            Totals {
+                ops,
+                bytes: 3 * ops,
+            }
+        }
+        Kind::Uniq => {
+            let ops = (rows + 126) / 127;
+            Totals {
+                ops,
+                bytes: ops + rows,
+            }
+        }
     }
 }
 
@@ -148,8 +156,9 @@ pub(crate) fn measure(old: &[u8], new: &[u8]) -> Plan
     let mut bytes = 0;
     while row < new.len() {
         let piece = next_piece(old, new, row);
-        ops += piece_ops(piece);
-        bytes += piece_bytes(piece);
+        let totals = piece_totals(piece);
+        ops += totals.ops;
+        bytes += totals.bytes;
         row += piece.rows;
     }
     if ops <= 255 {

@@ -1,7 +1,7 @@
 -- `column::length`: the checks in the definition's order, then one byte more than the ops.
 use mathlib.Core.Path.{sym, ap, _∙_}
 use Rattle.laws.specs.Result.{Res.ok}
-use Rattle.column.specs.CutLaws.{planned-length}
+use Rattle.column.specs.PlanLaws.{planned-length}
 use Rattle.column.specs.PlaceLaws.{two-lengths, too-many, measured}
 use native.Mathlib.Omega.{arith}
 use borrow.Author.Needs.{needs}

@@ -1,5 +1,5 @@
 -- `column::write`: the checks in the definition's order, the column measured, then written where it fits.
-use Rattle.column.specs.CutLaws.{planned-length}
+use Rattle.column.specs.PlanLaws.{planned-length}
 use Rattle.column.specs.PlaceLaws.{two-lengths, too-many, measured, not-measured, no-room, is-written}
 use native.Mathlib.Omega.{arith}
 use borrow.Author.Needs.{needs}

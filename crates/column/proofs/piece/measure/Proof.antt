@@ -1,13 +1,14 @@
 -- `column::piece::measure`: what is counted and what is left, from here, come to the whole.
 use Prim.Native.Nat.{ℕ, _+_, _-_, _*_, _≤_}
 use mathlib.Core.List.{List, []}
-use mathlib.Core.Path.{_≡_, refl, sym, ap, _∙_}
+use mathlib.Core.Path.{_≡_, sym, ap, _∙_}
 use lib.ListN.{length, drop, length-append, length-drop}
 use Rattle.runs.specs.RunLaws.{runsAt}
 use Rattle.column.specs.Column.{opsBytes}
 use Rattle.column.specs.Count.{Counting, counting, counting-more, counting-last}
 use Rattle.column.specs.Piece.{opsAt, pieceOps, opsIn, bytesIn, NextPiece, Measured}
-use Rattle.column.specs.CutLaws.{none-left, piece-parts, piece-count, piece-size, piece-few, planned-few, planned-many}
+use Rattle.column.specs.CutLaws.{none-left, piece-parts, piece-count, piece-size, piece-few}
+use Rattle.column.specs.PlanLaws.{planned-few, planned-many}
 use Rattle.column.specs.declared.piece.Kind.{Kind}
 use native.Mathlib.Omega.{arith}
 use Rattle.column.proofs.piece.measure.Statement.{statement}
@@ -61,26 +62,23 @@ loop-holds c = starts _ _
 next-piece-requires : tie.Need-next-piece-requires Inv-loop μ-loop
 next-piece-requires c κs = (c .before .before .before .before .pre .0, c .loop-test .taken)
 
-piece-ops-requires : tie.Need-piece-ops-requires Inv-loop μ-loop
-piece-ops-requires c κs = omega (arith, c .next-piece .ensures .inside, c .before .before .before .before .before .pre .1)
+piece-totals-requires : tie.Need-piece-totals-requires Inv-loop μ-loop
+piece-totals-requires c κs = omega (arith, c .next-piece .ensures .inside, c .before .before .before .before .before .pre .1)
 
 add-ops : tie.Need-add-ops Inv-loop μ-loop
-add-ops c = omega (arith, more (c .before .before .before .loop .inv) (c .before .next-piece .ensures) (c .piece-ops .ensures) refl .few, c .before .next-piece .ensures .inside, c .before .before .before .before .before .before .pre .1)
-
-piece-bytes-requires : tie.Need-piece-bytes-requires Inv-loop μ-loop
-piece-bytes-requires c κs = omega (arith, c .before .next-piece .ensures .inside, c .before .before .before .before .before .before .pre .1)
+add-ops c = omega (arith, more (c .before .before .before .before .loop .inv) (c .before .before .next-piece .ensures) (c .before .piece-totals .ensures .0) (c .before .piece-totals .ensures .1) .few, c .before .before .next-piece .ensures .inside, c .before .before .before .before .before .before .before .pre .1)
 
 add-bytes : tie.Need-add-bytes Inv-loop μ-loop
-add-bytes c = omega (arith, more (c .before .before .before .before .loop .inv) (c .before .before .next-piece .ensures) (c .before .piece-ops .ensures) (c .piece-bytes .ensures) .short, c .before .before .next-piece .ensures .inside, c .before .before .before .before .before .before .before .pre .1)
+add-bytes c = omega (arith, more (c .before .before .before .before .before .loop .inv) (c .before .before .before .next-piece .ensures) (c .before .before .piece-totals .ensures .0) (c .before .before .piece-totals .ensures .1) .short, c .before .before .before .next-piece .ensures .inside, c .before .before .before .before .before .before .before .before .pre .1)
 
 add-row : tie.Need-add-row Inv-loop μ-loop
-add-row c = omega (arith, c .before .before .before .next-piece .ensures .inside, c .before .before .before .before .before .before .before .before .pre .1)
+add-row c = omega (arith, c .before .before .before .before .next-piece .ensures .inside, c .before .before .before .before .before .before .before .before .before .pre .1)
 
 loop-less : tie.Need-loop-less Inv-loop μ-loop
-loop-less c = omega (arith, c .before .before .before .next-piece .ensures .inside, c .before .before .before .next-piece .ensures .some)
+loop-less c = omega (arith, c .before .before .before .before .next-piece .ensures .inside, c .before .before .before .before .next-piece .ensures .some)
 
 loop-again : tie.Need-loop-again Inv-loop μ-loop
-loop-again c = more (c .before .before .before .before .before .loop .inv) (c .before .before .before .next-piece .ensures) (c .before .before .piece-ops .ensures) (c .before .piece-bytes .ensures)
+loop-again c = more (c .before .before .before .before .before .before .loop .inv) (c .before .before .before .before .next-piece .ensures) (c .before .before .before .piece-totals .ensures .0) (c .before .before .before .piece-totals .ensures .1)
 
 returns : tie.Need-returns Inv-loop μ-loop
 returns c = planned-few (all (c .before .before .loop .inv) (c .before .loop-test .left)) (c .before .before .before .before .before .pre .1) (c .if1 .taken)
@@ -88,8 +86,8 @@ returns c = planned-few (all (c .before .before .loop .inv) (c .before .loop-tes
 add-uniqs : tie.Need-add-uniqs Inv-loop μ-loop
 add-uniqs c = omega (arith, c .before .before .before .before .before .pre .1)
 
-add-t12 : tie.Need-add-t12 Inv-loop μ-loop
-add-t12 c = omega (arith, c .before .before .before .before .before .pre .1)
+add-t13 : tie.Need-add-t13 Inv-loop μ-loop
+add-t13 c = omega (arith, c .before .before .before .before .before .pre .1)
 
 returns-2 : tie.Need-returns-2 Inv-loop μ-loop
 returns-2 c = planned-many (all (c .before .before .loop .inv) (c .before .loop-test .left)) (c .before .before .before .before .before .pre .1) (c .if1 .left)
@@ -102,14 +100,13 @@ measure-spec =
     μ-loop
     loop-holds
     next-piece-requires
-    piece-ops-requires
+    piece-totals-requires
     add-ops
-    piece-bytes-requires
     add-bytes
     add-row
     loop-less
     loop-again
     returns
     add-uniqs
-    add-t12
+    add-t13
     returns-2)
