@@ -15,8 +15,8 @@ use Rattle.laws.specs.Bytes.{be32}
 use Rattle.state.specs.declared.Sizes.{Sizes}
 use Rattle.state.specs.State.{rowBytes, frameBytes, frameLength}
 use Rattle.state.specs.StateLaws.{Sound, sizes-sound}
-use Rattle.writer.specs.Column.{columnBytes}
-use Rattle.writer.specs.Write.{columnsBytes, equal, planeBytes, be32Bytes, pointerOf, pointersBytes, listsBytes, deltaBytes}
+use Rattle.column.specs.Column.{columnBytes}
+use Rattle.writer.specs.Write.{columnIn, columnsBytes, equal, planeBytes, be32Bytes, pointerOf, pointersBytes, listsBytes, deltaBytes}
 use Rattle.writer.specs.PlaneLaws.{length-be32, pointers-length}
 use Rattle.delta.specs.Delta.{Reading, shapeOf, readColumns, pointer, readPlane, readPlanes, readPicture, readDelta, draw, newFrame, readFrame}
 use Rattle.anhd.specs.declared.Items.the-variants.{Bytes}
@@ -142,7 +142,7 @@ module _ (row height planes : ℕ) (s1 : 1 ≤ row) (d first old new : List ℕ)
     made : Made to (at + height * row)
 
   some-bytes : (k at : ℕ) → 1 ≤ k → (place : ℕ) → pointerOf place (columnsBytes old new row height k at) ≡ place
-  unfolding columnsBytes columnBytes pointerOf
+  unfolding columnsBytes columnIn columnBytes pointerOf
   some-bytes zero at h place = absurd (omega arith)
   some-bytes (suc k) at h place = refl
 
