@@ -1,14 +1,16 @@
 -- Laws of reading the next run of a record, test by test.
 use Prim.Native.Nat.{ℕ, _+_, _-_, _<_, _≤_}
 use native.Mathlib.Omega.{arith}
+use mathlib.Core.Bool.{Bool}
 use mathlib.Core.List.{List}
 use mathlib.Core.Option.{none}
-use mathlib.Core.Path.{_≡_}
-use lib.ListN.{length, drop, length-drop}
-use lib.Seq.{drop-drop}
+use mathlib.Core.Path.{_≡_, _∙_}
+use lib.ListN.{length, take, drop, length-drop}
+use lib.Seq.{drop-drop, take-all}
 use borrow.Author.Tests.{le-leb, lt-leb, lt-ltb}
 use Rattle.number.specs.Number.{readNumber}
 use Rattle.number.specs.NumberLaws.{Found}
+use Rattle.runs.specs.Runs.{differ}
 use Rattle.record.specs.RunList.{readRun}
 use Rattle.restore.specs.Walk.{RunFound}
 
@@ -49,3 +51,10 @@ module _ (bytes : List ℕ) (at least room : ℕ) where
               fits = l;
               inside = omega (arith, n .inside);
             }
+
+-- the old bytes of a run, compared with what is left of the picture
+pub differs-told : (bytes shown : List ℕ) (start to count : ℕ) (r : Bool) → r ≡ differ (take (start + count - start) (drop start bytes)) (take (length shown - to) (drop to shown))
+    → r ≡ differ (take count (drop start bytes)) (drop to shown)
+differs-told bytes shown start to count r e =
+    let m : start + count - start ≡ count = omega arith in
+    e ∙ rw (m, take-all (length shown - to) (drop to shown) (omega (arith, length-drop to shown)))

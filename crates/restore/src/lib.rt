@@ -4,6 +4,7 @@ ghost use mathlib.Core.Bool.{true};
 ghost use Prim.Native.Nat.{_+_, _≤_};
 ghost use lib.ListN.{length, take, drop};
 ghost use lib.Seq.{sets};
+ghost use Rattle.runs.specs.Runs.{differ};
 ghost use Rattle.record.specs.RunList.{beforeOf};
 ghost use Rattle.record.specs.Record.{restored, shownAfter, placeOf};
 ghost use Rattle.restore.specs.Restored.{restoredOf};
@@ -63,6 +64,15 @@ fn read_run(bytes: &[u8], at: usize, least: usize, room: usize) -> Stored
     }
 }
 
+// Whether each of the old bytes of a run differs from the one that it replaces.
+fn differs(bytes: &[u8], start: usize, shown: &[u8], to: usize, count: usize) -> bool
+    requires { ⌜ (start + count ≤ length (now bytes)) × (to + count ≤ length (now shown)) ⌝ }
+    ensures { λ r. ⌜ r ≡ differ (take count (drop start (now (bytes .entry)))) (drop to (now (shown .entry))) ⌝ }
+{
+    let end = start + count;
+    all_differ(&bytes[start..end], &shown[to..])
+}
+
 // A run list that was checked: the place after it.
 enum Checked {
     Ends(usize),
@@ -83,12 +93,11 @@ fn check_runs(bytes: &[u8], from: usize, count: usize, shown: &[u8]) -> Checked
             Stored::Faulty => return Checked::Bad,
             Stored::Whole { gap, count, start } => {
                 let to = place + gap;
-                let end = start + count;
-                if !all_differ(&bytes[start..end], &shown[to..]) {
+                if !differs(bytes, start, shown, to, count) {
                     return Checked::Bad;
                 }
                 place = to + count;
-                at = end;
+                at = start + count;
             }
         }
         least = 1;

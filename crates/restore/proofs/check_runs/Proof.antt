@@ -41,11 +41,11 @@ enum-known-s c = search needs
 add-to : tie.Need-add-to Inv-loop μ-loop
 add-to c = omega (arith, found c .fits)
 
-all-differ-requires : tie.Need-all-differ-requires Inv-loop μ-loop
-all-differ-requires c κs = (found c .inside, omega (arith, found c .fits))
+differs-requires : tie.Need-differs-requires Inv-loop μ-loop
+differs-requires c κs = (found c .inside, omega (arith, found c .fits))
 
 returns-2 : tie.Need-returns-2 Inv-loop μ-loop
-returns-2 c = check-equal (c .before .before .before .before .before .before .before .loop .inv) (c .before .before .before .before .before .before .loop-test .taken) (found (c .before .before)) (told-false (c .before .all-differ .ensures) (c .if1 .taken))
+returns-2 c = check-equal (c .before .before .before .before .before .before .before .loop .inv) (c .before .before .before .before .before .before .loop-test .taken) (found (c .before .before)) (told-false (c .before .differs .ensures) (c .if1 .taken))
 
 add-place : tie.Need-add-place Inv-loop μ-loop
 add-place c = omega (arith, found (c .before .before) .fits)
@@ -60,7 +60,7 @@ loop-less : tie.Need-loop-less Inv-loop μ-loop
 loop-less c = search needs
 
 loop-again : tie.Need-loop-again Inv-loop μ-loop
-loop-again c = check-more (c .before .before .before .before .before .before .before .loop .inv) (c .before .before .before .before .before .before .loop-test .taken) (found (c .before .before)) (told-true (c .before .all-differ .ensures) (c .if1 .left))
+loop-again c = check-more (c .before .before .before .before .before .before .before .loop .inv) (c .before .before .before .before .before .before .loop-test .taken) (found (c .before .before)) (told-true (c .before .differs .ensures) (c .if1 .left))
 
 returns-3 : tie.Need-returns-3 Inv-loop μ-loop
 returns-3 c = check-ends (c .before .loop .inv) (omega arith)
@@ -78,7 +78,7 @@ check-runs-spec =
     returns
     enum-known-s
     add-to
-    all-differ-requires
+    differs-requires
     returns-2
     add-place
     add-at
