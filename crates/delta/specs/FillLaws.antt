@@ -8,10 +8,13 @@ use mathlib.Core.List.{List, [], _∷_}
 use lib.ListN.{length}
 use borrow.Author.Tests.{lt-ltb, le-leb, lt-leb}
 use Rattle.laws.specs.Result.{Res.ok, Res.fault, pick}
+use Rattle.refusal.specs.declared.Refusal.the-variants.{OpPastLastRow}
 use Rattle.delta.specs.declared.Shape.{Shape}
 use Rattle.delta.specs.declared.Cursor.{Cursor}
+use Rattle.delta.specs.declared.Step.{Step}
 use Rattle.delta.specs.Delta.{Reading, noRows, skip, fill, put, draw}
-use Rattle.delta.specs.Walk.{Inside, Column, Columns, Planes, Walked}
+use Rattle.delta.specs.Walk.{Inside, Column, Columns, Planes, filled, Skipped, Skipped.skipped, Skipped.past-last, reading, Walked, Took}
+use Rattle.delta.specs.WalkLaws.{next-here, refused-here}
 
 -- rows from a line on
 pub rows-inside : {n base row w height : ℕ} → Inside n base row w height → (line count : ℕ) → line + count ≤ height → Inside n (base + line * row) row w count
@@ -49,7 +52,11 @@ pub columns-most : {S : Shape} {n : ℕ} → Planes S n → S .row / S .item ≤
 columns-most {S} v = omega (arith, v .row-most, div-add-mod' (S .row) (S .item), mul-le-mul-left (S .row / S .item) (v .width .least))
 
 -- a Skip
-pub skip-walked : (S : Shape) (d : List ℕ) (drawing : Bool) (f : List ℕ) (c : Cursor) (n : ℕ) → c .line + n ≤ S .height → c .item ≤ length d
+skip-past : (S : Shape) (c : Reading) (n : ℕ) → S .height < c .line + n → skip S c n ≡ fault 43
+unfolding skip
+skip-past S c n h = simp (lt-leb _ _ h)
+
+skip-walked : (S : Shape) (d : List ℕ) (drawing : Bool) (f : List ℕ) (c : Cursor) (n : ℕ) → c .line + n ≤ S .height → c .item ≤ length d
     → Walked S d drawing f (λ x. skip S x n) c ok f 1 (record { op = c .op + 1; item = c .item; line = c .line + n; ops = c .ops + 1 })
 unfolding skip draw put
 skip-walked S d drawing f c n h i = record {
@@ -66,15 +73,26 @@ skip-walked S d drawing f c n h i = record {
     go true = refl
     go false = refl
 
+pub skip-took : {S : Shape} {c : Cursor} {n : ℕ} {r : Step} → Skipped S c n r → (d : List ℕ) (drawing : Bool) (f : List ℕ) → c .item ≤ length d → Took S d drawing f (λ x. skip S x n) c f 1 r
+skip-took {S} {c} {n} (skipped h) d drawing f i = next-here (skip-walked S d drawing f c n h i)
+skip-took {S} {c} {n} (past-last h) d drawing f i = refused-here OpPastLastRow (λ ops. skip-past S (reading c ops) n h)
+
 -- a Same or a Uniq
-pub fill-walked : (S : Shape) (d : List ℕ) (drawing : Bool) (f : List ℕ) (base : ℕ) (c : Cursor) (p n size step from : ℕ) {g : List ℕ} (c′ : Cursor)
-    → 0 < n → c .line + n ≤ S .height → from ≡ pick (S .inline) p (c .item) → from + size ≤ length d
-    → g ≡ pick drawing (put (S .item) (S .row) step d n from (base + c .line * S .row) f) f
-    → record { op = pick (S .inline) (p + size) p; item = pick (S .inline) (c .item) (c .item + size); line = c .line + n; ops = c .ops + 1 } ≡ c′ → c′ .item ≤ length d
+pub pick-most : (t : Bool) (a b n : ℕ) → a ≤ n → b ≤ n → pick t a b ≤ n
+pick-most true a b n h k = h
+pick-most false a b n h k = k
+
+item-most : (t : Bool) (p i size n : ℕ) → i ≤ n → pick t p i + size ≤ n → pick t i (i + size) ≤ n
+item-most true p i size n h k = h
+item-most false p i size n h k = k
+
+pub fill-walked : (S : Shape) (d : List ℕ) (drawing : Bool) (f : List ℕ) (base : ℕ) (c : Cursor) (p n size step from : ℕ) {g : List ℕ} {c′ : Cursor}
+    → 0 < n → c .line + n ≤ S .height → c .item ≤ length d → from ≡ pick (S .inline) p (c .item) → from + size ≤ length d
+    → g ≡ pick drawing (put (S .item) (S .row) step d n from (base + c .line * S .row) f) f → c′ ≡ filled S c p n size
     → Walked S d drawing f (λ x. fill S d base x p n size step) c ok g 1 c′
 unfolding fill draw
-fill-walked S d drawing f base c p n size step from {g} c′ h l e k w q i =
-    rw (← q)
+fill-walked S d drawing f base c p n size step from {g} {c′} h l i e k w q =
+    rw q
     (record {
       new = record { place = base + c .line * S .row; count = n; from = pick (S .inline) p (c .item); step = step } ∷ [];
       same = λ ops. simp (lt-ltb 0 n h, le-leb (c .line + n) (S .height) l, le-leb (pick (S .inline) p (c .item) + size) (length d) (rw e at k));
@@ -82,13 +100,5 @@ fill-walked S d drawing f base c p n size step from {g} c′ h l e k w q i =
       counted = refl;
       few = omega arith;
       line = l;
-      item = rw (← q) at i;
+      item = item-most (S .inline) p (c .item) size (length d) i (rw e at k);
     })
-
-pub pick-most : (t : Bool) (a b n : ℕ) → a ≤ n → b ≤ n → pick t a b ≤ n
-pick-most true a b n h k = h
-pick-most false a b n h k = k
-
-pub skip-past : (S : Shape) (c : Reading) (n : ℕ) → S .height < c .line + n → skip S c n ≡ fault 43
-unfolding skip
-skip-past S c n h = simp (lt-leb _ _ h)

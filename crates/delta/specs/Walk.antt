@@ -7,7 +7,8 @@ use lib.ListN.{length}
 use Rattle.laws.specs.Result.{Res, Res.ok, Res.fault, pick}
 use Rattle.refusal.specs.Number.{numberOf}
 use Rattle.refusal.specs.declared.Refusal.{Refusal}
-use Rattle.delta.specs.Delta.{Op, Reading, draw}
+use Rattle.refusal.specs.declared.Refusal.the-variants.{OpPastLastRow}
+use Rattle.delta.specs.Delta.{Op, Reading, readDelta, draw}
 use Rattle.delta.specs.declared.Shape.{Shape}
 use Rattle.delta.specs.declared.Cursor.{Cursor}
 use Rattle.delta.specs.declared.Step.{Step}
@@ -52,6 +53,21 @@ pub record Stands (S : Shape) (d : List ℕ) (c : Cursor) (room : ℕ) : Type 0 
   pub item : c .item ≤ length d
   pub ops : c .ops + room < 4294967296
 
+-- where reading stands after n rows got items of size bytes in all; p is the place after the op's own bytes
+abbrev pub filled : Shape → Cursor → ℕ → ℕ → ℕ → Cursor
+filled S c p n size = record { op = pick (S .inline) (p + size) p; item = pick (S .inline) (c .item) (c .item + size); line = c .line + n; ops = c .ops + 1 }
+
+-- the numbers that it comes to fit
+pub record Fits (S : Shape) (c : Cursor) (p n size : ℕ) : Type 0 where
+  pub line : c .line + n ≤ S .height
+  pub place : pick (S .inline) p (c .item) + size ≤ 18446744073709551615
+  pub ops : c .ops + 1 < 4294967296
+
+-- what a Skip of n rows answers
+pub data Skipped (S : Shape) (c : Cursor) (n : ℕ) : Step → Type 0 where
+  skipped : c .line + n ≤ S .height → Skipped S c n (Next (record { op = c .op + 1; item = c .item; line = c .line + n; ops = c .ops + 1 }))
+  past-last : S .height < c .line + n → Skipped S c n (Faulty OpPastLastRow)
+
 -- where the whole delta is read from
 abbrev pub top : Cursor
 top = record { op = 0; item = 0; line = 0; ops = 0 }
@@ -79,3 +95,8 @@ pub record Refused (drawing : Bool) (f : List ℕ) (whole : Reading → Res Read
 pub data Took (S : Shape) (d : List ℕ) (drawing : Bool) (f : List ℕ) (whole : Reading → Res Reading) (c₀ : Cursor) (g : List ℕ) (most : ℕ) : Step → Type 0 where
   took : {c : Cursor} → Walked S d drawing f whole c₀ ok g most c → Took S d drawing f whole c₀ g most (Next c)
   refused : {why : Refusal} → Refused drawing f whole c₀ g (numberOf why) → Took S d drawing f whole c₀ g most (Faulty why)
+
+-- a whole delta is checked, then drawn into a copy of the picture f: the work buffer w has become g
+pub data Built (S : Shape) (d f w g : List ℕ) : Step → Type 0 where
+  built : {c : Cursor} (ops : List Op) → readDelta S d ≡ ok ops → c .ops ≡ length ops → g ≡ draw S d ops f → Built S d f w g (Next c)
+  kept : {why : Refusal} → readDelta S d ≡ fault (numberOf why) → g ≡ w → Built S d f w g (Faulty why)

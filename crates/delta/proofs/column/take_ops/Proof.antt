@@ -1,4 +1,4 @@
--- `delta::take_ops`: the ops so far and those that are left are all of them.
+-- `delta::column::take_ops`: the ops so far and those that are left are all of them.
 use Prim.Native.Nat.{_-_, _≤_}
 use mathlib.Core.Path.{_≡_, refl, _∙_}
 use lib.ListN.{length}
@@ -8,8 +8,8 @@ use Rattle.delta.specs.Walk.{Walked}
 use Rattle.delta.specs.WalkLaws.{walked-none, walked-more, walked-refused, walked-all, took-next, took-faulty, next-here, faulty-here}
 use borrow.Author.Needs.{needs}
 use native.Mathlib.Omega.{arith}
-use Rattle.delta.proofs.take_ops.Statement.{statement}
-use Rattle.delta.proofs.take_ops.Tie as tie
+use Rattle.delta.proofs.column.take_ops.Statement.{statement}
+use Rattle.delta.proofs.column.take_ops.Tie as tie
 
 abbrev Inv-loop : tie.InvT-loop
 Inv-loop frame₀ d shape base count drawing at₀ left₀ frame at left = (left ≤ count) × (length frame ≡ length frame₀) × Walked shape d drawing frame₀ (readOps shape d base count) at₀ (readOps shape d base left) frame (count - left) at

@@ -1,4 +1,4 @@
--- `delta::take_column`: the count byte, and that many ops from row 0 on.
+-- `delta::column::take_column`: the count byte, and that many ops from row 0 on.
 use mathlib.Core.Path.{refl}
 use Rattle.refusal.specs.declared.Refusal.the-variants.{DeltaTooShort}
 use Rattle.delta.specs.DeltaLaws.{column-none, column-ops}
@@ -6,8 +6,8 @@ use Rattle.delta.specs.Walk.{reading}
 use Rattle.delta.specs.WalkLaws.{refused-here, took-as}
 use native.Mathlib.Omega.{arith}
 use borrow.Author.Needs.{needs}
-use Rattle.delta.proofs.take_column.Statement.{statement}
-use Rattle.delta.proofs.take_column.Tie as tie
+use Rattle.delta.proofs.column.take_column.Statement.{statement}
+use Rattle.delta.proofs.column.take_column.Tie as tie
 
 returns : tie.Need-returns
 returns c = let a = c .before .before .before .args in refused-here DeltaTooShort (λ ops. column-none (a .shape) (a .d .now) (a .base) (reading (a .c) ops) (c .if1 .taken))

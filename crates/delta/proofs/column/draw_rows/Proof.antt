@@ -1,10 +1,10 @@
--- `delta::draw_rows`: what is left to put makes of the frame what all of it makes of the first one.
+-- `delta::column::draw_rows`: what is left to put makes of the frame what all of it makes of the first one.
 use native.Mathlib.Omega.{arith}
 use borrow.Author.Tests.{not-true, not-false}
 use Prim.Native.Nat.{_-_}
 use Rattle.delta.specs.DeltaLaws.{Putting, putting-starts, putting-more, putting-ends}
-use Rattle.delta.proofs.draw_rows.Statement.{statement}
-use Rattle.delta.proofs.draw_rows.Tie as tie
+use Rattle.delta.proofs.column.draw_rows.Statement.{statement}
+use Rattle.delta.proofs.column.draw_rows.Tie as tie
 
 abbrev Inv-loop : tie.InvT-loop
 Inv-loop frame₀ place d from step count drawing item row i₀ frame i = Putting item row step d count from place frame₀ frame i
