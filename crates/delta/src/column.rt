@@ -16,8 +16,10 @@ fn put_pair(frame: &mut [u8], at: usize, d: &[u8], from: usize)
     requires { ⌜ (at + 2 ≤ length (now frame)) × (from + 2 ≤ length (now d)) ⌝ }
     ensures { λ _. ⌜ now (frame .exit) ≡ sets (now (frame .entry)) at (take 2 (drop from (now (d .entry)))) ⌝ }
 {
-    frame[at] = d[from];
-    frame[at + 1] = d[from + 1];
+    let a = d[from];
+    let b = d[from + 1];
+    frame[at] = a;
+    frame[at + 1] = b;
 }
 
 // Puts one item of one, two or four bytes at a place of the frame.

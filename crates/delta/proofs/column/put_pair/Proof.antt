@@ -6,20 +6,20 @@ use borrow.Author.Needs.{needs}
 use Rattle.delta.proofs.column.put_pair.Statement.{statement}
 use Rattle.delta.proofs.column.put_pair.Tie as tie
 
-shared-slice-read-frame : tie.Need-shared-slice-read-frame
-shared-slice-read-frame c = search needs
+shared-slice-read-a : tie.Need-shared-slice-read-a
+shared-slice-read-a c = search needs
+
+add-b : tie.Need-add-b
+add-b c = search needs
+
+shared-slice-read-b : tie.Need-shared-slice-read-b
+shared-slice-read-b c = search needs
 
 slice-write-frame : tie.Need-slice-write-frame
 slice-write-frame c = search needs
 
 add-frame : tie.Need-add-frame
 add-frame c = search needs
-
-shared-slice-read-frame-2 : tie.Need-shared-slice-read-frame-2
-shared-slice-read-frame-2 c = search needs
-
-add-frame-2 : tie.Need-add-frame-2
-add-frame-2 c = search needs
 
 slice-write-frame-2 : tie.Need-slice-write-frame-2
 slice-write-frame-2 c = simp length-set (omega arith)
@@ -34,11 +34,11 @@ pub put-pair-spec : {M : Type 1} → statement M
 put-pair-spec =
     tie.close
     (tie.spec
-    shared-slice-read-frame
+    shared-slice-read-a
+    add-b
+    shared-slice-read-b
     slice-write-frame
     add-frame
-    shared-slice-read-frame-2
-    add-frame-2
     slice-write-frame-2
     same-length
     returns)
