@@ -8,7 +8,7 @@ ghost use Rattle.runs.specs.Runs.{differ};
 ghost use Rattle.record.specs.RunList.{beforeOf};
 ghost use Rattle.record.specs.Record.{restored, shownAfter, placeOf};
 ghost use Rattle.restore.specs.Restored.{restoredOf};
-ghost use Rattle.restore.specs.Walk.{RunAt, runsBefore, restOf, checkedOf, isGood, bufferOr, HeaderAt};
+ghost use Rattle.restore.specs.Walk.{RunAt, runsBefore, restOf, checkedOf, isGood, bufferOr, HeaderAt, belonging, LeadsBack};
 use buffer::copy;
 use number::Parsed;
 use refusal::Refusal;
@@ -194,13 +194,35 @@ fn read_header(bytes: &[u8]) -> Header
     }
 }
 
-// Puts a record back into the shown picture, at a frame number and a next place, all or nothing.
-pub fn restore(bytes: &[u8], shown: &mut [u8], frame: usize, next: usize) -> Restored
-    ensures { λ r. ⌜ (restoredOf r ≡ placeOf (restored (now (bytes .entry)) (now (shown .entry)) frame next)) × (now (shown .exit) ≡ shownAfter (now (shown .entry)) (restored (now (bytes .entry)) (now (shown .entry)) frame next)) ⌝ }
+// Whether a record belongs to a state: its frame is the state's and not the first, its place is from 12 on and before the next place.
+fn belongs(reached: usize, place: usize, frame: usize, next: usize) -> bool
+    ensures { λ r. ⌜ r ≡ belonging reached place frame next ⌝ }
+{
+    if reached < 2 {
+        return false;
+    }
+    if reached != frame {
+        return false;
+    }
+    if place < 12 {
+        return false;
+    }
+    place < next
+}
+
+// Whether a record leads back from a state: the next place before its step, and where its run list stands.
+enum Leads {
+    To { place: usize, list: usize },
+    Nowhere(Refusal),
+}
+
+// Checks a whole record against the shown picture, and then that it belongs to the state.
+fn leads_back(bytes: &[u8], shown: &[u8], frame: usize, next: usize) -> Leads
+    ensures { λ r. ⌜ LeadsBack (now (bytes .entry)) (now (shown .entry)) frame next r ⌝ }
 {
     let h = read_header(bytes);
     match h {
-        Header::Short => Restored::Kept(Refusal::BadRecord),
+        Header::Short => Leads::Nowhere(Refusal::BadRecord),
         Header::Numbers {
             frame: reached,
             place,
@@ -208,27 +230,31 @@ pub fn restore(bytes: &[u8], shown: &mut [u8], frame: usize, next: usize) -> Res
         } => {
             let c = check_list(bytes, list, shown);
             match c {
-                Checked::Bad => Restored::Kept(Refusal::BadRecord),
+                Checked::Bad => Leads::Nowhere(Refusal::BadRecord),
                 Checked::Ends(end) => {
                     if end < bytes.len() {
-                        return Restored::Kept(Refusal::BadRecord);
+                        return Leads::Nowhere(Refusal::BadRecord);
                     }
-                    if reached < 2 {
-                        return Restored::Kept(Refusal::OtherRecord);
+                    if !belongs(reached, place, frame, next) {
+                        return Leads::Nowhere(Refusal::OtherRecord);
                     }
-                    if reached != frame {
-                        return Restored::Kept(Refusal::OtherRecord);
-                    }
-                    if place < 12 {
-                        return Restored::Kept(Refusal::OtherRecord);
-                    }
-                    if next <= place {
-                        return Restored::Kept(Refusal::OtherRecord);
-                    }
-                    restore_list(shown, bytes, list);
-                    Restored::Back(place)
+                    Leads::To { place, list }
                 }
             }
+        }
+    }
+}
+
+// Puts a record back into the shown picture, at a frame number and a next place, all or nothing.
+pub fn restore(bytes: &[u8], shown: &mut [u8], frame: usize, next: usize) -> Restored
+    ensures { λ r. ⌜ (restoredOf r ≡ placeOf (restored (now (bytes .entry)) (now (shown .entry)) frame next)) × (now (shown .exit) ≡ shownAfter (now (shown .entry)) (restored (now (bytes .entry)) (now (shown .entry)) frame next)) ⌝ }
+{
+    let l = leads_back(bytes, shown, frame, next);
+    match l {
+        Leads::Nowhere(why) => Restored::Kept(why),
+        Leads::To { place, list } => {
+            restore_list(shown, bytes, list);
+            Restored::Back(place)
         }
     }
 }
