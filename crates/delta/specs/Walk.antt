@@ -2,17 +2,19 @@
 use Prim.Native.Nat.{ℕ, _+_, _*_, _<_, _≤_}
 use mathlib.Core.Bool.{Bool, false}
 use mathlib.Core.Path.{_≡_}
-use mathlib.Core.List.{List, _++_}
+use mathlib.Core.List.{List, [], _∷_, _++_}
 use lib.ListN.{length}
 use Rattle.laws.specs.Result.{Res, Res.ok, Res.fault, pick}
 use Rattle.refusal.specs.Number.{numberOf}
 use Rattle.refusal.specs.declared.Refusal.{Refusal}
 use Rattle.refusal.specs.declared.Refusal.the-variants.{OpPastLastRow}
-use Rattle.delta.specs.Delta.{Op, Reading, readDelta, draw}
+use Rattle.delta.specs.Delta.{Op, noRows, Reading, readDelta, draw}
 use Rattle.delta.specs.declared.Shape.{Shape}
 use Rattle.delta.specs.declared.Cursor.{Cursor}
 use Rattle.delta.specs.declared.Step.{Step}
 use Rattle.delta.specs.declared.Step.the-variants.{Next, Faulty}
+use Rattle.delta.specs.declared.Taken.{Taken}
+use Rattle.delta.specs.declared.Taken.the-variants.{Rows, Passed, Faulty as NotTaken}
 use Rattle.delta.specs.declared.Pointer.{Pointer}
 use Rattle.delta.specs.declared.Pointer.the-variants.{At, Bad}
 
@@ -64,9 +66,9 @@ pub record Fits (S : Shape) (c : Cursor) (p n size : ℕ) : Type 0 where
   pub ops : c .ops + 1 < 4294967296
 
 -- what a Skip of n rows answers
-pub data Skipped (S : Shape) (c : Cursor) (n : ℕ) : Step → Type 0 where
-  skipped : c .line + n ≤ S .height → Skipped S c n (Next (record { op = c .op + 1; item = c .item; line = c .line + n; ops = c .ops + 1 }))
-  past-last : S .height < c .line + n → Skipped S c n (Faulty OpPastLastRow)
+pub data Skipped (S : Shape) (c : Cursor) (n : ℕ) : Taken → Type 0 where
+  skipped : c .line + n ≤ S .height → Skipped S c n (Passed (record { op = c .op + 1; item = c .item; line = c .line + n; ops = c .ops + 1 }))
+  past-last : S .height < c .line + n → Skipped S c n (NotTaken OpPastLastRow)
 
 -- where the whole delta is read from
 abbrev pub top : Cursor
@@ -75,6 +77,31 @@ top = record { op = 0; item = 0; line = 0; ops = 0 }
 -- the definition's place of reading, where the ops so far are given
 abbrev pub reading : Cursor → List Op → Reading
 reading c ops = record { opAt = c .op; itemAt = c .item; line = c .line; ops = ops }
+
+-- a cursor one op further on
+pub record Moved (S : Shape) (d : List ℕ) (c next : Cursor) : Type 0 where
+  pub counted : next .ops ≡ c .ops + 1
+  pub line : next .line ≤ S .height
+  pub item : next .item ≤ length d
+
+-- an op of n rows was read, wherever its column starts
+pub record RowsRead (S : Shape) (d : List ℕ) (whole : ℕ → Reading → Res Reading) (c : Cursor) (from step n : ℕ) (next : Cursor) : Type 0 where
+  pub same : (base : ℕ) (ops : List Op) → whole base (reading c ops) ≡ ok (reading next (ops ++ (record { place = base + c .line * S .row; count = n; from = from; step = step } ∷ [])))
+  pub some-rows : 0 < n
+  pub rows : c .line + n ≤ S .height
+  pub items : Inside (length d) from step (S .item) n
+  pub moved : Moved S d c next
+
+-- a Skip was
+pub record PassRead (S : Shape) (d : List ℕ) (whole : ℕ → Reading → Res Reading) (c next : Cursor) : Type 0 where
+  pub same : (base : ℕ) (ops : List Op) → whole base (reading c ops) ≡ ok (reading next (ops ++ (noRows ∷ [])))
+  pub moved : Moved S d c next
+
+-- what reading an op answers, where the definition's step is `whole`
+abbrev pub OpRead : Shape → List ℕ → (ℕ → Reading → Res Reading) → Cursor → Taken → Type 0
+OpRead S d whole c (Rows from step n next) = RowsRead S d whole c from step n next
+OpRead S d whole c (Passed next) = PassRead S d whole c next
+OpRead S d whole c (NotTaken why) = (base : ℕ) (ops : List Op) → whole base (reading c ops) ≡ fault (numberOf why)
 
 -- reading by `whole` from the cursor c₀ on has come to c, and `rest` is left; the frame f has become g
 pub record Walked (S : Shape) (d : List ℕ) (drawing : Bool) (f : List ℕ) (whole : Reading → Res Reading) (c₀ : Cursor) (rest : Reading → Res Reading) (g : List ℕ) (most : ℕ) (c : Cursor) : Type 0 where

@@ -5,10 +5,11 @@ ghost use lib.ListN.{length, take, drop};
 ghost use lib.Seq.{sets};
 ghost use Rattle.laws.specs.Result.{pick};
 ghost use Rattle.delta.specs.Delta.{fill, Kind.same, Kind.uniq, opAs, readOp, readOps, readColumn, put};
-ghost use Rattle.delta.specs.Walk.{Width, Inside, Column, Stands, Fits, filled, Skipped, Took};
+ghost use Rattle.delta.specs.Walk.{Width, Inside, Column, Stands, Fits, filled, Skipped, OpRead, Took};
 use crate::Cursor;
 use crate::Shape;
 use crate::Step;
+use crate::Taken;
 use refusal::Refusal;
 
 // Puts two bytes at a place of the frame.
@@ -93,55 +94,47 @@ fn after_fill(shape: Shape, c: Cursor, next: usize, count: usize, size: usize) -
     }
 }
 
-// Gives count rows from the cursor on items of size bytes in all; the op's own bytes end at next.
+// Reads an op that gives count rows from the cursor on items of size bytes in all; its own bytes end at next.
 fn take_fill(
-    frame: &mut [u8],
     d: &[u8],
     shape: Shape,
-    base: usize,
     c: Cursor,
     next: usize,
     count: usize,
     size: usize,
     step: usize,
-    drawing: bool,
-) -> Step
-    requires { ⌜ Width (shape .item) × Column shape (length (now frame)) base × Stands shape (now d) c 1 × (next ≤ length (now d)) × Inside size 0 step (shape .item) count ⌝ }
-    ensures { λ r. ⌜ Took shape (now (d .entry)) drawing (now (frame .entry)) (λ x. fill shape (now (d .entry)) base x next count size step) c (now (frame .exit)) 1 r ⌝ }
+) -> Taken
+    requires { ⌜ Stands shape (now d) c 1 × (next ≤ length (now d)) × Inside size 0 step (shape .item) count ⌝ }
+    ensures { λ r. ⌜ OpRead shape (now (d .entry)) (λ base x. fill shape (now (d .entry)) base x next count size step) c r ⌝ }
 {
     if count == 0 {
-        return Step::Faulty(Refusal::ZeroCount);
+        return Taken::Faulty(Refusal::ZeroCount);
     }
-    let line = c.line;
-    if shape.height - line < count {
-        return Step::Faulty(Refusal::OpPastLastRow);
+    if shape.height - c.line < count {
+        return Taken::Faulty(Refusal::OpPastLastRow);
     }
     let from = pick(shape.inline, next, c.item);
     if d.len() - from < size {
-        return Step::Faulty(Refusal::DeltaTooShort);
+        return Taken::Faulty(Refusal::DeltaTooShort);
     }
-    draw_rows(
-        frame,
-        base + line * shape.row,
-        d,
+    let next = after_fill(shape, c, next, count, size);
+    Taken::Rows {
         from,
         step,
         count,
-        shape,
-        drawing,
-    );
-    Step::Next(after_fill(shape, c, next, count, size))
+        next,
+    }
 }
 
-// Takes the Skip at the cursor.
-fn take_skip(shape: Shape, c: Cursor, rows: usize) -> Step
+// Reads the Skip at the cursor.
+fn take_skip(shape: Shape, c: Cursor, rows: usize) -> Taken
     requires { ⌜ (c .line ≤ shape .height) × (c .op < 18446744073709551615) × (c .ops + 1 < 4294967296) ⌝ }
     ensures { λ r. ⌜ Skipped shape c rows r ⌝ }
 {
     if shape.height - c.line < rows {
-        return Step::Faulty(Refusal::OpPastLastRow);
+        return Taken::Faulty(Refusal::OpPastLastRow);
     }
-    Step::Next(Cursor {
+    Taken::Passed(Cursor {
         op: c.op + 1,
         item: c.item,
         line: c.line + rows,
@@ -149,69 +142,64 @@ fn take_skip(shape: Shape, c: Cursor, rows: usize) -> Step
     })
 }
 
-// Takes the Same at the cursor, in the column that starts at base: a count byte, then one item.
-fn take_same(
-    frame: &mut [u8],
-    d: &[u8],
-    shape: Shape,
-    base: usize,
-    c: Cursor,
-    drawing: bool,
-) -> Step
-    requires { ⌜ Width (shape .item) × Column shape (length (now frame)) base × Stands shape (now d) c 1 × (c .op < length (now d)) ⌝ }
-    ensures { λ r. ⌜ Took shape (now (d .entry)) drawing (now (frame .entry)) (λ x. opAs shape (now (d .entry)) base x same) c (now (frame .exit)) 1 r ⌝ }
+// Reads the Same at the cursor: a count byte, then one item.
+fn take_same(d: &[u8], shape: Shape, c: Cursor) -> Taken
+    requires { ⌜ Stands shape (now d) c 1 × (c .op < length (now d)) ⌝ }
+    ensures { λ r. ⌜ OpRead shape (now (d .entry)) (λ base x. opAs shape (now (d .entry)) base x same) c r ⌝ }
 {
     let op = c.op;
     if d.len() - op < 2 {
-        return Step::Faulty(Refusal::DeltaTooShort);
+        return Taken::Faulty(Refusal::DeltaTooShort);
     }
     let count = d[op + 1] as usize;
-    let item = shape.item;
-    take_fill(frame, d, shape, base, c, op + 2, count, item, 0, drawing)
+    take_fill(d, shape, c, op + 2, count, shape.item, 0)
 }
 
-// Takes the Uniq of count rows at the cursor, in the column that starts at base.
-fn take_uniq(
-    frame: &mut [u8],
-    d: &[u8],
-    shape: Shape,
-    base: usize,
-    c: Cursor,
-    count: usize,
-    drawing: bool,
-) -> Step
-    requires { ⌜ Width (shape .item) × Column shape (length (now frame)) base × Stands shape (now d) c 1 × (c .op < length (now d)) × (count ≤ 127) ⌝ }
-    ensures { λ r. ⌜ Took shape (now (d .entry)) drawing (now (frame .entry)) (λ x. opAs shape (now (d .entry)) base x (uniq count)) c (now (frame .exit)) 1 r ⌝ }
+// Reads the Uniq of count rows at the cursor.
+fn take_uniq(d: &[u8], shape: Shape, c: Cursor, count: usize) -> Taken
+    requires { ⌜ Width (shape .item) × Stands shape (now d) c 1 × (c .op < length (now d)) × (count ≤ 127) ⌝ }
+    ensures { λ r. ⌜ OpRead shape (now (d .entry)) (λ base x. opAs shape (now (d .entry)) base x (uniq count)) c r ⌝ }
 {
     let item = shape.item;
-    take_fill(
-        frame,
-        d,
-        shape,
-        base,
-        c,
-        c.op + 1,
-        count,
-        count * item,
-        item,
-        drawing,
-    )
+    take_fill(d, shape, c, c.op + 1, count, count * item, item)
 }
 
-// Takes the op at the cursor, in the column that starts at base.
-fn take_op(frame: &mut [u8], d: &[u8], shape: Shape, base: usize, c: Cursor, drawing: bool) -> Step
-    requires { ⌜ Width (shape .item) × Column shape (length (now frame)) base × Stands shape (now d) c 1 ⌝ }
-    ensures { λ r. ⌜ Took shape (now (d .entry)) drawing (now (frame .entry)) (readOp shape (now (d .entry)) base) c (now (frame .exit)) 1 r ⌝ }
+// Reads the op at the cursor.
+fn take_op(d: &[u8], shape: Shape, c: Cursor) -> Taken
+    requires { ⌜ Width (shape .item) × Stands shape (now d) c 1 ⌝ }
+    ensures { λ r. ⌜ OpRead shape (now (d .entry)) (readOp shape (now (d .entry))) c r ⌝ }
 {
     let op = c.op;
     if d.len() <= op {
-        return Step::Faulty(Refusal::DeltaTooShort);
+        return Taken::Faulty(Refusal::DeltaTooShort);
     }
     let b = d[op];
     match b {
-        0 => take_same(frame, d, shape, base, c, drawing),
+        0 => take_same(d, shape, c),
         1..=127 => take_skip(shape, c, b as usize),
-        128..=255 => take_uniq(frame, d, shape, base, c, b as usize - 128, drawing),
+        128..=255 => take_uniq(d, shape, c, b as usize - 128),
+    }
+}
+
+// Takes the op at the cursor, in the column that starts at base, and draws it where that is asked for.
+fn draw_op(frame: &mut [u8], d: &[u8], shape: Shape, base: usize, c: Cursor, drawing: bool) -> Step
+    requires { ⌜ Width (shape .item) × Column shape (length (now frame)) base × Stands shape (now d) c 1 ⌝ }
+    ensures { λ r. ⌜ Took shape (now (d .entry)) drawing (now (frame .entry)) (readOp shape (now (d .entry)) base) c (now (frame .exit)) 1 r ⌝ }
+{
+    let t = take_op(d, shape, c);
+    match t {
+        Taken::Faulty(why) => Step::Faulty(why),
+        Taken::Passed(next) => Step::Next(next),
+        Taken::Rows {
+            from,
+            step,
+            count,
+            next,
+        } => {
+            let place = base + c.line * shape.row;
+            draw_rows(frame, place, d, from, step, count, shape, drawing);
+            Step::Next(next)
+        }
     }
 }
 
@@ -231,7 +219,7 @@ fn take_ops(
     let mut at = c;
     let mut left = count;
     while 0 < left {
-        let t = take_op(frame, d, shape, base, at, drawing);
+        let t = draw_op(frame, d, shape, base, at, drawing);
         match t {
             Step::Faulty(why) => return Step::Faulty(why),
             Step::Next(next) => at = next,

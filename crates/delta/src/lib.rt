@@ -44,6 +44,18 @@ enum Step {
     Faulty(Refusal),
 }
 
+// What an op does: count rows get items from a place of the delta on, step bytes apart; or it only goes down.
+enum Taken {
+    Rows {
+        from: usize,
+        step: usize,
+        count: usize,
+        next: Cursor,
+    },
+    Passed(Cursor),
+    Faulty(Refusal),
+}
+
 // Where a list starts, or that its pointer is bad.
 enum Pointer {
     At(usize),

@@ -20,8 +20,8 @@ abbrev μ-loop : tie.MeasureT-loop
 loop-holds : tie.Need-loop-holds Inv-loop μ-loop
 loop-holds c = (omega arith, refl, walked-none (λ ops. refl) refl (c .before .before .pre .2 .line) (c .before .before .pre .2 .item) _)
 
-take-op-requires : tie.Need-take-op-requires Inv-loop μ-loop
-take-op-requires c κs =
+draw-op-requires : tie.Need-draw-op-requires Inv-loop μ-loop
+draw-op-requires c κs =
     let p = c .before .before .before .before .before .pre in
     let i = c .before .before .loop .inv in
     (p .0, rw (i .1) (p .1), record { line = i .2 .line; item = i .2 .item; ops = omega (arith, i .2 .counted, i .2 .few, p .2 .ops) })
@@ -36,7 +36,7 @@ returns : tie.Need-returns Inv-loop μ-loop
 returns c =
     let a = c .before .before .before .before .before .before .before .before .before .before .before .args in
     let l = c .before .before .before .before .before .before .before .before .loop in
-    faulty-here _ (walked-refused (l .inv .2) (took-faulty (c .before .before .before .before .before .take-op .ensures) (c .before .t .given .1)) (readOps (a .shape) (a .d .now) (a .base) (l .left - 1)) (ops-more (a .shape) (a .d .now) (a .base) (l .left) (c .before .before .before .before .before .before .before .loop-test .taken)))
+    faulty-here _ (walked-refused (l .inv .2) (took-faulty (c .before .before .before .before .before .draw-op .ensures) (c .before .t .given .1)) (readOps (a .shape) (a .d .now) (a .base) (l .left - 1)) (ops-more (a .shape) (a .d .now) (a .base) (l .left) (c .before .before .before .before .before .before .before .loop-test .taken)))
 
 enum-known-t-2 : tie.Need-enum-known-t-2 Inv-loop μ-loop
 enum-known-t-2 c = search needs
@@ -51,7 +51,7 @@ loop-again : tie.Need-loop-again Inv-loop μ-loop
 loop-again c =
     let a = c .before .before .before .before .before .before .before .before .before .before .before .args in
     let l = c .before .before .before .before .before .before .before .before .loop in
-    (omega arith, c .before .before .before .before .before .take-op .kept .0 ∙ l .inv .1, walked-more (l .inv .2) (took-next (c .before .before .before .before .before .take-op .ensures) (c .before .t2 .given .1)) (ops-more (a .shape) (a .d .now) (a .base) (l .left) (c .before .before .before .before .before .before .before .loop-test .taken)) (omega arith))
+    (omega arith, c .before .before .before .before .before .draw-op .kept .0 ∙ l .inv .1, walked-more (l .inv .2) (took-next (c .before .before .before .before .before .draw-op .ensures) (c .before .t2 .given .1)) (ops-more (a .shape) (a .d .now) (a .base) (l .left) (c .before .before .before .before .before .before .before .loop-test .taken)) (omega arith))
 
 same-length-2 : tie.Need-same-length-2 Inv-loop μ-loop
 same-length-2 c = search needs
@@ -69,7 +69,7 @@ take-ops-spec =
     Inv-loop
     μ-loop
     loop-holds
-    take-op-requires
+    draw-op-requires
     enum-known-t
     same-length
     returns
