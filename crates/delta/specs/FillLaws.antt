@@ -21,13 +21,10 @@ pub rows-inside : {n base row w height : ℕ} → Inside n base row w height →
 rows-inside {n} {base} {row} {w} {height} v line count h = record { lies = λ k l. omega (arith, v .lies (line + k) (omega arith)) }
 
 -- items from a place on
-pub items-inside : {size step w count : ℕ} → Inside size 0 step w count → (n from : ℕ) → from + size ≤ n → Inside n from step w count
+items-inside : {size step w count : ℕ} → Inside size 0 step w count → (n from : ℕ) → from + size ≤ n → Inside n from step w count
 items-inside v n from h = record { lies = λ k l. omega (arith, v .lies k l) }
 
--- one item for every row, or one for each
-pub same-inside : (w count : ℕ) → Inside w 0 0 w count
-same-inside w count = record { lies = λ k l. omega arith }
-
+-- one item for each row
 pub uniq-inside : (w count : ℕ) → Inside (count * w) 0 w w count
 uniq-inside w count = record { lies = λ k l. omega (arith, mul-le-mul-right w l) }
 
