@@ -1,2 +1,4 @@
 pub mod Lines
 pub mod TextLaws
+pub mod Listing
+pub mod ListLaws

@@ -3,11 +3,14 @@ ghost use mathlib.Core.List.{[], _∷_, _++_};
 ghost use Prim.Native.Nat.{_≤_, min};
 ghost use lib.ListN.{length};
 ghost use Rattle.listing.specs.Lines.{decimal, newline, refusedLine, endLine, pictureLine, frameLine};
+ghost use Rattle.listing.specs.Listing.{frames, Lists};
 ghost use Rattle.listing.specs.TextLaws.{Adds};
 ghost use Rattle.refusal.specs.Number.{numberOf};
 use buffer::copy;
+use player::On;
 use refusal::Refusal;
 use state::Sizes;
+use state::State;
 
 // Adds a byte, if there is room for it.
 fn put_byte(out: &mut [u8], at: usize, byte: u8) -> usize
@@ -103,4 +106,38 @@ fn put_frame(
     at = put_field(out, at, b" changed ", changed);
     at = put_field(out, at, b" record ", rec);
     put_byte(out, at, b'\n')
+}
+
+// Lists an opened file: the picture's line, then a line for each step on until the end or a refusal.
+fn list_frames(
+    file: &[u8],
+    start: State,
+    a: &mut [u8],
+    b: &mut [u8],
+    work: &mut [u8],
+    rec: &mut [u8],
+    out: &mut [u8],
+) -> usize
+    ensures { λ r. ⌜ Lists (frames (now (file .entry)) (length (now (work .entry))) (length (now (rec .entry))) (record { world = record { a = now (a .entry); b = now (b .entry); state = start }; work = now (work .entry); rec = now (rec .entry); text = pictureLine (start .sizes) })) (now (out .entry)) r (now (a .exit)) (now (b .exit)) (now (work .exit)) (now (rec .exit)) (now (out .exit)) ⌝ }
+{
+    let mut state = start;
+    let mut at = put_picture(out, start.sizes);
+    loop {
+        let s = player::step_on(file, state, a, b, work, rec);
+        let reached = s.state;
+        let answer = s.answer;
+        match answer {
+            On::Refused(why) => return put_refused(out, at, why),
+            On::End => return put_end(out, at, reached.frame),
+            On::Taken {
+                method,
+                time,
+                changed,
+                record,
+            } => {
+                at = put_frame(out, at, reached.frame, method, time, changed, record);
+                state = reached;
+            }
+        }
+    }
 }
