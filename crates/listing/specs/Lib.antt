@@ -2,3 +2,4 @@ pub mod Lines
 pub mod TextLaws
 pub mod Listing
 pub mod ListLaws
+pub mod FileLaws

@@ -95,6 +95,12 @@ listing file = listed file (blank [] [] [] []) .text
 abbrev pub roomy : (a b work rec : List ℕ) → Bool
 roomy a b work rec = leb 16_384 (length a) && leb 16_384 (length b) && leb 16_384 (length work) && leb ROOM (length rec)
 
+unfoldable pub lent : (file a b work rec : List ℕ) → Scene
+lent file a b work rec = pick (roomy a b work rec) (listed file (blank a b work rec)) (blank a b work rec)
+
+unfoldable pub lentText : (file a b work rec : List ℕ) → List ℕ
+lentText file a b work rec = pick (roomy a b work rec) (listing file) []
+
 -- what a scene leaves in the lent buffers: the text stands at the front of `out`, as far as that goes
 pub record Lists (c : Scene) (out : List ℕ) (r : ℕ) (a b work rec out′ : List ℕ) : Type 0 where
   pub text : out′ ≡ over (c .text) out
@@ -103,3 +109,12 @@ pub record Lists (c : Scene) (out : List ℕ) (r : ℕ) (a b work rec out′ : L
   pub right : b ≡ c .world .b
   pub drawn : work ≡ c .work
   pub written : rec ≡ c .rec
+
+-- the contract of listing: the file's text stands at the front of `out`, as far as that goes, and the other buffers are as its steps left them
+pub record MeetsList (file a b work rec out : List ℕ) (r : ℕ) (a′ b′ work′ rec′ out′ : List ℕ) : Type 0 where
+  pub text : out′ ≡ over (lentText file a b work rec) out
+  pub count : r ≡ min (length (lentText file a b work rec)) (length out)
+  pub left : a′ ≡ lent file a b work rec .world .a
+  pub right : b′ ≡ lent file a b work rec .world .b
+  pub drawn : work′ ≡ lent file a b work rec .work
+  pub written : rec′ ≡ lent file a b work rec .rec

@@ -2,15 +2,27 @@
 ghost use mathlib.Core.List.{[], _∷_, _++_};
 ghost use Prim.Native.Nat.{_≤_, min};
 ghost use lib.ListN.{length};
-ghost use Rattle.listing.specs.Lines.{decimal, newline, refusedLine, endLine, pictureLine, frameLine};
-ghost use Rattle.listing.specs.Listing.{frames, Lists};
+ghost use Rattle.listing.specs.Lines.{decimal, tooLarge, refusedLine, endLine, pictureLine, frameLine};
+ghost use Rattle.listing.specs.Listing.{frames, shows, listed, blank, Lists, MeetsList};
 ghost use Rattle.listing.specs.TextLaws.{Adds};
+ghost use Rattle.opening.specs.Open.{opening};
 ghost use Rattle.refusal.specs.Number.{numberOf};
 use buffer::copy;
+use opening::Opening;
+use opening::Size;
 use player::On;
 use refusal::Refusal;
 use state::Sizes;
 use state::State;
+
+// The longest file that is listed.
+pub const FILE: usize = 65536;
+
+// The longest frame that is listed, and the length that A, B and the work buffer need.
+pub const FRAME: usize = 16384;
+
+// The length that the record buffer needs: every record of such a frame fits.
+pub const RECORD: usize = 65536;
 
 // Adds a byte, if there is room for it.
 fn put_byte(out: &mut [u8], at: usize, byte: u8) -> usize
@@ -77,6 +89,13 @@ fn put_end(out: &mut [u8], at: usize, frame: usize) -> usize
     put_byte(out, next, b'\n')
 }
 
+// Adds the only line of a file that is too large.
+fn put_too_large(out: &mut [u8]) -> usize
+    ensures { λ r. ⌜ Adds (now (out .entry)) 0 tooLarge (now (out .exit)) r ⌝ }
+{
+    put_text(out, 0, b"too large\n")
+}
+
 // Adds the first line: the picture's sizes.
 fn put_picture(out: &mut [u8], sizes: Sizes) -> usize
     ensures { λ r. ⌜ Adds (now (out .entry)) 0 (pictureLine sizes) (now (out .exit)) r ⌝ }
@@ -140,4 +159,88 @@ fn list_frames(
             }
         }
     }
+}
+
+// Lists a file whose frames are as long as A, B and the work buffer.
+fn list_film(
+    file: &[u8],
+    a: &mut [u8],
+    b: &mut [u8],
+    work: &mut [u8],
+    rec: &mut [u8],
+    out: &mut [u8],
+) -> usize
+    ensures { λ r. ⌜ Lists (shows (now (file .entry)) (length (now (work .entry))) (length (now (rec .entry))) (blank (now (a .entry)) (now (b .entry)) (now (work .entry)) (now (rec .entry))) (opening (now (file .entry)) (length (now (a .entry))) (length (now (b .entry))))) (now (out .entry)) r (now (a .exit)) (now (b .exit)) (now (work .exit)) (now (rec .exit)) (now (out .exit)) ⌝ }
+{
+    let o = opening::open(file, a, b);
+    let state = o.state;
+    let answer = o.answer;
+    match answer {
+        Opening::Refused(why) => put_refused(out, 0, why),
+        Opening::Opened => list_frames(file, state, a, b, work, rec, out),
+    }
+}
+
+// Lists a file with buffers that are long enough.
+fn list_file(
+    file: &[u8],
+    a: &mut [u8],
+    b: &mut [u8],
+    work: &mut [u8],
+    rec: &mut [u8],
+    out: &mut [u8],
+) -> usize
+    requires { ⌜ 16384 ≤ length (now a) ⌝ }
+    requires { ⌜ 16384 ≤ length (now b) ⌝ }
+    requires { ⌜ 16384 ≤ length (now work) ⌝ }
+    requires { ⌜ 65536 ≤ length (now rec) ⌝ }
+    ensures { λ r. ⌜ Lists (listed (now (file .entry)) (blank (now (a .entry)) (now (b .entry)) (now (work .entry)) (now (rec .entry)))) (now (out .entry)) r (now (a .exit)) (now (b .exit)) (now (work .exit)) (now (rec .exit)) (now (out .exit)) ⌝ }
+{
+    if FILE < file.len() {
+        return put_too_large(out);
+    }
+    let s = opening::frame_size(file);
+    match s {
+        Size::Refused(why) => put_refused(out, 0, why),
+        Size::Bytes(n) => {
+            if FRAME < n {
+                return put_too_large(out);
+            }
+            list_film(
+                file,
+                &mut a[..n],
+                &mut b[..n],
+                &mut work[..n],
+                &mut rec[..RECORD],
+                out,
+            )
+        }
+    }
+}
+
+// Lists a file: its text goes to the front of `out`, as far as that goes, and the answer is the number of bytes written.
+// A, B and the work buffer need FRAME bytes each and the record buffer RECORD bytes; with less nothing is listed.
+pub fn list(
+    file: &[u8],
+    a: &mut [u8],
+    b: &mut [u8],
+    work: &mut [u8],
+    rec: &mut [u8],
+    out: &mut [u8],
+) -> usize
+    ensures { λ r. ⌜ MeetsList (now (file .entry)) (now (a .entry)) (now (b .entry)) (now (work .entry)) (now (rec .entry)) (now (out .entry)) r (now (a .exit)) (now (b .exit)) (now (work .exit)) (now (rec .exit)) (now (out .exit)) ⌝ }
+{
+    if a.len() < FRAME {
+        return 0;
+    }
+    if b.len() < FRAME {
+        return 0;
+    }
+    if work.len() < FRAME {
+        return 0;
+    }
+    if rec.len() < RECORD {
+        return 0;
+    }
+    list_file(file, a, b, work, rec, out)
 }
