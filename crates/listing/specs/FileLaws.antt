@@ -15,7 +15,7 @@ use Rattle.opening.specs.declared.OpenedFile.{OpenedFile}
 use Rattle.opening.specs.Open.{Film, Opens, openingOf, pictureAfter, stateAfter, opening, firstSize}
 use Rattle.player.specs.Step.{World, Answer, Answer.refused, Answer.ended, Answer.tookOn, Answer.tookBack, After, stepOn}
 use Rattle.listing.specs.Lines.{pictureLine, refusedLine, tooLarge}
-use Rattle.listing.specs.TextLaws.{Adds, adds-front}
+use Rattle.listing.specs.TextLaws.{Adds, adds-front, length-over}
 use Rattle.listing.specs.Listing.{Scene, says, leaves, lineOn, listStep, frames, shows, ROOM, front, behind, sized, listed, blank, listing, roomy, lent, lentText, Lists, MeetsList}
 
 -- what the work and the record buffer hold makes no difference to pictures, state and text
@@ -147,7 +147,7 @@ module _ (file a b work rec out : List ℕ) where
   kept e =
       let l = lent-is e in
       let t = text-is e in
-      record { text = rw t over-nothing; count = rw t (omega arith); left = rw l refl; right = rw l refl; drawn = rw l refl; written = rw l refl }
+      record { text = rw t over-nothing; count = rw t (omega arith); most = omega arith; left = rw l refl; right = rw l refl; drawn = rw l refl; written = rw l refl }
 
   pub short-a : length a < 16_384 → MeetsList file a b work rec out 0 a b work rec out
   short-a h = kept (simp (lt-leb 16_384 (length a) h))
@@ -165,8 +165,9 @@ module _ (file a b work rec out : List ℕ) where
         short-rec h = kept (simp (le-leb 16_384 (length a) la, le-leb 16_384 (length b) lb, le-leb 16_384 (length work) lw, lt-leb ROOM (length rec) h))
 
         pub meets-list : ROOM ≤ length rec → {r : ℕ} {a′ b′ work′ rec′ out′ : List ℕ} → Lists (listed file (blank a b work rec)) out r a′ b′ work′ rec′ out′ → MeetsList file a b work rec out r a′ b′ work′ rec′ out′
-        meets-list lr v =
+        meets-list lr {r} {out′ = out′} v =
             let e : roomy a b work rec ≡ true = simp (le-leb 16_384 (length a) la, le-leb 16_384 (length b) lb, le-leb 16_384 (length work) lw, le-leb ROOM (length rec) lr) in
             let l = lent-is e in
             let t = text-is e ∙ sym (text-same file a b work rec) in
-            record { text = rw t (v .text); count = rw t (v .count); left = rw l (v .left); right = rw l (v .right); drawn = rw l (v .drawn); written = rw l (v .written) }
+            let n : r ≤ length out′ = omega (arith, v .count, ap length (v .text) ∙ length-over (listed file (blank a b work rec) .text) out) in
+            record { text = rw t (v .text); count = rw t (v .count); most = n; left = rw l (v .left); right = rw l (v .right); drawn = rw l (v .drawn); written = rw l (v .written) }

@@ -1,7 +1,7 @@
 -- The listing of a file (document 01, "Bench examples"): a line for its first picture, a line for each frame that is stepped on to,
 -- and `end N` or `refused N` as the last line. Files of more than 65,536 bytes and frames of more than 16,384 bytes are too large;
 -- the file's length is looked at before all else, the frame's right after 24.
-use Prim.Native.Nat.{ℕ, _-_, min}
+use Prim.Native.Nat.{ℕ, _-_, _≤_, min}
 use mathlib.Core.Bool.{Bool, _&&_}
 use mathlib.Core.List.{List, [], _++_}
 use mathlib.Core.Path.{_≡_}
@@ -114,6 +114,7 @@ pub record Lists (c : Scene) (out : List ℕ) (r : ℕ) (a b work rec out′ : L
 pub record MeetsList (file a b work rec out : List ℕ) (r : ℕ) (a′ b′ work′ rec′ out′ : List ℕ) : Type 0 where
   pub text : out′ ≡ over (lentText file a b work rec) out
   pub count : r ≡ min (length (lentText file a b work rec)) (length out)
+  pub most : r ≤ length out′
   pub left : a′ ≡ lent file a b work rec .world .a
   pub right : b′ ≡ lent file a b work rec .world .b
   pub drawn : work′ ≡ lent file a b work rec .work
