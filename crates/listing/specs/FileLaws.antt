@@ -1,19 +1,19 @@
 -- Laws of the listing of a whole file: the order of its tests, what is left in the buffers, and that the text is the file's alone.
 use Prim.Native.Nat.{ℕ, zero, suc, _-_, _<_, _≤_}
 use native.Mathlib.Omega.{arith}
-use mathlib.Core.Bool.{Bool, true, false, _&&_}
+use mathlib.Core.Bool.{Bool, true, false}
 use mathlib.Core.List.{List, [], _++_}
 use mathlib.Core.Path.{_≡_, refl, sym, ap, _∙_}
 use lib.Dec.{leb}
 use lib.ListN.{length, take, drop}
 use lib.Seq.{length-take-le, take-nil}
 use borrow.Author.Tests.{le-leb, lt-leb}
-use Rattle.laws.specs.Result.{Res, Res.ok, Res.fault, _>>=_, answer, pick}
-use Rattle.laws.specs.Loop.{Step, Step.next, Step.done, run, runs}
+use Rattle.laws.specs.Result.{Res, Res.ok, Res.fault, answer, pick}
+use Rattle.laws.specs.Loop.{Step.next, Step.done, run, runs}
 use Rattle.laws.specs.Store.{over}
 use Rattle.opening.specs.declared.OpenedFile.{OpenedFile}
 use Rattle.opening.specs.Open.{Film, Opens, openingOf, pictureAfter, stateAfter, opening, firstSize}
-use Rattle.player.specs.Step.{World, Answer, Answer.refused, Answer.ended, Answer.tookOn, Answer.tookBack, After, stepOn}
+use Rattle.player.specs.Step.{World, Answer, Answer.refused, Answer.ended, Answer.tookOn, Answer.tookBack, stepOn}
 use Rattle.listing.specs.Lines.{pictureLine, refusedLine, tooLarge}
 use Rattle.listing.specs.TextLaws.{Adds, adds-front, length-over}
 use Rattle.listing.specs.Listing.{Scene, says, leaves, lineOn, listStep, frames, shows, ROOM, front, behind, sized, listed, blank, listing, roomy, lent, lentText, Lists, MeetsList}

@@ -3,3 +3,4 @@ pub mod TextLaws
 pub mod Listing
 pub mod ListLaws
 pub mod FileLaws
+pub mod Sample

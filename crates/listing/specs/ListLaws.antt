@@ -1,25 +1,24 @@
 -- Laws of the listing: a step on raises the place, and each turn adds its line.
-use Prim.Native.Nat.{ℕ, zero, suc, _-_, _<_, _≤_}
+use Prim.Native.Nat.{ℕ, suc, _-_, _<_, _≤_}
 use native.Mathlib.Omega.{arith}
 use mathlib.Core.Bool.{Bool, true, false}
 use mathlib.Core.List.{List, [], _++_}
 use mathlib.Core.Option.{Option, none, some}
 use mathlib.Core.Path.{_≡_, refl, sym, ap, _∙_}
 use lib.Dec.{leb}
-use lib.ListN.{length, take, drop, length-take}
-use borrow.Author.Tests.{le-leb, lt-leb}
+use lib.ListN.{length, take, length-take}
 use Rattle.laws.specs.Result.{Res, Res.ok, Res.fault, _>>=_, pick}
-use Rattle.laws.specs.ResultLaws.{Each, Each.each, Each.no-value, each-bind, each-is, All, All.all-some, All.all-none, all-value}
-use Rattle.laws.specs.Loop.{Step, Step.next, Step.done, run, runs}
+use Rattle.laws.specs.ResultLaws.{Each, Each.each, Each.no-value, each-bind, All, All.all-some, All.all-none}
+use Rattle.laws.specs.Loop.{Step.done}
 use Rattle.laws.specs.LoopLaws.{Going, starts, turns, stops}
 use Rattle.state.specs.declared.State.{State}
 use Rattle.state.specs.State.{rowBytes}
 use Rattle.frame.specs.Frame.{Frame, frameAt}
-use Rattle.frame.specs.FrameLaws.{Rises, frame-rises}
+use Rattle.frame.specs.FrameLaws.{frame-rises}
 use Rattle.player.specs.declared.SteppedOn.{SteppedOn}
-use Rattle.player.specs.Step.{World, Report, Answer, Answer.refused, Answer.ended, Answer.tookOn, After, stepOn, onOf, LeavesOn, shownOf, hiddenOf, ready, change, Made, makes, make, advance, settle, onHidden, Outcome}
+use Rattle.player.specs.Step.{World, Report, Answer, Answer.refused, Answer.ended, Answer.tookOn, After, stepOn, onOf, LeavesOn, shownOf, hiddenOf, ready, change, Made, makes, make, advance, settle, Outcome}
 use Rattle.player.specs.OutcomeLaws.{on-put}
-use Rattle.player.specs.StepLaws.{Passed, ready-passed}
+use Rattle.player.specs.StepLaws.{ready-passed}
 use Rattle.listing.specs.Lines.{pictureLine, frameLine, endLine, refusedLine}
 use Rattle.listing.specs.TextLaws.{Adds, adds-then, adds-front}
 use Rattle.listing.specs.Listing.{Scene, says, leaves, lineOn, listStep, frames, Lists}

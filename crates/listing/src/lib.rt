@@ -1,6 +1,6 @@
 // The listing of a file: what document 01 has the listing program write.
 ghost use mathlib.Core.List.{[], _∷_, _++_};
-ghost use Prim.Native.Nat.{_≤_, min};
+ghost use Prim.Native.Nat.{_≤_};
 ghost use lib.ListN.{length};
 ghost use Rattle.listing.specs.Lines.{decimal, tooLarge, refusedLine, endLine, pictureLine, frameLine};
 ghost use Rattle.listing.specs.Listing.{frames, shows, listed, blank, Lists, MeetsList};
