@@ -1,8 +1,10 @@
 //! The checks: groups of calls that are made on both sides.
 pub mod calls;
 pub mod damaged;
+pub mod large;
 pub mod limits;
 pub mod listings;
+pub mod orders;
 pub mod records;
 pub mod writer;
 
@@ -26,10 +28,11 @@ pub fn play(check: &mut Check, file: &[u8]) -> Checked<()> {
     let mut past = Vec::new();
     loop {
         let before = (player.a.bytes().to_vec(), player.b.bytes().to_vec(), player.now());
-        if player.step_on(&mut check.pair)? != 0 {
-            break;
+        match player.step_on(&mut check.pair)? {
+            0 => past.push((player.written(), before)),
+            51 => return Err("a record buffer of the length of anim.h is too short".into()),
+            _ => break,
         }
-        past.push((player.written(), before));
     }
     for (record, (a, b, state)) in past.into_iter().rev() {
         if player.step_back(&mut check.pair, &record)? != 0 {

@@ -8,6 +8,9 @@ pub const NAMES: &[(&str, &str)] = &[
     ("last-chunk-counts", "the last chunk of an id counts, not the first"),
     ("frame-not-walked", "a chunk that passes its frame is not seen behind the ones that are needed"),
     ("wide-by-one", "a width of 1,025 is within the limits"),
+    ("lengths-before-limits", "12 is asked before 11"),
+    ("last-frame-after-end", "53 is asked after the walk"),
+    ("method-before-length", "33 is asked before 32"),
     ("interleave-1", "interleave 1 is taken as 2"),
     ("one-byte-down", "a column goes on by one byte and not by a row"),
     ("skip-past-last-row", "a Skip may pass the last row"),
@@ -21,9 +24,11 @@ pub const NAMES: &[(&str, &str)] = &[
     ("zero-gap", "two runs of a record may touch"),
     ("equal-old-byte", "a record's old byte may equal the one that it replaces"),
     ("place-at-next", "a record's place may be the state's next place"),
+    ("other-before-bad", "62 is asked before 61"),
     ("same-of-three", "the writer makes a Same of three rows"),
     ("same-past-stretch", "the writer's Same goes on into unchanged rows"),
     ("skip-of-128", "the writer's Skip is cut at 128"),
+    ("same-of-254", "the writer's Same is cut at 254"),
     ("ops-past-255", "the writer's column may have 256 ops"),
 ];
 

@@ -395,6 +395,20 @@ pub fn small_sizes(random: &mut Random) -> Sizes {
     Sizes { width: random.from_to(1, 70), height: random.from_to(1, 12), planes: random.from_to(1, 8).min(random.from_to(1, 8)) }
 }
 
+/// Sizes of pictures, most of them small.
+pub fn any_sizes(random: &mut Random) -> Sizes {
+    match random.below(40) {
+        0..=2 => tall_sizes(random),
+        3 => wide_sizes(random),
+        _ => small_sizes(random),
+    }
+}
+
+/// Sizes of wide pictures, whose records have numbers of two and three bytes.
+pub fn wide_sizes(random: &mut Random) -> Sizes {
+    Sizes { width: random.from_to(300, 1024), height: random.from_to(20, 200), planes: random.from_to(1, 4) }
+}
+
 /// Sizes of tall and narrow pictures.
 pub fn tall_sizes(random: &mut Random) -> Sizes {
     Sizes { width: *random.pick(&[1, 16, 17, 40]), height: random.from_to(100, 1024), planes: random.from_to(1, 2) }

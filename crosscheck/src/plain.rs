@@ -158,15 +158,23 @@ pub fn frame_length(file: &[u8]) -> Answer<usize> {
 
 /// Steps on to the next frame; `None` is End.
 pub fn step_on(file: &[u8], state: &mut State, a: &mut [u8], b: &mut [u8], work: &mut [u8], rec: &mut [u8]) -> Answer<Option<Report>> {
+    if broken("lengths-before-limits") {
+        let row = state.width.div_ceil(16).wrapping_mul(2);
+        let length = row.wrapping_mul(state.height).wrapping_mul(state.planes);
+        need(a.len() as u64 == length && b.len() == a.len() && work.len() == a.len(), BufferLength)?;
+    }
     let sizes = state.sizes()?;
     need(state.end <= file.len() as u64, OutsideLimits)?;
     let length = sizes.frame();
     need(a.len() == length && b.len() == length && work.len() == length, BufferLength)?;
-    need(state.frame < MAX_FRAME, LastFrame)?;
+    need(state.frame < MAX_FRAME || broken("last-frame-after-end"), LastFrame)?;
 
     let Some(form) = iff::next_frame(&file[..state.end as usize], state.next as usize)? else {
         return Ok(None);
     };
+    if broken("last-frame-after-end") {
+        need(state.frame < MAX_FRAME, LastFrame)?;
+    }
     let [anhd, dlta] = iff::find(form.contents, [b"ANHD", b"DLTA"])?;
     let (anhd, dlta) = anhd.zip(dlta).ok_or(NoDelta)?;
     let header = Header::read(anhd, sizes)?;
@@ -198,6 +206,9 @@ pub fn step_back(rec: &[u8], state: &mut State, a: &mut [u8], b: &mut [u8]) -> A
     let length = state.sizes()?.frame();
     need(a.len() == length && b.len() == length, BufferLength)?;
     let shown = if state.shows_a() { a } else { b };
+    if broken("other-before-bad") {
+        need(rec.first() == Some(&(state.frame as u8)), OtherRecord)?;
+    }
     let past = record::read(rec, shown)?;
     need(past.frame >= 2 && past.frame == state.frame, OtherRecord)?;
     let last = if broken("place-at-next") { state.next } else { state.next - 1 };

@@ -1,7 +1,7 @@
 //! Makes calls on both sides until they differ or the time is over.
 //!
 //!     check [--seed N] [--seconds N] [--broken NAME] [--names]
-use crosscheck::checks::{calls, damaged, limits, listings, records, writer, Check};
+use crosscheck::checks::{calls, damaged, large, limits, listings, orders, records, writer, Check};
 use crosscheck::faults;
 use crosscheck::pair::{Checked, Pair};
 use crosscheck::random::Random;
@@ -17,12 +17,18 @@ const ONCE: &[Group] = &[
     ("states around each limit", limits::states),
     ("every next and end place", limits::places),
     ("files too long", limits::long_file),
+    ("things wrong at once: opening", orders::openings),
+    ("things wrong at once: stepping on", orders::steps_on),
+    ("things wrong at once: stepping back", orders::steps_back),
+    ("things wrong at once: rows, writer", orders::rows_and_deltas),
     ("each kind of damage", damaged::each_harm),
     ("numbers of a record", records::numbers),
     ("records altered at every byte", records::altered),
     ("BODY and DLTA cut at every byte", damaged::cut_contents),
     ("files cut at every byte", damaged::cut),
     ("every bit of a file changed", damaged::flipped),
+    ("one long list of calls", calls::long_list),
+    ("the largest pictures", large::run),
 ];
 
 /// Made in turn until the time is over.

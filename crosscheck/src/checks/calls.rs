@@ -2,7 +2,7 @@
 use super::{records, Check};
 use crate::files::{self, Harm};
 use crate::pair::{Checked, Player};
-use crate::plain::State;
+use crate::plain::{Sizes, State};
 
 /// One list of calls on one file.
 pub fn list(check: &mut Check) -> Checked<()> {
@@ -22,6 +22,27 @@ pub fn list(check: &mut Check) -> Checked<()> {
             7 => other_back(check, &mut player, &mut past)?,
             8 => rows(check, &mut player)?,
             _ => other_state(check, &player)?,
+        }
+    }
+    Ok(())
+}
+
+/// One long list of calls on one file of many frames.
+pub fn long_list(check: &mut Check) -> Checked<()> {
+    let sizes = Sizes { width: 40, height: 9, planes: 2 };
+    let film = files::film(&mut check.random, sizes, 600, Harm::None);
+    let mut player = Player::fitting(&mut check.random, &film);
+    player.open(&mut check.pair)?;
+    let mut past: Vec<Vec<u8>> = Vec::new();
+    let mut on = 6;
+    for turn in 0..6_000 {
+        if turn % 1_000 == 0 {
+            on = check.random.from_to(4, 9);
+        }
+        match check.random.below(12) {
+            0 => other_back(check, &mut player, &mut past)?,
+            k if k <= on => step_on(check, &mut player, &mut past)?,
+            _ => step_back(check, &mut player, &mut past)?,
         }
     }
     Ok(())

@@ -67,7 +67,7 @@ pub fn two_frames(sizes: Sizes, body: &[u8], items: usize, delta: &[u8]) -> Vec<
 /// One file, well formed or harmed.
 pub fn any_film(check: &mut Check) -> Checked<()> {
     let random = &mut check.random;
-    let sizes = if random.once_in(12) { files::tall_sizes(random) } else { files::small_sizes(random) };
+    let sizes = files::any_sizes(random);
     let harm = *random.pick(&HARMS);
     let frames = random.from_to(1, 5);
     let film = files::film(random, sizes, frames, harm);
@@ -77,7 +77,7 @@ pub fn any_film(check: &mut Check) -> Checked<()> {
 /// Many deltas for one picture, most of them damaged.
 pub fn any_deltas(check: &mut Check) -> Checked<()> {
     let random = &mut check.random;
-    let sizes = if random.once_in(20) { files::tall_sizes(random) } else { files::small_sizes(random) };
+    let sizes = files::any_sizes(random);
     let body = random.bytes(sizes.frame());
     let items = *random.pick(if sizes.row() % 4 == 0 { &[1, 2, 4] } else { &[1, 2, 1] });
     let delta = files::random_delta(random, sizes, items);

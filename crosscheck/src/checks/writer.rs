@@ -12,22 +12,24 @@ const TURNS: [usize; 24] = [1, 2, 3, 4, 5, 6, 7, 8, 126, 127, 128, 129, 130, 131
 /// One pair of pictures, written with room and without, and the delta played.
 pub fn pictures(check: &mut Check) -> Checked<()> {
     let random = &mut check.random;
-    let sizes = match random.below(8) {
-        0 => files::small_sizes(random),
+    let sizes = match random.below(16) {
+        0 => files::wide_sizes(random),
+        2..=4 => files::small_sizes(random),
         1 => Sizes { width: 16, height: 1024, planes: 1 },
         _ => files::tall_sizes(random),
     };
-    let (old, new) = match random.below(7) {
+    let (old, new) = match random.below(8) {
         0 => equal(random, sizes),
         1 => (random.bytes(sizes.frame()), random.bytes(sizes.frame())),
         2 => some_changed(random, sizes),
         3 => every_other_row(random, sizes),
+        4 => every_other_byte(random, sizes),
         _ => stretches(random, sizes),
     };
     write(check, sizes, &old, &new)
 }
 
-fn write(check: &mut Check, sizes: Sizes, old: &[u8], new: &[u8]) -> Checked<()> {
+pub fn write(check: &mut Check, sizes: Sizes, old: &[u8], new: &[u8]) -> Checked<()> {
     let numbers = [sizes.width as u64, sizes.height as u64, sizes.planes as u64];
     let (mut was, mut is) = (Twin::new("old", old), Twin::new("new", new));
     let mut size = Twin::new("length", &[0xee; 8]);
@@ -86,6 +88,14 @@ fn every_other_row(random: &mut Random, sizes: Sizes) -> (Vec<u8>, Vec<u8>) {
             }
         }
     }
+    (old, new)
+}
+
+/// Every second byte changed, so that the record is as long as it can be.
+fn every_other_byte(random: &mut Random, sizes: Sizes) -> (Vec<u8>, Vec<u8>) {
+    let old = random.bytes(sizes.frame());
+    let odd = random.below(2);
+    let new = old.iter().enumerate().map(|(k, &b)| if k % 2 == odd { b } else { b ^ 0x55 }).collect();
     (old, new)
 }
 

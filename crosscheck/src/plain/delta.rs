@@ -22,6 +22,9 @@ pub struct Header {
 
 impl Header {
     pub fn read(anhd: &[u8], sizes: Sizes) -> Answer<Header> {
+        if broken("method-before-length") {
+            need(anhd.first().is_none_or(|&method| method == 5 || method == 7), UnknownMethod)?;
+        }
         need(anhd.len() >= 40, ShortAnimHeader)?;
         let (method, interleave, bits) = (anhd[0], anhd[18], be32(&anhd[20..]));
         need(method == 5 || method == 7, UnknownMethod)?;

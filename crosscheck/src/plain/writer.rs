@@ -105,7 +105,7 @@ impl Ops<'_> {
     }
 
     fn sames(&mut self, rows: usize, value: u8) {
-        for count in cut(rows, 255) {
+        for count in cut(rows, if broken("same-of-254") { 254 } else { 255 }) {
             self.count += 1;
             self.list.extend([0, count, value]);
         }
