@@ -71,10 +71,15 @@ pub struct Pair {
 }
 
 impl Pair {
+    /// Counts a call and its answer.
+    pub fn count(&mut self, call: &'static str, answer: u64) {
+        self.calls += 1;
+        *self.answers.entry((call, answer)).or_default() += 1;
+    }
+
     /// Compares the answers and every buffer.
     fn compare(&mut self, call: &'static str, library: u64, plain: u64, buffers: &[&Twin]) -> Checked<u64> {
-        self.calls += 1;
-        *self.answers.entry((call, library)).or_default() += 1;
+        self.count(call, library);
         let mut lines: Vec<String> = buffers.iter().filter_map(|twin| twin.difference()).collect();
         if library != plain {
             lines.insert(0, format!("  answer: library {library}, plain {plain}"));
@@ -83,7 +88,7 @@ impl Pair {
             return Ok(library);
         }
         lines.insert(0, format!("{call} differs"));
-        lines.extend(buffers.iter().map(|twin| shown(twin)));
+        lines.extend(buffers.iter().map(|twin| kept(twin)));
         Err(lines.join("\n"))
     }
 
@@ -96,10 +101,12 @@ impl Pair {
     }
 }
 
-/// A buffer after the call, if it is short.
-fn shown(twin: &Twin) -> String {
+/// A buffer after the call in words, or where it was saved if it is long.
+fn kept(twin: &Twin) -> String {
     if twin.len() > 600 {
-        return format!("  {}: {} bytes", twin.name, twin.len());
+        let path = std::env::temp_dir().join(format!("crosscheck-{}.bin", twin.name));
+        let saved = std::fs::write(&path, twin.bytes()).map_or("not saved".into(), |()| path.display().to_string());
+        return format!("  {} (library, after): {} bytes, {saved}", twin.name, twin.len());
     }
     let hex: Vec<String> = twin.bytes().iter().map(|b| format!("{b:02x}")).collect();
     format!("  {} (library, after): {}", twin.name, hex.join(" "))

@@ -1,8 +1,10 @@
 //! Times the library against plain Rust on the same input, in turns, best of several.
 //!
-//!     bench [--times] [--turns N]
+//!     bench [--times] [--turns N] [--only WORD,WORD]
 //!
 //! The table has ratios, library / plain Rust; with --times microseconds stand beside them.
+//! With --only a case is run if it has all the words: open or step or write, the width, light or heavy or noise,
+//! and the items' bytes of the method (1, 2, 4), or packed or plain for opening.
 use crosscheck::files;
 use crosscheck::pair::{delta_room, record_room};
 use crosscheck::plain::{self, Sizes, State};
@@ -166,41 +168,103 @@ fn method_delta(old: &[u8], new: &[u8], sizes: Sizes, items: usize) -> Vec<u8> {
     out
 }
 
-fn main() {
-    let args: Vec<String> = std::env::args().collect();
-    let times = args.iter().any(|word| word == "--times");
-    let turns = args.iter().position(|word| word == "--turns").and_then(|k| args.get(k + 1)?.parse().ok()).unwrap_or(25);
-    let mut random = Random::new(5);
-    let (mut openings, mut ons, mut backs, mut writes) = (vec![], vec![], vec![], vec![]);
-    for sizes in SIZES {
-        let name = format!("{} x {} x {}", sizes.width, sizes.height, sizes.planes);
-        let turns = if sizes.frame() < 100_000 { 8 * turns } else { turns };
-        let old = picture(&mut random, sizes);
-        let body = files::plain_body(&old, sizes);
-        let packed = opening(turns, &file_of(sizes, 1, &files::packed_body(&old, sizes), None), sizes);
-        let plain = opening(turns, &file_of(sizes, 0, &body, None), sizes);
-        openings.push(format!("| {name} | {} | {} |", packed.cell(times), plain.cell(times)));
-        for change in CHANGES {
-            let new = next_picture(&mut random, sizes, &old, change);
-            let mut on_line = format!("| {name} | {change} |");
-            let mut back_line = on_line.clone();
-            for (_, items) in METHODS {
-                let delta = method_delta(&old, &new, sizes, items);
-                let (on, back) = steps(turns, &file_of(sizes, 0, &body, Some((items, &delta))), sizes);
-                on_line += &format!(" {} |", on.cell(times));
-                back_line += &format!(" {} |", back.cell(times));
-            }
-            ons.push(on_line);
-            backs.push(back_line);
-            writes.push(format!("| {name} | {change} | {} |", writing(turns, &old, &new, sizes).cell(times)));
+/// What was asked for.
+struct Words {
+    times: bool,
+    turns: usize,
+    only: Vec<String>,
+}
+
+impl Words {
+    fn read() -> Words {
+        let args: Vec<String> = std::env::args().collect();
+        let after = |name: &str| args.iter().position(|word| word == name).and_then(|k| args.get(k + 1));
+        Words {
+            times: args.iter().any(|word| word == "--times"),
+            turns: after("--turns").and_then(|n| n.parse().ok()).unwrap_or(25),
+            only: after("--only").map_or(vec![], |words| words.split(',').map(String::from).collect()),
         }
     }
-    println!("Ratios, library / plain Rust{}; below 1 the library is faster.", if times { " (microseconds of each)" } else { "" });
+
+    /// Whether a case with these words is to be run.
+    fn wants(&self, case: &[&str]) -> bool {
+        self.only.iter().all(|word| case.contains(&word.as_str()))
+    }
+
+    fn turns(&self, sizes: Sizes) -> usize {
+        if sizes.frame() < 100_000 {
+            8 * self.turns
+        } else {
+            self.turns
+        }
+    }
+}
+
+/// The lines of each table.
+#[derive(Default)]
+struct Tables {
+    open: Vec<String>,
+    on: Vec<String>,
+    back: Vec<String>,
+    write: Vec<String>,
+}
+
+fn bench_opening(words: &Words, tables: &mut Tables, sizes: Sizes, old: &[u8]) {
+    let mut line = format!("| {} |", name(sizes));
+    for (kind, compression, body) in [("packed", 1, files::packed_body(old, sizes)), ("plain", 0, files::plain_body(old, sizes))] {
+        let file = file_of(sizes, compression, &body, None);
+        let wanted = words.wants(&["open", &sizes.width.to_string(), kind]);
+        line += &cell(words, wanted.then(|| opening(words.turns(sizes), &file, sizes)));
+    }
+    tables.open.push(line);
+}
+
+fn bench_change(words: &Words, tables: &mut Tables, sizes: Sizes, old: &[u8], new: &[u8], change: &str) {
+    let width = sizes.width.to_string();
+    let body = files::plain_body(old, sizes);
+    let start = format!("| {} | {change} |", name(sizes));
+    let (mut on_line, mut back_line) = (start.clone(), start.clone());
+    for (_, items) in METHODS {
+        let steps = words.wants(&["step", &width, change, &items.to_string()]).then(|| {
+            let delta = method_delta(old, new, sizes, items);
+            steps(words.turns(sizes), &file_of(sizes, 0, &body, Some((items, &delta))), sizes)
+        });
+        on_line += &cell(words, steps.map(|s| s.0));
+        back_line += &cell(words, steps.map(|s| s.1));
+    }
+    let wanted = words.wants(&["write", &width, change]);
+    let written = wanted.then(|| writing(words.turns(sizes), old, new, sizes));
+    tables.on.push(on_line);
+    tables.back.push(back_line);
+    tables.write.push(start + &cell(words, written));
+}
+
+fn cell(words: &Words, best: Option<Best>) -> String {
+    best.map_or(" |".into(), |best| format!(" {} |", best.cell(words.times)))
+}
+
+fn name(sizes: Sizes) -> String {
+    format!("{} x {} x {}", sizes.width, sizes.height, sizes.planes)
+}
+
+fn main() {
+    let words = Words::read();
+    let mut random = Random::new(5);
+    let mut tables = Tables::default();
+    for sizes in SIZES {
+        let old = picture(&mut random, sizes);
+        bench_opening(&words, &mut tables, sizes, &old);
+        for change in CHANGES {
+            let new = next_picture(&mut random, sizes, &old, change);
+            bench_change(&words, &mut tables, sizes, &old, &new, change);
+        }
+    }
+    println!("Ratios, library / plain Rust{}; below 1 the library is faster.", if words.times { " (microseconds of each)" } else { "" });
     let methods = METHODS.map(|m| m.0).join(" | ");
-    table("Opening", "| sizes | ByteRun1 | plain BODY |\n|---|---|---|", &openings);
-    table("Step on, record included", &format!("| sizes | changes | {methods} |\n|---|---|---|---|---|"), &ons);
-    table("Step back", &format!("| sizes | changes | {methods} |\n|---|---|---|---|---|"), &backs);
-    table("Writer", "| sizes | changes | method 5 |\n|---|---|---|", &writes);
+    table("Opening", "| sizes | ByteRun1 | plain BODY |\n|---|---|---|", &tables.open);
+    table("Step on, record included", &format!("| sizes | changes | {methods} |\n|---|---|---|---|---|"), &tables.on);
+    table("Step back", &format!("| sizes | changes | {methods} |\n|---|---|---|---|---|"), &tables.back);
+    table("Writer", "| sizes | changes | method 5 |\n|---|---|---|", &tables.write);
 }
 
 fn table(title: &str, head: &str, lines: &[String]) {

@@ -102,7 +102,7 @@ fn run(words: &Words) -> Checked<()> {
         let k = round % AGAIN.len();
         let before = check.pair.calls;
         check.random = Random::new(words.seed ^ (round as u64) << 32);
-        AGAIN[k].1(&mut check).map_err(|e| difference(AGAIN[k].0, &check, e))?;
+        AGAIN[k].1(&mut check).map_err(|e| difference(&format!("{} (round {round})", AGAIN[k].0), &check, e))?;
         counts[k] += check.pair.calls - before;
         round += 1;
     }

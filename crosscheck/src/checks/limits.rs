@@ -3,6 +3,7 @@ use super::Check;
 use crate::files::{self, Harm};
 use crate::pair::{Checked, Player, Twin};
 use crate::plain::{Sizes, State, MAX_FILE, MAX_FRAME};
+use crate::{cover, library};
 
 /// Values around the limits of each field of a state.
 fn around(limits: &[u64]) -> Vec<u64> {
@@ -155,24 +156,43 @@ fn writer_lengths(check: &mut Check, which: usize, length: usize) -> Checked<()>
     check.pair.write_delta(&mut old, &mut new, &mut out, &mut size, [16, 2, 1]).map(drop)
 }
 
-/// A file as long as may be, and one byte longer; its bytes are zeros that take no memory.
+/// A file as long as may be, and one byte longer, opened and stepped; its bytes are zeros that take no memory.
 pub fn long_file(check: &mut Check) -> Checked<()> {
-    let film = files::film(&mut check.random, Sizes { width: 16, height: 2, planes: 1 }, 2, Harm::None);
+    let film = files::film(&mut check.random, Sizes { width: 16, height: 2, planes: 1 }, 3, Harm::None);
+    let mut player = Player::new(&mut check.random, &film, 4);
+    player.open(&mut check.pair)?;
+    let opened = player.state.bytes().to_vec();
     for length in [MAX_FILE as usize, MAX_FILE as usize + 1] {
         let mut file = vec![0; length];
         file[..film.len()].copy_from_slice(&film);
-        let mut buffers = [[[1; 4], [2; 4]], [[1; 4], [2; 4]]];
-        let mut states = [[5; 48]; 2];
-        let [library, plain] = &mut buffers;
-        let [la, lb] = library;
-        let [pa, pb] = plain;
-        let x = crate::library::open(&file, la, lb, &mut states[0]);
-        let y = crate::cover::open(&file, pa, pb, &mut states[1]);
-        check.pair.calls += 1;
-        *check.pair.answers.entry(("anim_open", x)).or_default() += 1;
-        if x != y || buffers[0] != buffers[1] || states[0] != states[1] {
-            return Err(format!("anim_open of {length} bytes differs: library {x}, plain {y}"));
-        }
+        long_open(check, &file)?;
+        long_step(check, &file, &opened)?;
     }
     Ok(())
+}
+
+fn long_open(check: &mut Check, file: &[u8]) -> Checked<()> {
+    let ([mut a, mut b], mut state) = ([[1; 4], [2; 4]], [5; 48]);
+    let ([mut pa, mut pb], mut plain_state) = ([a, b], state);
+    let x = library::open(file, &mut a, &mut b, &mut state);
+    let y = cover::open(file, &mut pa, &mut pb, &mut plain_state);
+    check.pair.count("anim_open", x);
+    if (x, a, b, state) == (y, pa, pb, plain_state) {
+        return Ok(());
+    }
+    Err(format!("anim_open of {} bytes differs: library {x}, plain {y}", file.len()))
+}
+
+fn long_step(check: &mut Check, file: &[u8], opened: &[u8]) -> Checked<()> {
+    let mut state = opened.to_vec();
+    let ([mut a, mut b, mut work], mut record, mut report) = ([[1; 4]; 3], [0; 40], [0; 32]);
+    let mut plain_state = opened.to_vec();
+    let ([mut pa, mut pb, mut plain_work], mut plain_record, mut plain_report) = ([[1; 4]; 3], [0; 40], [0; 32]);
+    let x = library::step_on(file, &mut state, &mut a, &mut b, &mut work, &mut record, &mut report);
+    let y = cover::step_on(file, &mut plain_state, &mut pa, &mut pb, &mut plain_work, &mut plain_record, &mut plain_report);
+    check.pair.count("anim_step_on", x);
+    if (x, state, a, b, work, record, report) == (y, plain_state, pa, pb, plain_work, plain_record, plain_report) {
+        return Ok(());
+    }
+    Err(format!("anim_step_on in {} bytes differs: library {x}, plain {y}", file.len()))
 }

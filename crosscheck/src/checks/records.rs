@@ -68,10 +68,10 @@ pub fn numbers(check: &mut Check) -> Checked<()> {
     let mut player = Player::fitting(&mut check.random, &film);
     player.open(&mut check.pair)?;
     player.step_on(&mut check.pair)?;
-    let place = player.now().next - 1;
+    let mut place = Vec::new();
+    number(&mut place, player.now().next - 1);
     let shown = player.b.bytes().to_vec();
     let other: Vec<u8> = shown.iter().map(|b| b ^ 1).collect();
-    let place = [place as u8 | 128, (place >> 7) as u8];
     let parts: [&[u8]; 8] = [&[2], &place, &[2], &[0], &[1], &other[..1], &[1, 1], &other[2..3]];
     for which in 0..parts.len() {
         for form in forms {
