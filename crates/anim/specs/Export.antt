@@ -11,7 +11,7 @@ use Rattle.laws.specs.Result.{Res, Res.ok, Res.fault, pick}
 use Rattle.state.specs.declared.State.{State}
 use Rattle.state.specs.declared.Sizes.{Sizes}
 use Rattle.opening.specs.Open.{Film, opening, stateAfter, pictureAfter}
-use Rattle.player.specs.Step.{World, Report, Answer, Answer.refused, Answer.ended, Answer.tookOn, Answer.tookBack, After, stepOn, stepBack, workAfter}
+use Rattle.player.specs.Step.{World, Answer, Answer.refused, Answer.ended, Answer.tookOn, Answer.tookBack, After, stepOn, stepBack, workAfter}
 use Rattle.shown.specs.Row.{rowPlace}
 use Rattle.writer.specs.Write.{deltaBytes, written, bufferAfter}
 use Rattle.words.specs.Words.{stateIn, stateWords, lay}

@@ -1,9 +1,7 @@
 -- Laws of the exported functions: each answers and leaves what the function that it covers does.
 use Prim.Native.Nat.{ℕ}
-use mathlib.Core.Bool.{_&&_}
 use mathlib.Core.List.{List}
 use mathlib.Core.Path.{_≡_, refl, sym, ap, _∙_}
-use lib.Dec.{eqb}
 use lib.ListN.{length}
 use borrow.Author.Tests.{eq-eqb, ne-eqb}
 use Rattle.laws.specs.Result.{Res, Res.ok, Res.fault, answer}
@@ -66,10 +64,10 @@ module _ (bytes a b state : List ℕ) where
 
 -- a row
 module _ (state : List ℕ) (a b plane row : ℕ) where
-  pub row-no-state : (length state ≡ 48 → ⊥) → rowC state a b plane row ≡ fault 11
+  pub row-no-state : (length state ≡ 48 → ⊥) → fault 11 ≡ rowC state a b plane row
   row-no-state h = rw (ne-eqb (length state) 48 h)
 
-  pub row-sized : length state ≡ 48 → {q : Res ℕ} → rowPlace (stateIn state) a b plane row ≡ q → rowC state a b plane row ≡ q
+  pub row-sized : length state ≡ 48 → {q : Res ℕ} → q ≡ rowPlace (stateIn state) a b plane row → q ≡ rowC state a b plane row
   row-sized h e = rw (eq-eqb (length state) 48 h) e
 
 -- writing a delta

@@ -1,6 +1,7 @@
 // The C interface: each function is a thin cover of the library's, on numbers and byte slices.
 ghost use mathlib.Core.Path.{_≡_};
 ghost use lib.ListN.{length};
+ghost use Rattle.shown.specs.Row.{placeOf};
 ghost use Rattle.anim.specs.Export.{OpensC, StepsOnC, StepsBackC, rowC, numberOr, placeOr, WritesC};
 use opening::Opening;
 use player::Back;
@@ -91,15 +92,22 @@ pub extern "C" fn anim_step_back(bytes: &[u8], state: &mut [u8], a: &mut [u8], b
     }
 }
 
+// Where a row of a plane stands, by the state in its slice.
+fn row_in(state: &[u8], a: &[u8], b: &[u8], plane: u64, row: u64) -> Place
+    ensures { λ r. ⌜ placeOf r ≡ rowC (now (state .entry)) (length (now (a .entry))) (length (now (b .entry))) plane row ⌝ }
+{
+    if state.len() != 48 {
+        return Place::Refused(Refusal::OutsideLimits);
+    }
+    shown::row_place(words::read_state(state), a, b, plane as usize, row as usize)
+}
+
 // The place of a row of a plane in A or B, 0 if it is refused.
 #[no_mangle]
 pub extern "C" fn anim_row_place(state: &[u8], a: &[u8], b: &[u8], plane: u64, row: u64) -> u64
     ensures { λ r. ⌜ r ≡ placeOr (rowC (now (state .entry)) (length (now (a .entry))) (length (now (b .entry))) plane row) ⌝ }
 {
-    if state.len() != 48 {
-        return 0;
-    }
-    let p = shown::row_place(words::read_state(state), a, b, plane as usize, row as usize);
+    let p = row_in(state, a, b, plane, row);
     match p {
         Place::Refused(_) => 0,
         Place::At(at) => at as u64,
@@ -111,10 +119,7 @@ pub extern "C" fn anim_row_place(state: &[u8], a: &[u8], b: &[u8], plane: u64, r
 pub extern "C" fn anim_row_refusal(state: &[u8], a: &[u8], b: &[u8], plane: u64, row: u64) -> u64
     ensures { λ r. ⌜ r ≡ numberOr (rowC (now (state .entry)) (length (now (a .entry))) (length (now (b .entry))) plane row) ⌝ }
 {
-    if state.len() != 48 {
-        return wrong_length();
-    }
-    let p = shown::row_place(words::read_state(state), a, b, plane as usize, row as usize);
+    let p = row_in(state, a, b, plane, row);
     match p {
         Place::Refused(why) => why.number(),
         Place::At(_) => 0,

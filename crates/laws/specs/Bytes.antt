@@ -1,8 +1,10 @@
 -- Big-endian numbers in a list of bytes, and what a byte's bound gives of them.
-use Prim.Native.Nat.{ℕ, _+_, _*_, _<_, _≤_}
+use Prim.Native.Nat.{ℕ, _+_, _*_, _/_, _%_, _<_, _≤_}
+use native.Mathlib.Nat.{div-add-mod', div-lt-iff-lt-mul, div-div-eq-div-mul, mod-eq-of-lt}
 use native.Mathlib.Omega.{arith}
-use mathlib.Core.Path.{_≡_}
+use mathlib.Core.Path.{_≡_, sym, _∙_}
 use mathlib.Core.List.{List}
+use lib.Dec.{lit<}
 use lib.ListN.{length, getD, drop, List·getD-eq-default}
 use lib.Seq.{getD-drop}
 
@@ -39,3 +41,16 @@ be32-past s at h =
 -- what is left of bytes is bytes
 pub bytes-drop : (n : ℕ) (s : List ℕ) → Bytes s → Bytes (drop n s)
 bytes-drop n s h i = rw (getD-drop n s i 0) (h (n + i))
+
+-- a number below 2^32 is the sum of its four bytes
+digits : (n a b c r s t u : ℕ) → a * 256 + r ≡ n → b * 256 + s ≡ a → c * 256 + t ≡ b → u ≡ c → u * 16777216 + t * 65536 + s * 256 + r ≡ n
+digits n a b c r s t u p q e z = omega arith
+
+top : (n : ℕ) → n < 4294967296 → n / 256 / 256 / 256 < 256
+top n h = div-lt-iff-lt-mul (lit< tt) .1 (div-lt-iff-lt-mul (lit< tt) .1 (div-lt-iff-lt-mul (lit< tt) .1 h))
+
+pub four-bytes : (n : ℕ) → n < 4294967296 → n / 16777216 % 256 * 16777216 + n / 65536 % 256 * 65536 + n / 256 % 256 * 256 + n % 256 ≡ n
+four-bytes n h =
+    let e : n / 65536 ≡ n / 256 / 256 = sym (div-div-eq-div-mul n 256 256) in
+    let e′ : n / 16777216 ≡ n / 256 / 256 / 256 = sym (div-div-eq-div-mul n 256 65536) ∙ sym (div-div-eq-div-mul (n / 256) 256 256) in
+    rw (e′, e) (digits n (n / 256) (n / 256 / 256) (n / 256 / 256 / 256) (n % 256) (n / 256 % 256) (n / 256 / 256 % 256) (n / 256 / 256 / 256 % 256) (div-add-mod' n 256) (div-add-mod' (n / 256) 256) (div-add-mod' (n / 256 / 256) 256) (mod-eq-of-lt (top n h)))

@@ -4,7 +4,7 @@ use Prim.Native.Nat.{ℕ, suc, _≤_}
 use mathlib.Core.Bool.{Bool, true, false, not}
 use mathlib.Core.List.{List, []}
 use mathlib.Core.Option.{none, some}
-use mathlib.Core.Path.{_≡_, refl, _∙_}
+use mathlib.Core.Path.{_≡_, refl}
 use lib.ListN.{length, take}
 use borrow.Author.Tests.{le-leb}
 use Rattle.laws.specs.Result.{Res, Res.ok, Res.fault, _>>=_, pick}

@@ -8,14 +8,14 @@ use mathlib.Core.List.{List, [], _∷_, _++_}
 use mathlib.Core.Option.{Option, none, some}
 use mathlib.Core.Path.{_≡_, refl, sym, ap, _∙_}
 use lib.Dec.{leb, ltb, eqb}
-use lib.ListN.{length, getD, take, drop, length-take}
+use lib.ListN.{length, take, drop, length-take}
 use lib.Seq.{take-append-seam}
 use borrow.Author.Tests.{le-leb, lt-ltb, eq-eqb, ne-eqb, ltb-true, leb-true}
 use Rattle.laws.specs.Result.{Res, Res.ok, Res.fault, _>>=_, need, orRefuse, answer, pick}
 use Rattle.laws.specs.ResultLaws.{Each, Each.each, Each.no-value, All, all-value, each-any, each-bind, each-need, each-is}
 use Rattle.iff.specs.Chunk.{bytesOf}
 use Rattle.iff.specs.Form.{Frame as Form, chunksOf}
-use Rattle.iff.specs.FormLaws.{Closes, anim-closes, Follows, frame-follows}
+use Rattle.iff.specs.FormLaws.{anim-closes, Follows, frame-follows}
 use Rattle.iff.specs.Pair.{findBoth}
 use Rattle.bmhd.specs.HeaderLaws.{header-sizes}
 use Rattle.ilbm.specs.BodyLaws.{body-length}
@@ -26,9 +26,9 @@ use Rattle.player.specs.declared.SteppedOn.{SteppedOn}
 use Rattle.player.specs.declared.SteppedBack.{SteppedBack}
 use Rattle.frame.specs.Frame.{Frame, frameAt}
 use Rattle.frame.specs.FrameLaws.{Rises, frame-rises}
-use Rattle.player.specs.Step.{World, Report, Answer, Answer.refused, Answer.ended, Answer.tookOn, Answer.tookBack, isOdd, shownOf, hiddenOf, onOf, MeetsOn, MeetsBack, ready, change, Made, makes, make, advance, Outcome, After, settle, onHidden, stepOn, retreat, settleBack, onShown, stepBack}
+use Rattle.player.specs.Step.{World, Answer, Answer.refused, Answer.ended, Answer.tookOn, Answer.tookBack, isOdd, shownOf, hiddenOf, onOf, MeetsOn, MeetsBack, ready, change, Made, makes, make, advance, Outcome, After, settle, onHidden, stepOn, retreat, settleBack, onShown, stepBack}
 use Rattle.opening.specs.declared.OpenedFile.{OpenedFile}
-use Rattle.opening.specs.Open.{BMHD, BODY, First, firstOf, firstIn, firstFrom, Film, film, opening, stateAfter, pictureAfter, openingOf, MeetsOpen}
+use Rattle.opening.specs.Open.{BMHD, BODY, First, firstOf, firstIn, firstFrom, Film, opening, stateAfter, pictureAfter, openingOf, MeetsOpen}
 use Rattle.player.specs.Model.{Call, Seen, here, past, drawn, placeAt, picture, recordAt, stands, reportAt, answerFor, answerAt, answerOn, answerFirst, moved, leaves, model}
 use Rattle.player.specs.Trace.{given, recordIn, untaken, seenOn, seenBack, Trace, Trace.none-left, Trace.stepped-on, Trace.stepped-back}
 use Rattle.player.specs.OutcomeLaws.{on-kept, on-put, back-kept, back-put}

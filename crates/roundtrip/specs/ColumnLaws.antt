@@ -10,9 +10,9 @@ use lib.ListN.{length, getD, take, drop, set, replicate, length-append, length-t
 use lib.Seq.{drop-cons, set-getD, getD-set-other, drop-drop, take-append-seam, drop-append-seam}
 use borrow.Author.Tests.{lt-ltb, le-leb, lt-leb, ne-eqb}
 use Rattle.laws.specs.Result.{Res, Res.ok}
-use Rattle.writer.specs.Column.{Op, Op.skip, Op.uniq, Op.same, opBytes, opsBytes}
+use Rattle.column.specs.Column.{Op, Op.skip, Op.uniq, Op.same, opBytes, opsBytes}
 use Rattle.writer.specs.Write.{columnAt}
-use Rattle.writer.specs.PlaneLaws.{length-column}
+use Rattle.writer.specs.ColumnLaws.{length-column}
 use Rattle.delta.specs.Delta.{Op as Stroke, noRows, Reading, byteAt, skip as skipRows, fill, Kind.same as sames, Kind.skips, Kind.uniq as uniqs, kindOf, readOp, readOps, put, draw}
 use Rattle.delta.specs.declared.Shape.{Shape}
 use Rattle.roundtrip.specs.OpLaws.{reach, passed, reachAll, passedAll, Valid, ValidAll}

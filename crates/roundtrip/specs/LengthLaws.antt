@@ -5,9 +5,9 @@ use mathlib.Core.Bool.{Bool, true, false}
 use mathlib.Core.List.{List, [], _∷_}
 use mathlib.Core.Path.{_≡_, refl, sym, _∙_}
 use lib.ListN.{length, take, drop, length-append}
-use Rattle.writer.specs.Column.{Op, Op.skip, Op.uniq, Op.same, columnOps, opBytes, opsBytes, columnBytes}
-use Rattle.writer.specs.Write.{columnAt, columnsBytes, equal, planeBytes, listsBytes}
-use Rattle.writer.specs.PlaneLaws.{length-column}
+use Rattle.column.specs.Column.{Op, Op.skip, Op.uniq, Op.same, columnOps, opBytes, opsBytes, columnBytes}
+use Rattle.writer.specs.Write.{columnAt, columnIn, columnsBytes, equal, planeBytes, listsBytes}
+use Rattle.writer.specs.ColumnLaws.{length-column}
 use Rattle.roundtrip.specs.OpLaws.{reach, reachAll, Valid, ValidAll, valid-column, reach-column}
 
 -- no op has more than three bytes for each of its rows
@@ -27,12 +27,12 @@ unfolding columnBytes
 column-short old new e h = omega (arith, ops-short (columnOps old new) (valid-column old new), reach-column old new e)
 
 columns-short : (old new : List ℕ) (row height k at : ℕ) → height ≤ 1024 → length (columnsBytes old new row height k at) ≤ k * 3073
-unfolding columnsBytes
+unfolding columnsBytes columnIn
 columns-short old new row height zero at h = omega arith
 columns-short old new row height (suc k) at h =
     let l = length-column old row at height in
     let c = column-short (columnAt old row at height) (columnAt new row at height) (l ∙ sym (length-column new row at height)) (omega (arith, l)) in
-    omega (arith, length-append (columnBytes (columnAt old row at height) (columnAt new row at height)) (columnsBytes old new row height k (at + 1)), c, columns-short old new row height k (at + 1) h)
+    omega (arith, length-append (columnIn old new row height at) (columnsBytes old new row height k (at + 1)), c, columns-short old new row height k (at + 1) h)
 
 plane-short : (old new : List ℕ) (row height at : ℕ) → height ≤ 1024 → row ≤ 128 → length (planeBytes old new row height at) ≤ 393344
 unfolding planeBytes

@@ -11,7 +11,7 @@ use lib.Seq.{take-add, drop-drop, drop-length}
 use borrow.Author.Tests.{eqb-true}
 use Rattle.runs.specs.Runs.{Run, runsOf}
 use Rattle.runs.specs.PatchLaws.{patch, patch-runs, Fit, fit-runs}
-use Rattle.writer.specs.Column.{Op, Op.skip, Op.uniq, Op.same, Group, join, groupsOf, loose, stretch, restOf, uniqs, cut, cutAll, opsOf, columnOps}
+use Rattle.column.specs.Column.{Op, Op.skip, Op.uniq, Op.same, Group, join, groupsOf, loose, stretch, restOf, uniqs, cut, cutAll, opsOf, columnOps}
 
 -- what an op makes of the rows that it passes, and how many these are
 abbrev pub reach : Op → ℕ

@@ -11,11 +11,11 @@ use lib.ListN.{length, getD, take, drop, set, length-append, length-drop, length
 use lib.Seq.{getD-set-other, getD-set-same, drop-drop, drop-append-seam, take-all}
 use borrow.Author.Tests.{ltb-true, ltb-false}
 use Rattle.laws.specs.Result.{Res, Res.ok}
-use Rattle.writer.specs.Column.{Op, columnOps, opsBytes, columnBytes}
-use Rattle.writer.specs.Write.{columnAt, columnsBytes}
+use Rattle.column.specs.Column.{Op, columnOps, opsBytes, columnBytes}
+use Rattle.writer.specs.Write.{columnAt, columnIn, columnsBytes}
 use Rattle.delta.specs.Delta.{Reading, byteAt, readOps, readColumn, readColumns, draw}
 use Rattle.roundtrip.specs.OpLaws.{reachAll, passedAll, valid-column, reach-column, column, column-new}
-use Rattle.writer.specs.PlaneLaws.{length-column}
+use Rattle.writer.specs.ColumnLaws.{length-column}
 use Rattle.roundtrip.specs.ColumnLaws.{putColumn, length-putColumn, put-kept, length-passedAll, Head, head, byte-is, bytewise, col, At, ops-are}
 
 -- the new column, put at once
@@ -132,9 +132,9 @@ module _ (row height planes : ℕ) (s1 : 1 ≤ row) (d first old new : List ℕ)
   column-reads at n c to e q = rw e q
 
   column-is : (at p : ℕ) (c : Reading) (f s : List ℕ) → Stands c p f → columnAt f row at height ≡ columnAt old row at height
-      → drop p d ≡ columnBytes (columnAt old row at height) (columnAt new row at height) ++ s
-      → Painted (readColumn (bytewise row height planes) d at c) (p + length (columnBytes (columnAt old row at height) (columnAt new row at height))) (putColumn f row at (columnAt new row at height))
-  unfolding columnBytes putColumn col
+      → drop p d ≡ columnIn old new row height at ++ s
+      → Painted (readColumn (bytewise row height planes) d at c) (p + length (columnIn old new row height at)) (putColumn f row at (columnAt new row at height))
+  unfolding columnIn columnBytes putColumn col
   column-is at p c f s w a e =
       let oc : List ℕ = columnAt old row at height in
       let nc : List ℕ = columnAt new row at height in
@@ -163,7 +163,7 @@ module _ (row height planes : ℕ) (s1 : 1 ≤ row) (d first old new : List ℕ)
   columns-are zero at p c f s ks w a e = record { to = c; reads = refl; stands = record { op = w .op ∙ omega arith; drawn = w .drawn } }
   columns-are (suc k) at p c f s ks w a e =
       let nc : List ℕ = columnAt new row at height in
-      let C : List ℕ = columnBytes (columnAt old row at height) nc in
+      let C : List ℕ = columnIn old new row height at in
       let R : List ℕ = columnsBytes old new row height k (at + 1) in
       let z : at + 0 ≡ at = omega arith in
       let e′ : drop p d ≡ C ++ (R ++ s) = e ∙ append-assoc C R s in

@@ -1,22 +1,22 @@
 -- Demand 2's last sentence: the delta that is written for two pictures turns the first into the second, whatever they hold.
 use Prim.Native.Nat.{ℕ, zero, suc, _+_, _-_, _*_, _/_, _%_, _<_, _≤_}
-use native.Mathlib.Nat.{mul-le-mul-right, div-add-mod', mod-lt, div-lt-iff-lt-mul, div-one, div-div-eq-div-mul, mod-eq-of-lt}
+use native.Mathlib.Nat.{mul-le-mul-right, div-add-mod', mod-lt, div-lt-iff-lt-mul, div-one}
 use native.Mathlib.Omega.{arith}
 use mathlib.Core.Bool.{Bool, true, false}
 use mathlib.Core.List.{List, [], _∷_, _++_, append-assoc}
 use mathlib.Core.Path.{_≡_, refl, sym, ap, _∙_}
-use lib.Dec.{ltb, eqb, lit<}
+use lib.Dec.{ltb, eqb}
 use lib.ListN.{length, getD, take, drop, replicate, length-append, length-replicate}
 use lib.Seq.{ext-getD, getD-take, getD-drop, getD-append-seam, getD-append-add, drop-at}
 use borrow.Author.Tests.{le-leb, eq-eqb, ne-eqb, ltb-true, ltb-false, eqb-true}
 use Rattle.laws.specs.Result.{Res.ok, _>>=_}
 use Rattle.laws.specs.ResultLaws.{each-is}
-use Rattle.laws.specs.Bytes.{be32}
+use Rattle.laws.specs.Bytes.{be32, four-bytes}
 use Rattle.state.specs.declared.Sizes.{Sizes}
 use Rattle.state.specs.State.{rowBytes, frameBytes, frameLength}
 use Rattle.state.specs.StateLaws.{Sound, sizes-sound}
-use Rattle.writer.specs.Column.{columnBytes}
-use Rattle.writer.specs.Write.{columnsBytes, equal, planeBytes, be32Bytes, pointerOf, pointersBytes, listsBytes, deltaBytes}
+use Rattle.column.specs.Column.{columnBytes}
+use Rattle.writer.specs.Write.{columnIn, columnsBytes, equal, planeBytes, be32Bytes, pointerOf, pointersBytes, listsBytes, deltaBytes}
 use Rattle.writer.specs.PlaneLaws.{length-be32, pointers-length}
 use Rattle.delta.specs.Delta.{Reading, shapeOf, readColumns, pointer, readPlane, readPlanes, readPicture, readDelta, draw, newFrame, readFrame}
 use Rattle.anhd.specs.declared.Items.the-variants.{Bytes}
@@ -76,24 +76,12 @@ equal-eq (a ∷ s) (b ∷ t) e = go (eqb a b) refl e (equal-eq s t)
     go false q e ih = let z : _≡_ {A = ℕ} 0 1 = cc in absurd (omega arith)
 
 -- a number in four bytes is read back
-digits : (n a b c r s t u : ℕ) → a * 256 + r ≡ n → b * 256 + s ≡ a → c * 256 + t ≡ b → u ≡ c → u * 16777216 + t * 65536 + s * 256 + r ≡ n
-digits n a b c r s t u p q e z = omega arith
-
-top : (n : ℕ) → n < 4294967296 → n / 256 / 256 / 256 < 256
-top n h = div-lt-iff-lt-mul (lit< tt) .1 (div-lt-iff-lt-mul (lit< tt) .1 (div-lt-iff-lt-mul (lit< tt) .1 h))
-
-be32-sum : (n : ℕ) → n < 4294967296 → n / 16777216 % 256 * 16777216 + n / 65536 % 256 * 65536 + n / 256 % 256 * 256 + n % 256 ≡ n
-be32-sum n h =
-    let e : n / 65536 ≡ n / 256 / 256 = sym (div-div-eq-div-mul n 256 256) in
-    let e′ : n / 16777216 ≡ n / 256 / 256 / 256 = sym (div-div-eq-div-mul n 256 65536) ∙ sym (div-div-eq-div-mul (n / 256) 256 256) in
-    rw (e′, e) (digits n (n / 256) (n / 256 / 256) (n / 256 / 256 / 256) (n % 256) (n / 256 % 256) (n / 256 / 256 % 256) (n / 256 / 256 / 256 % 256) (div-add-mod' n 256) (div-add-mod' (n / 256) 256) (div-add-mod' (n / 256 / 256) 256) (mod-eq-of-lt (top n h)))
-
 be32-at : (xs ys : List ℕ) (n p : ℕ) → length xs ≡ p → n < 4294967296 → be32 (xs ++ (be32Bytes n ++ ys)) p ≡ n
 unfolding be32 be32Bytes
 be32-at xs ys n p e h =
     let z : p ≡ length xs + 0 = omega arith in
     let l : List ℕ = be32Bytes n ++ ys in
-    rw (← e) (rw (getD-append-seam xs (n / 16777216 % 256) (n / 65536 % 256 ∷ n / 256 % 256 ∷ n % 256 ∷ ys) 0, getD-append-add xs l 1 0, getD-append-add xs l 2 0, getD-append-add xs l 3 0) (be32-sum n h))
+    rw (← e) (rw (getD-append-seam xs (n / 16777216 % 256) (n / 65536 % 256 ∷ n / 256 % 256 ∷ n % 256 ∷ ys) 0, getD-append-add xs l 1 0, getD-append-add xs l 2 0, getD-append-add xs l 3 0) (four-bytes n h))
 
 pointer-le : (place : ℕ) (l : List ℕ) → pointerOf place l ≤ place
 unfolding pointerOf
@@ -142,7 +130,7 @@ module _ (row height planes : ℕ) (s1 : 1 ≤ row) (d first old new : List ℕ)
     made : Made to (at + height * row)
 
   some-bytes : (k at : ℕ) → 1 ≤ k → (place : ℕ) → pointerOf place (columnsBytes old new row height k at) ≡ place
-  unfolding columnsBytes columnBytes pointerOf
+  unfolding columnsBytes columnIn columnBytes pointerOf
   some-bytes zero at h place = absurd (omega arith)
   some-bytes (suc k) at h place = refl
 

@@ -1,14 +1,17 @@
 -- Laws of numbers in bytes: what is written reads back, and numbers laid one after the other fill their buffer.
-use Prim.Native.Nat.{ℕ, suc, _+_, _*_, _/_, _%_, _<_, _≤_}
+use Prim.Native.Nat.{ℕ, zero, suc, _<_, _+_, _*_, _/_, _%_}
+use native.Mathlib.Nat.{add-assoc}
 use native.Mathlib.Numerals.{add-one}
 use native.Mathlib.Omega.{arith}
 use mathlib.Core.List.{List, [], _∷_, _++_, append-nil, append-assoc}
 use mathlib.Core.Path.{_≡_, refl, sym, _∙_}
-use lib.ListN.{length, set, drop, length-append, drop-of-length-le}
-use lib.Seq.{sets, sets-eq}
+use lib.ListN.{length, getD, set, length-append, drop-of-length-le}
+use lib.Seq.{sets, sets-eq, getD-append-add}
 use borrow.Author.Tests.{eq-eqb, ne-eqb}
+use Rattle.laws.specs.Bytes.{four-bytes}
 use Rattle.laws.specs.Put.{Put, put-is, put-nothing, put-then}
-use Rattle.words.specs.Words.{le32Bytes, le64Bytes, wordsBytes, lay}
+use Rattle.state.specs.declared.State.{State}
+use Rattle.words.specs.Words.{le32, le64, stateIn, stateWords, le32Bytes, le64Bytes, wordsBytes, lay}
 
 four : (out : List ℕ) (at n : ℕ)
     → set (set (set (set out at (n % 256)) (at + 1) (n / 256 % 256)) (at + 2) (n / 65536 % 256)) (at + 3) (n / 16777216 % 256) ≡ sets out at (le32Bytes n)
@@ -61,3 +64,43 @@ laid {out} {out′} ns h v =
 pub not-laid : {out : List ℕ} (ns : List ℕ) → (length out ≡ 8 * length ns → ⊥) → out ≡ lay ns out
 unfolding lay
 not-laid {out} ns h = simp (ne-eqb (length out) (8 * length ns) h)
+
+-- what is written reads back
+four-back : (n : ℕ) (r : List ℕ) → n < 4294967296 → le32 (le32Bytes n ++ r) 0 ≡ n
+unfolding le32 le32Bytes
+four-back n r h = omega (arith, four-bytes n h)
+
+four-skip : (xs s : List ℕ) (k : ℕ) → le32 (xs ++ s) (length xs + k) ≡ le32 s k
+unfolding le32
+four-skip xs s k =
+    rw (add-assoc (length xs) k 1, add-assoc (length xs) k 2, add-assoc (length xs) k 3)
+    (rw (getD-append-add xs s k 0, getD-append-add xs s (k + 1) 0, getD-append-add xs s (k + 2) 0, getD-append-add xs s (k + 3) 0) refl)
+
+eight-skip : (xs s : List ℕ) (k : ℕ) → le64 (xs ++ s) (length xs + k) ≡ le64 s k
+unfolding le64
+eight-skip xs s k = rw (add-assoc (length xs) k 4) (rw (four-skip xs s k, four-skip xs s (k + 4)) refl)
+
+eight-back : (n : ℕ) (r : List ℕ) → n < 18446744073709551616 → le64 (le64Bytes n ++ r) 0 ≡ n
+unfolding le64 le64Bytes le32Bytes
+eight-back n r h =
+    let low : List ℕ = le32Bytes (n % 4294967296) in
+    let high : List ℕ = le32Bytes (n / 4294967296) in
+    let e : le32 ((low ++ high) ++ r) 0 ≡ n % 4294967296 = rw (append-assoc low high r) (four-back (n % 4294967296) (high ++ r) (omega arith)) in
+    let f : le32 ((low ++ high) ++ r) (0 + 4) ≡ n / 4294967296 = rw (append-assoc low high r) (four-skip low (high ++ r) 0 ∙ four-back (n / 4294967296) r (omega arith)) in
+    rw (e, f) (omega arith)
+
+-- the number at a place of many
+word-back : (ns : List ℕ) (i : ℕ) → ((n : ℕ) → getD ns n 0 < 18446744073709551616) → i < length ns → le64 (wordsBytes ns) (8 * i) ≡ getD ns i 0
+unfolding wordsBytes
+word-back [] i b h = absurd (omega arith)
+word-back (n ∷ ns) zero b h = eight-back n (wordsBytes ns) (b 0)
+word-back (n ∷ ns) (suc i) b h =
+    let e : 8 * suc i ≡ length (le64Bytes n) + 8 * i = omega (arith, length-eight n) in
+    rw e (eight-skip (le64Bytes n) (wordsBytes ns) (8 * i) ∙ word-back ns i (λ k. b (suc k)) (omega arith))
+
+-- a state whose numbers fit into eight bytes
+pub state-back : (x : State) → ((n : ℕ) → getD (stateWords x) n 0 < 18446744073709551616) → stateIn (wordsBytes (stateWords x)) ≡ x
+unfolding stateIn stateWords
+state-back x b =
+    let ns : List ℕ = stateWords x in
+    rw (word-back ns 0 b (omega arith), word-back ns 1 b (omega arith), word-back ns 2 b (omega arith), word-back ns 3 b (omega arith), word-back ns 4 b (omega arith), word-back ns 5 b (omega arith)) refl

@@ -1,105 +1,97 @@
--- Laws of a column's ops: groups of rows with one value, a stretch of changed rows, and the runs that they lie in.
-use Prim.Native.Nat.{ℕ, zero, suc, _+_, _-_, _≤_, _<_}
+-- Laws of columns in frames: where their rows stand, that they are copied, and that a column of a frame is never refused.
+use Prim.Native.Nat.{ℕ, zero, suc, _+_, _*_, _≤_, _<_}
+use native.Mathlib.Nat.{mul-le-mul-right}
 use native.Mathlib.Omega.{arith}
-use mathlib.Core.Bool.{Bool, true, false}
-use mathlib.Core.List.{List, [], _∷_, _++_, append-assoc}
-use mathlib.Core.Path.{_≡_, refl, sym, ap, _∙_}
-use lib.Dec.{eqb}
-use lib.ListN.{replicate}
-use borrow.Author.Tests.{eq-eqb, ne-eqb, eqb-true, le-leb, lt-leb}
-use Rattle.runs.specs.Runs.{Run, changed}
-use Rattle.runs.specs.RunLaws.{front, behind, later, changed-is}
-use Rattle.writer.specs.Column.{Op, Op.skip, Op.uniq, Op.same, Group, join, groupsOf, loose, stretch, restOf, cut, cutAll, opsOf}
+use mathlib.Core.List.{List, _++_}
+use mathlib.Core.Path.{_≡_, refl, sym, ap, subst, _∙_}
+use lib.ListN.{length, getD, take, drop}
+use lib.Seq.{length-take-le, take-at}
+use Rattle.laws.specs.Result.{Res.ok, Res.fault}
+use Rattle.laws.specs.Put.{Put, put-is}
+use Rattle.refusal.specs.declared.Refusal.{Refusal}
+use Rattle.column.specs.Column.{columnBytes}
+use Rattle.column.specs.Place.{columnLength, sizeOf, Short, placed, placedOf, bufferAfter}
+use Rattle.column.specs.PlaceLaws.{measured, fits}
+use Rattle.column.specs.declared.Size.{Size}
+use Rattle.column.specs.declared.Size.the-variants.{Bytes, Refused}
+use Rattle.column.specs.declared.Placed.{Placed}
+use Rattle.column.specs.declared.Placed.the-variants.{Next, Refused as NotPlaced}
+use Rattle.writer.specs.Write.{columnAt, columnIn}
+use Rattle.writer.specs.Planes.{InFrame, Plane}
 
--- the first group has the first row's value
-record Leads (w : ℕ) (gs : List Group) : Type 0 where
-  many : ℕ
-  others : List Group
-  is : gs ≡ record { value = w; rows = many } ∷ others
+-- a column in a frame
+pub length-column : (f : List ℕ) (row at n : ℕ) → length (columnAt f row at n) ≡ n
+unfolding columnAt
+length-column f row at zero = refl
+length-column f row at (suc n) = ap suc (length-column f row (at + row) n)
 
-join-leads : (v : ℕ) (gs : List Group) → Leads v (join v gs)
-unfolding join
-join-leads v [] = record { many = 1; others = []; is = refl }
-join-leads v (g ∷ gs) = go (eqb v (g .value)) refl
+pub getD-column : (f : List ℕ) (row at n i : ℕ) → i < n → getD (columnAt f row at n) i 0 ≡ getD f (at + i * row) 0
+unfolding columnAt
+getD-column f row at zero i h = absurd (omega arith)
+getD-column f row at (suc n) zero h = let e : at + 0 * row ≡ at = omega arith in rw e
+getD-column f row at (suc n) (suc i) h = let e : at + suc i * row ≡ at + row + i * row = omega arith in rw e (getD-column f row (at + row) n i (omega arith))
+
+-- a column that was copied to the front of a buffer
+pub front-length : (n : ℕ) (xs : List ℕ) → n ≤ length xs → n ≡ length (take n xs)
+front-length n xs h = sym (length-take-le n xs h)
+
+module _ (f : List ℕ) (row at n : ℕ) (xs y : List ℕ) (h : n ≤ length xs) (e : y ≡ columnAt f row at (length (take n xs))) where
+  pub copied-column : take n (y ++ drop n xs) ≡ columnAt f row at n
+  copied-column =
+      let w : y ≡ columnAt f row at n = e ∙ rw (length-take-le n xs h) in
+      rw w (take-at (columnAt f row at n) (drop n xs) n (length-column f row at n))
+
+-- every row of a column that lies in a frame
+pub rows-inside : (f : List ℕ) (row at n : ℕ) (xs : List ℕ) → ((i : ℕ) → i < n → at + i * row < length f) → n ≤ length xs → (i : ℕ) → i < length (take n xs) → at + i * row < length f
+rows-inside f row at n xs p h i k = p i (rw (length-take-le n xs h) at k)
+
+-- a column of two frames, copied to the front of two buffers, is never refused
+pub held-length : (f : List ℕ) (row at n : ℕ) (xs : List ℕ) → take n xs ≡ columnAt f row at n → n ≡ length (take n xs)
+held-length f row at n xs e = sym (ap length e ∙ length-column f row at n)
+
+ok-same : {k m : ℕ} → ok k ≡ ok m → k ≡ m
+ok-same e = cc
+
+ok-fault : {A : Type 0} {k m : ℕ} → fault k ≡ ok m → A
+ok-fault e = let z : _≡_ {A = ℕ} 0 1 = cc in absurd (omega arith)
+
+module _ (a b old new : List ℕ) (row at n : ℕ) (p : take n a ≡ columnAt old row at n) (q : take n b ≡ columnAt new row at n) (t : n ≤ 1024) where
+  whole : columnLength (take n a) (take n b) ≡ ok (length (columnIn old new row n at))
+  unfolding columnIn
+  whole =
+      let l = length-column new row at n in
+      rw (p, q) (measured (columnAt old row at n) (columnAt new row at n) (length-column old row at n ∙ sym l) (omega (arith, l)))
+
+  module _ (r : Size) (w : (sizeOf r ≡ columnLength (take n a) (take n b)) × Short r) where
+    pub is-measured : (k : ℕ) → r ≡ Bytes k → (k ≡ length (columnIn old new row n at)) × (k ≤ 3073)
+    is-measured k e = (ok-same (sym (ap sizeOf e) ∙ w .0 ∙ whole), subst Short e (w .1))
+
+    pub not-refused : {A : Type 0} (why : Refusal) → r ≡ Refused why → A
+    not-refused why e = ok-fault (sym (ap sizeOf e) ∙ w .0 ∙ whole)
+
+  module _ (out out′ : List ℕ) (place : ℕ) (r : Placed)
+      (w : (placedOf r ≡ placed (take n a) (take n b) place (length out)) × (out′ ≡ bufferAfter (columnBytes (take n a) (take n b)) out place (placed (take n a) (take n b) place (length out))))
+      (h : place + length (columnIn old new row n at) ≤ length out) where
+    room : placed (take n a) (take n b) place (length out) ≡ ok (place + length (columnIn old new row n at))
+    room = fits (take n a) (take n b) out place whole h
+
+    pub is-put : (next : ℕ) → r ≡ Next next → Put out place (columnIn old new row n at) out′ next
+    unfolding columnIn
+    is-put next e = put-is (ok-same (sym (ap placedOf e) ∙ w .0 ∙ room)) (w .1 ∙ rw (room, p, q))
+
+    pub not-left-out : {A : Type 0} (why : Refusal) → r ≡ NotPlaced why → A
+    not-left-out why e = ok-fault (sym (ap placedOf e) ∙ w .0 ∙ room)
+
+-- a column of a plane lies in the frames
+column-inside : (row height at k n i : ℕ) → at + height * row ≤ n → k < row → i < height → at + k + i * row < n
+column-inside row height at k n i h p q = omega (arith, mul-le-mul-right row (le-suc q))
   where
-    go : (t : Bool) → eqb v (g .value) ≡ t → Leads v (join v (g ∷ gs))
-    go true e = record { many = suc (g .rows); others = gs; is = rw (e, join) (ap (λ (w : ℕ). record { value = w; rows = suc (g .rows) } ∷ gs) (sym (eqb-true v (g .value) e))) }
-    go false e = record { many = 1; others = g ∷ gs; is = rw (e, join) }
+    le-suc : i < height → suc i ≤ height
+    le-suc h = omega arith
 
--- rows that don't begin with a value
-abbrev pub NotFirst : ℕ → List ℕ → Type 0
-NotFirst v [] = Unit
-NotFirst v (w ∷ ws) = v ≡ w → ⊥
-
-join-apart : (v : ℕ) (vs : List ℕ) → NotFirst v vs → join v (groupsOf vs) ≡ record { value = v; rows = 1 } ∷ groupsOf vs
-unfolding join groupsOf
-join-apart v [] h = refl
-join-apart v (w ∷ ws) h = let l = join-leads w (groupsOf ws) in rw (l .is) (rw (ne-eqb v w h, join))
-
-join-same : (v n : ℕ) (gs : List Group) → join v (record { value = v; rows = n } ∷ gs) ≡ record { value = v; rows = suc n } ∷ gs
-unfolding join
-join-same v n gs = rw (eq-eqb v v refl, join)
-
--- rows with one value in front of others are a group
-pub group-front : (n v : ℕ) (vs : List ℕ) → NotFirst v vs → groupsOf (replicate (suc n) v ++ vs) ≡ record { value = v; rows = suc n } ∷ groupsOf vs
-unfolding groupsOf
-group-front zero v vs h = join-apart v vs h
-group-front (suc n) v vs h = ap (join v) (group-front n v vs h) ∙ join-same v (suc n) (groupsOf vs)
-
-pub stretch-same : (n v : ℕ) (gs : List Group) → 4 ≤ n → stretch (record { value = v; rows = n } ∷ gs) ≡ same n v ∷ stretch gs
-unfolding stretch
-stretch-same n v gs h = rw (le-leb 4 n h, stretch)
-
-pub stretch-few : (n v : ℕ) (gs : List Group) → n < 4 → stretch (record { value = v; rows = n } ∷ gs) ≡ loose (replicate n v) (stretch gs)
-unfolding stretch
-stretch-few n v gs h = rw (lt-leb 4 n h, stretch)
-
-pub stretch-none : stretch (groupsOf []) ≡ []
-unfolding stretch groupsOf
-stretch-none = refl
-
--- rows that lie between, in two parts
-pub loose-join : (vs ws : List ℕ) (os : List Op) → loose (vs ++ ws) os ≡ loose vs (loose ws os)
-unfolding loose
-loose-join vs ws [] = refl
-loose-join vs ws (skip n ∷ os) = refl
-loose-join vs ws (uniq us ∷ os) = ap (λ (l : List ℕ). uniq l ∷ os) (append-assoc vs ws us)
-loose-join vs ws (same c v ∷ os) = refl
-
-pub loose-none : (vs : List ℕ) → loose vs [] ≡ uniq vs ∷ []
-unfolding loose
-loose-none vs = refl
-
-pub loose-same : (vs : List ℕ) (c v : ℕ) (os : List Op) → loose vs (same c v ∷ os) ≡ uniq vs ∷ same c v ∷ os
-unfolding loose
-loose-same vs c v os = refl
-
--- the ops of runs: those of the stretch that begins at once, and those behind it
-pub ops-none : opsOf [] ≡ []
-unfolding opsOf
-ops-none = refl
-
-run-at-once : (vs : List ℕ) (rs : List Run) → opsOf (record { gap = 0; old = vs } ∷ rs) ≡ cutAll (stretch (groupsOf vs)) ++ opsOf rs
-unfolding opsOf cutAll cut restOf
-run-at-once vs rs = refl
-
-pub ops-split : (rs : List Run) → opsOf rs ≡ cutAll (stretch (groupsOf (front rs))) ++ opsOf (behind rs)
-unfolding front behind
-ops-split [] = rw stretch-none (unfold cutAll in refl)
-ops-split (r ∷ rs) = go (eqb (r .gap) 0) refl
-  where
-    go : (t : Bool) → eqb (r .gap) 0 ≡ t → opsOf (r ∷ rs) ≡ cutAll (stretch (groupsOf (front (r ∷ rs)))) ++ opsOf (behind (r ∷ rs))
-    go true e = rw (e, front, behind) (ap (λ (g : ℕ). opsOf (record { gap = g; old = r .old } ∷ rs)) (eqb-true (r .gap) 0 e) ∙ run-at-once (r .old) rs)
-    go false e = rw (e, front, behind, stretch-none) (unfold cutAll in refl)
-
-pub cut-first : (o : Op) (os : List Op) (bs : List Op) → cutAll (o ∷ os) ++ bs ≡ cut o ++ (cutAll os ++ bs)
-unfolding cutAll
-cut-first o os bs = append-assoc (cut o) (cutAll os) bs
-
--- unchanged rows in front of a changed one
-run-later : (n : ℕ) (vs : List ℕ) (rs : List Run) → opsOf (later n (record { gap = 0; old = vs } ∷ rs)) ≡ cut (skip n) ++ (cutAll (stretch (groupsOf vs)) ++ opsOf rs)
-unfolding later opsOf
-run-later n vs rs = let e : n + 0 ≡ n = omega arith in rw e (cut-first (skip n) (stretch (groupsOf vs)) (opsOf rs))
-
-pub ops-later : (n a : ℕ) (rs : List Run) → opsOf (later n (changed a rs)) ≡ cut (skip n) ++ opsOf (changed a rs)
-ops-later n a rs = rw (changed-is a rs) (rw (run-at-once (a ∷ front rs) (behind rs)) (run-later n (a ∷ front rs) (behind rs)))
+pub plane-column : {old new : List ℕ} {row height at : ℕ} → Plane old new row height at → (k : ℕ) → k < row → InFrame old new row height (at + k)
+plane-column {old} {new} {row} {height} {at} p k h = record {
+  tall = p .tall;
+  inOld = λ i q. column-inside row height at k (length old) i (p .inOld) h q;
+  inNew = λ i q. column-inside row height at k (length new) i (p .inNew) h q;
+}

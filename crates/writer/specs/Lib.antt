@@ -1,10 +1,6 @@
-pub mod Column
 pub mod Write
-pub mod ColumnLaws
-pub mod Piece
-pub mod WalkLaws
-pub mod CutLaws
 pub mod Planes
+pub mod ColumnLaws
 pub mod PlaneLaws
 pub mod DeltaLaws
 pub mod WriteLaws

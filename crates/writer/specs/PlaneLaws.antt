@@ -1,67 +1,22 @@
--- Laws of columns in frames, of planes and of the lists that follow one another.
+-- Laws of planes and of the lists that follow one another.
 use Prim.Native.Nat.{ℕ, zero, suc, _+_, _-_, _*_, _≤_, _<_}
-use native.Mathlib.Nat.{mul-le-mul-right}
 use native.Mathlib.Numerals.{add-one}
 use native.Mathlib.Omega.{arith}
 use mathlib.Core.Bool.{Bool, true, false}
-use mathlib.Core.List.{List, [], _∷_, _++_}
-use mathlib.Core.Path.{_≡_, refl, sym, ap, _∙_}
+use mathlib.Core.List.{List, [], _∷_}
+use mathlib.Core.Path.{_≡_, refl, sym, _∙_}
 use lib.Dec.{eqb}
 use lib.ListN.{length, getD, take, drop, length-append, drop-of-length-le}
-use lib.Seq.{length-take-le, take-at, drop-cons}
+use lib.Seq.{drop-cons}
 use borrow.Author.Tests.{eq-eqb, ne-eqb}
 use Rattle.laws.specs.Result.{pick}
 use Rattle.laws.specs.Put.{Parts}
-use Rattle.writer.specs.Column.{columnBytes}
-use Rattle.writer.specs.Write.{columnAt, columnsBytes, equal, planeBytes, be32Bytes, pointerOf, pointersBytes, listsBytes}
-use Rattle.writer.specs.Planes.{InFrame, Plane, Frames, Walking}
-
--- a column in a frame
-pub length-column : (f : List ℕ) (row at n : ℕ) → length (columnAt f row at n) ≡ n
-unfolding columnAt
-length-column f row at zero = refl
-length-column f row at (suc n) = ap suc (length-column f row (at + row) n)
-
-pub getD-column : (f : List ℕ) (row at n i : ℕ) → i < n → getD (columnAt f row at n) i 0 ≡ getD f (at + i * row) 0
-unfolding columnAt
-getD-column f row at zero i h = absurd (omega arith)
-getD-column f row at (suc n) zero h = let e : at + 0 * row ≡ at = omega arith in rw e
-getD-column f row at (suc n) (suc i) h = let e : at + suc i * row ≡ at + row + i * row = omega arith in rw e (getD-column f row (at + row) n i (omega arith))
-
--- a column that was copied to the front of a buffer
-pub front-length : (n : ℕ) (xs : List ℕ) → n ≤ length xs → n ≡ length (take n xs)
-front-length n xs h = sym (length-take-le n xs h)
-
-module _ (f : List ℕ) (row at n : ℕ) (xs y : List ℕ) (h : n ≤ length xs) (e : y ≡ columnAt f row at (length (take n xs))) where
-  pub copied-column : take n (y ++ drop n xs) ≡ columnAt f row at n
-  copied-column =
-      let w : y ≡ columnAt f row at n = e ∙ rw (length-take-le n xs h) in
-      rw w (take-at (columnAt f row at n) (drop n xs) n (length-column f row at n))
-
-  pub copied-length : n ≡ length (take n (y ++ drop n xs))
-  copied-length = sym (ap length copied-column ∙ length-column f row at n)
-
--- every row of a column that lies in a frame
-pub rows-inside : (f : List ℕ) (row at n : ℕ) (xs : List ℕ) → ((i : ℕ) → i < n → at + i * row < length f) → n ≤ length xs → (i : ℕ) → i < length (take n xs) → at + i * row < length f
-rows-inside f row at n xs p h i k = p i (rw (length-take-le n xs h) at k)
-
--- a column of a plane lies in the frames
-column-inside : (row height at k n i : ℕ) → at + height * row ≤ n → k < row → i < height → at + k + i * row < n
-column-inside row height at k n i h p q = omega (arith, mul-le-mul-right row (le-suc q))
-  where
-    le-suc : i < height → suc i ≤ height
-    le-suc h = omega arith
-
-pub plane-column : {old new : List ℕ} {row height at : ℕ} → Plane old new row height at → (k : ℕ) → k < row → InFrame old new row height (at + k)
-plane-column {old} {new} {row} {height} {at} p k h = record {
-  tall = p .tall;
-  inOld = λ i q. column-inside row height at k (length old) i (p .inOld) h q;
-  inNew = λ i q. column-inside row height at k (length new) i (p .inNew) h q;
-}
+use Rattle.writer.specs.Write.{columnIn, columnsBytes, equal, planeBytes, be32Bytes, pointerOf, pointersBytes, listsBytes}
+use Rattle.writer.specs.Planes.{Plane, Frames, Walking}
 
 -- the columns of a plane, the next one first
 pub columns-parts : (old new : List ℕ) (row height at column : ℕ) → column < row
-    → Parts (columnsBytes old new row height (row - column) (at + column)) (columnBytes (columnAt old row (at + column) height) (columnAt new row (at + column) height)) (columnsBytes old new row height (row - (column + 1)) (at + (column + 1)))
+    → Parts (columnsBytes old new row height (row - column) (at + column)) (columnIn old new row height (at + column)) (columnsBytes old new row height (row - (column + 1)) (at + (column + 1)))
 unfolding columnsBytes
 columns-parts old new row height at column h =
     let e : row - column ≡ suc (row - (column + 1)) = omega arith in
@@ -118,18 +73,14 @@ module _ {old new : List ℕ} {same : Bool} {i : ℕ} (w : Comparing old new sam
   compared h = sym (pick-true same) ∙ rw (drop-of-length-le old {i = i} h, drop-of-length-le new {i = i} (omega arith)) at (w .is)
 
 -- a plane that is unchanged, and one that isn't, from what a comparison told
-module _ (old new : List ℕ) (row height at : ℕ) {r : Bool}
-    (e : r ≡ equal (take (at + height * row - at) (drop at old)) (take (at + height * row - at) (drop at new))) where
-  told-equal : r ≡ equal (take (height * row) (drop at old)) (take (height * row) (drop at new))
-  told-equal = let n : at + height * row - at ≡ height * row = omega arith in rw n at e
-
+module _ (old new : List ℕ) (row height at : ℕ) {r : Bool} (e : r ≡ equal (take (height * row) (drop at old)) (take (height * row) (drop at new))) where
   pub plane-unchanged : r ≡ true → planeBytes old new row height at ≡ []
   unfolding planeBytes
-  plane-unchanged f = rw (sym told-equal ∙ f, planeBytes)
+  plane-unchanged f = rw (sym e ∙ f, planeBytes)
 
   pub plane-changed : r ≡ false → planeBytes old new row height at ≡ columnsBytes old new row height row at
   unfolding planeBytes
-  plane-changed f = rw (sym told-equal ∙ f, planeBytes)
+  plane-changed f = rw (sym e ∙ f, planeBytes)
 
 -- the walk over the planes
 pub walking : (row height planes : ℕ) → Walking row height planes 0 planes

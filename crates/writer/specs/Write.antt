@@ -3,15 +3,13 @@
 use Prim.Native.Nat.{ℕ, zero, suc, _+_, _-_, _*_, _/_, _%_}
 use mathlib.Core.Bool.{Bool, true, false}
 use mathlib.Core.List.{List, [], _∷_, _++_}
-use mathlib.Core.Path.{_≡_, refl}
 use lib.Dec.{leb, eqb}
 use lib.ListN.{length, getD, take, drop, replicate}
 use Rattle.laws.specs.Result.{Res, Res.ok, Res.fault, _>>=_, need}
 use Rattle.refusal.specs.Number.{numberOf}
-use Rattle.runs.specs.Runs.{kept, changed, runsOf}
 use Rattle.state.specs.State.{rowBytes, frameLength}
 use Rattle.state.specs.declared.Sizes.{Sizes}
-use Rattle.writer.specs.Column.{join, groupsOf, loose, stretch, restOf, uniqs, cut, cutAll, opsOf, columnOps, opBytes, opsBytes, columnBytes}
+use Rattle.column.specs.Column.{columnBytes}
 use Rattle.writer.specs.declared.Delta.{Delta}
 use Rattle.writer.specs.declared.Delta.the-variants.{Written, Refused}
 
@@ -20,11 +18,14 @@ unfoldable pub columnAt : List ℕ → ℕ → ℕ → ℕ → List ℕ
 columnAt f row at zero = []
 columnAt f row at (suc n) = getD f at 0 ∷ columnAt f row (at + row) n
 
+-- the bytes of the column that starts at a place of two frames
+unfoldable pub columnIn : List ℕ → List ℕ → ℕ → ℕ → ℕ → List ℕ
+columnIn old new row height at = columnBytes (columnAt old row at height) (columnAt new row at height)
+
 -- k columns, from the one that starts at a place on
 unfoldable pub columnsBytes : List ℕ → List ℕ → ℕ → ℕ → ℕ → ℕ → List ℕ
 columnsBytes old new row height zero at = []
-columnsBytes old new row height (suc k) at =
-    columnBytes (columnAt old row at height) (columnAt new row at height) ++ columnsBytes old new row height k (at + 1)
+columnsBytes old new row height (suc k) at = columnIn old new row height at ++ columnsBytes old new row height k (at + 1)
 
 unfoldable pub equal : List ℕ → List ℕ → Bool
 equal [] [] = true
@@ -82,19 +83,3 @@ bufferAfter bytes out (fault n) = out
 abbrev pub deltaOf : Delta → Res ℕ
 deltaOf (Written length) = ok length
 deltaOf (Refused why) = fault (numberOf why)
-
--- P11: from zeros to AA 00 BB 00 the list of P2, 69 bytes in all; for equal frames 64 zero bytes
-zeros : List ℕ
-zeros = replicate 4 0
-
-from-zeros : drop 64 (deltaBytes (record { width = 16; height = 2; planes = 1 }) zeros (0xAA ∷ 0x00 ∷ 0xBB ∷ 0x00 ∷ [])) ≡ 0x01 ∷ 0x82 ∷ 0xAA ∷ 0xBB ∷ 0x00 ∷ []
-unfolding zeros deltaBytes pointersBytes listsBytes planeBytes equal pointerOf be32Bytes columnsBytes columnAt columnBytes columnOps opsOf cutAll cut uniqs restOf stretch loose groupsOf join opsBytes opBytes runsOf kept changed rowBytes
-from-zeros = refl
-
-pointer-64 : take 64 (deltaBytes (record { width = 16; height = 2; planes = 1 }) zeros (0xAA ∷ 0x00 ∷ 0xBB ∷ 0x00 ∷ [])) ≡ 0 ∷ 0 ∷ 0 ∷ 64 ∷ replicate 60 0
-unfolding zeros deltaBytes pointersBytes listsBytes planeBytes equal pointerOf be32Bytes columnsBytes columnAt columnBytes columnOps opsOf cutAll cut uniqs restOf stretch loose groupsOf join opsBytes opBytes runsOf kept changed rowBytes
-pointer-64 = refl
-
-unchanged : deltaBytes (record { width = 16; height = 2; planes = 1 }) zeros zeros ≡ replicate 64 0
-unfolding zeros deltaBytes pointersBytes listsBytes planeBytes equal pointerOf be32Bytes columnsBytes columnAt columnBytes columnOps opsOf cutAll cut uniqs restOf stretch loose groupsOf join opsBytes opBytes runsOf kept changed rowBytes
-unchanged = refl

@@ -1,22 +1,12 @@
 -- `anim::anim_row_refusal`: the refusal's number, or 0.
-use Rattle.anim.specs.ExportLaws.{row-no-state, row-sized}
 use Rattle.shown.specs.Row.{placeOf}
 use Rattle.laws.specs.ResultLaws.{told}
 use borrow.Author.Needs.{needs}
 use Rattle.anim.proofs.anim_row_refusal.Statement.{statement}
 use Rattle.anim.proofs.anim_row_refusal.Tie as tie
 
-wrong-length-requires : tie.Need-wrong-length-requires
-wrong-length-requires c κs = search needs
-
-returns : tie.Need-returns
-returns c = let k = c .before .before .before .before .before .args in rw (row-no-state (k .state .now) _ _ _ _ (c .before .if1 .taken)) (c .wrong-length .ensures)
-
-read-state-requires : tie.Need-read-state-requires
-read-state-requires c κs = search needs
-
-row-place-requires : tie.Need-row-place-requires
-row-place-requires c κs = search needs
+row-in-requires : tie.Need-row-in-requires
+row-in-requires c κs = search needs
 
 enum-known-p : tie.Need-enum-known-p
 enum-known-p c = search needs
@@ -27,22 +17,12 @@ number-requires c κs = search needs
 enum-told : tie.Need-enum-told
 enum-told c = search needs
 
-returns-2 : tie.Need-returns-2
-returns-2 c = let k = c .before .before .before .before .before .before .before .before .before .before .args in rw (row-sized (k .state .now) _ _ _ _ (c .before .before .before .before .before .before .if1 .left) (told placeOf (rw (c .before .before .before .before .before .read-state .ensures) at (c .before .before .before .before .row-place .ensures)) (c .before .before .p .given .1))) (c .number .ensures)
+returns : tie.Need-returns
+returns c = rw (told placeOf (c .before .before .before .before .row-in .ensures) (c .before .before .p .given .1)) (c .number .ensures)
 
-returns-3 : tie.Need-returns-3
-returns-3 c = let k = c .before .before .before .before .before .before .before .before .args in rw (row-sized (k .state .now) _ _ _ _ (c .before .before .before .before .if1 .left) (told placeOf (rw (c .before .before .before .read-state .ensures) at (c .before .before .row-place .ensures)) (c .enum-told .given .1)))
+returns-2 : tie.Need-returns-2
+returns-2 c = rw (told placeOf (c .before .before .row-in .ensures) (c .enum-told .given .1))
 
 pub anim-row-refusal-spec : {M : Type 1} → statement M
 anim-row-refusal-spec =
-    tie.close
-    (tie.spec
-    wrong-length-requires
-    returns
-    read-state-requires
-    row-place-requires
-    enum-known-p
-    number-requires
-    enum-told
-    returns-2
-    returns-3)
+    tie.close (tie.spec row-in-requires enum-known-p number-requires enum-told returns returns-2)

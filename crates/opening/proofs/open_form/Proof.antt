@@ -2,7 +2,7 @@
 use Rattle.opening.specs.OpenLaws.{first-refused, form-broken, form-missing, form-is}
 use Rattle.iff.specs.Pair.{bothOf}
 use Rattle.laws.specs.ResultLaws.{told}
-use mathlib.Core.Path.{refl, subst}
+use mathlib.Core.Path.{refl}
 use borrow.Author.Needs.{needs}
 use Rattle.opening.proofs.open_form.Statement.{statement}
 use Rattle.opening.proofs.open_form.Tie as tie

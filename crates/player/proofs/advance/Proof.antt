@@ -2,7 +2,6 @@
 use Rattle.player.specs.StepLaws.{advance-refused, advance-ended, advance-built}
 use Rattle.frame.specs.Frame.{nextOf}
 use Rattle.laws.specs.ResultLaws.{told}
-use mathlib.Core.Path.{sym, ap, _∙_}
 use borrow.Author.Needs.{needs}
 use Rattle.player.proofs.advance.Statement.{statement}
 use Rattle.player.proofs.advance.Tie as tie

@@ -1,6 +1,5 @@
 -- `player::build_frame`: the delta is applied into the work buffer, and what it made is recorded.
 use Rattle.player.specs.StepLaws.{builds-refused, builds-recorded}
-use Rattle.delta.specs.Delta.{appliedOf}
 use borrow.Author.Needs.{needs}
 use Rattle.player.proofs.build_frame.Statement.{statement}
 use Rattle.player.proofs.build_frame.Tie as tie

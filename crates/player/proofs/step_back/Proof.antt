@@ -5,7 +5,6 @@ use Rattle.state.specs.StateLaws.{state-sound}
 use Rattle.state.specs.State.{lengthOf}
 use Rattle.laws.specs.ResultLaws.{told, each-is}
 use borrow.Author.Tests.{eq-eqb, ne-eqb}
-use native.Mathlib.Omega.{arith}
 use borrow.Author.Needs.{needs}
 use Rattle.player.proofs.step_back.Statement.{statement}
 use Rattle.player.proofs.step_back.Tie as tie

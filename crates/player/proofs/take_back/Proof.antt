@@ -2,7 +2,6 @@
 use Rattle.player.specs.BackLaws.{restores-refused, restores-taken}
 use Rattle.record.specs.Record.{restoredOf}
 use Rattle.laws.specs.ResultLaws.{told}
-use native.Mathlib.Omega.{arith}
 use borrow.Author.Needs.{needs}
 use Rattle.player.proofs.take_back.Statement.{statement}
 use Rattle.player.proofs.take_back.Tie as tie

@@ -2,8 +2,9 @@
 use native.Mathlib.Omega.{arith}
 use Prim.Native.Nat.{ℕ, _+_, _-_, _*_, _≤_, _<_}
 use mathlib.Core.List.{List}
-use mathlib.Core.Path.{_≡_, ap, _∙_}
-use lib.ListN.{length, length-append}
+use mathlib.Core.Path.{_≡_}
+use lib.ListN.{length}
+use Rattle.column.specs.Count.{Counting, counting, counting-more, counting-last}
 use Rattle.writer.specs.Write.{planeBytes, listsBytes}
 use Rattle.writer.specs.Planes.{Walking}
 use Rattle.writer.specs.PlaneLaws.{walking, walking-more, walking-plane, lists-parts, lists-none}
@@ -12,31 +13,20 @@ use Rattle.writer.proofs.lists_length.Statement.{statement}
 use Rattle.writer.proofs.lists_length.Tie as tie
 
 -- the loop's invariant
-record Counting (old new : List ℕ) (row height planes sum at left : ℕ) : Type 0 where
+record Lists (old new : List ℕ) (row height planes sum at left : ℕ) : Type 0 where
   walk : Walking row height planes at left
   small : sum + left * 393344 ≤ 3146752
-  rest : sum + length (listsBytes old new row height left at) ≡ length (listsBytes old new row height planes 0)
+  rest : Counting (listsBytes old new row height planes 0) sum (listsBytes old new row height left at)
 
-module _ {old new : List ℕ} {row height planes sum at left : ℕ} (w : Counting old new row height planes sum at left) where
-  more : {n : ℕ} → 0 < left → (n ≡ length (planeBytes old new row height at)) × (n ≤ 393344) → Counting old new row height planes (sum + n) (at + height * row) (left - 1)
-  more h e = record {
-    walk = walking-more (w .walk) h;
-    small = omega (arith, w .small, e .1);
-    rest =
-        omega (
-          arith,
-          w .rest,
-          e .0,
-          ap length (lists-parts old new row height left at h .is)
-              ∙ length-append (planeBytes old new row height at) (listsBytes old new row height (left - 1) (at + height * row)),
-        );
-  }
+module _ {old new : List ℕ} {row height planes sum at left : ℕ} (w : Lists old new row height planes sum at left) where
+  more : {n : ℕ} → 0 < left → (n ≡ length (planeBytes old new row height at)) × (n ≤ 393344) → Lists old new row height planes (sum + n) (at + height * row) (left - 1)
+  more h e = record { walk = walking-more (w .walk) h; small = omega (arith, w .small, e .1); rest = counting-more (w .rest) (lists-parts old new row height left at h) (e .0) }
 
   all : left ≤ 0 → (sum ≡ length (listsBytes old new row height planes 0)) × (sum ≤ 3146752)
-  all h = (omega (arith, w .rest, ap length (lists-none old new row height left at h)), omega (arith, w .small))
+  all h = (counting-last (w .rest) (lists-none old new row height left at h), omega (arith, w .small))
 
 abbrev Inv-loop : tie.InvT-loop
-Inv-loop old new row height planes size sum₀ at₀ left₀ sum at left = Counting old new row height planes sum at left
+Inv-loop old new row height planes size sum₀ at₀ left₀ sum at left = Lists old new row height planes sum at left
 
 abbrev μ-loop : tie.MeasureT-loop
 μ-loop old new row height planes size sum₀ at₀ left₀ sum at left = left
@@ -45,7 +35,7 @@ mul-size : tie.Need-mul-size Inv-loop μ-loop
 mul-size c = omega (arith, c .before .before .pre .plane)
 
 loop-holds : tie.Need-loop-holds Inv-loop μ-loop
-loop-holds c = record { walk = walking _ _ _; small = omega (arith, c .before .before .pre .deep); rest = omega arith }
+loop-holds c = record { walk = walking _ _ _; small = omega (arith, c .before .before .pre .deep); rest = counting }
 
 plane-length-requires : tie.Need-plane-length-requires Inv-loop μ-loop
 plane-length-requires c κs = walking-plane (c .before .loop .inv .walk) (c .loop-test .taken) (c .before .before .before .before .pre)

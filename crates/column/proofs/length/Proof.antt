@@ -1,0 +1,27 @@
+-- `column::length`: the checks in the definition's order, then one byte more than the ops.
+use mathlib.Core.Path.{sym, ap, _∙_}
+use Rattle.laws.specs.Result.{Res.ok}
+use Rattle.column.specs.PlanLaws.{planned-length}
+use Rattle.column.specs.PlaceLaws.{two-lengths, too-many, measured}
+use native.Mathlib.Omega.{arith}
+use borrow.Author.Needs.{needs}
+use Rattle.column.proofs.length.Statement.{statement}
+use Rattle.column.proofs.length.Tie as tie
+
+returns : tie.Need-returns
+returns c = (sym (two-lengths _ _ (c .if1 .taken)), tt)
+
+returns-2 : tie.Need-returns-2
+returns-2 c = (sym (too-many _ _ (c .before .if1 .left) (c .if2 .taken)), tt)
+
+measure-requires : tie.Need-measure-requires
+measure-requires c κs = search needs
+
+add-t5 : tie.Need-add-t5
+add-t5 c = omega (arith, c .before .measure .ensures .short)
+
+returns-3 : tie.Need-returns-3
+returns-3 c = (sym (measured _ _ (c .before .before .before .if1 .left) (c .before .before .if2 .left) ∙ ap ok (planned-length (c .before .measure .ensures))), omega (arith, c .before .measure .ensures .short))
+
+pub length-spec : {M : Type 1} → statement M
+length-spec = tie.close (tie.spec returns returns-2 measure-requires add-t5 returns-3)

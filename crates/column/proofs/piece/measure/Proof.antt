@@ -1,0 +1,112 @@
+-- `column::piece::measure`: what is counted and what is left, from here, come to the whole.
+use Prim.Native.Nat.{ℕ, _+_, _-_, _*_, _≤_}
+use mathlib.Core.List.{List, []}
+use mathlib.Core.Path.{_≡_, sym, ap, _∙_}
+use lib.ListN.{length, drop, length-append, length-drop}
+use Rattle.runs.specs.RunLaws.{runsAt}
+use Rattle.column.specs.Column.{opsBytes}
+use Rattle.column.specs.Count.{Counting, counting, counting-more, counting-last}
+use Rattle.column.specs.Piece.{opsAt, pieceOps, opsIn, bytesIn, NextPiece, Measured}
+use Rattle.column.specs.CutLaws.{none-left, piece-parts, piece-count, piece-size, piece-few}
+use Rattle.column.specs.PlanLaws.{planned-few, planned-many}
+use Rattle.column.specs.declared.piece.Kind.{Kind}
+use native.Mathlib.Omega.{arith}
+use Rattle.column.proofs.piece.measure.Statement.{statement}
+use Rattle.column.proofs.piece.measure.Tie as tie
+
+-- the loop's invariant
+record Measuring (old new : List ℕ) (row ops bytes : ℕ) : Type 0 where
+  inside : row ≤ length new
+  few : ops ≤ row
+  short : bytes ≤ 3 * row
+  ops-left : ops + length (opsAt old new row) ≡ length (opsAt old new 0)
+  bytes-left : Counting (opsBytes (opsAt old new 0)) bytes (opsBytes (opsAt old new row))
+
+starts : (old new : List ℕ) → Measuring old new 0 0 0
+starts old new = record { inside = omega arith; few = omega arith; short = omega arith; ops-left = omega arith; bytes-left = counting }
+
+module _ {old new : List ℕ} {row ops bytes : ℕ} (m : Measuring old new row ops bytes) where
+  more : {kind : Kind} {rows n b : ℕ} → NextPiece old new row kind rows → n ≡ opsIn kind rows → b ≡ bytesIn kind rows → Measuring old new (row + rows) (ops + n) (bytes + b)
+  more {kind} {rows} p e f =
+      let k : rows ≤ length (drop row new) = simp length-drop (omega (arith, p .inside)) in
+      let few = piece-few kind rows in
+      record {
+        inside = p .inside;
+        few = omega (arith, m .few, few .0, e);
+        short = omega (arith, m .short, few .1, f);
+        ops-left =
+            omega (arith, m .ops-left, e, piece-count kind rows (drop row new) k, ap length (p .ops) ∙ length-append (pieceOps kind rows (drop row new)) (opsAt old new (row + rows)));
+        bytes-left = counting-more (m .bytes-left) (piece-parts p) (f ∙ sym (piece-size kind rows (drop row new) k));
+      }
+
+  all : length new ≤ row → Measured old new ops bytes
+  unfolding runsAt opsBytes
+  all h =
+      let e : opsAt old new row ≡ [] = none-left old new row h in
+      record {
+        count = omega (arith, rw e at (m .ops-left));
+        size = counting-last (m .bytes-left) (rw e);
+        few = omega (arith, m .few, m .inside);
+        short = omega (arith, m .short, m .inside);
+      }
+
+abbrev Inv-loop : tie.InvT-loop
+Inv-loop old new row₀ ops₀ bytes₀ row ops bytes = Measuring old new row ops bytes
+
+abbrev μ-loop : tie.MeasureT-loop
+μ-loop old new row₀ ops₀ bytes₀ row ops bytes = length new - row
+
+loop-holds : tie.Need-loop-holds Inv-loop μ-loop
+loop-holds c = starts _ _
+
+next-piece-requires : tie.Need-next-piece-requires Inv-loop μ-loop
+next-piece-requires c κs = (c .before .before .before .before .pre .0, c .loop-test .taken)
+
+piece-totals-requires : tie.Need-piece-totals-requires Inv-loop μ-loop
+piece-totals-requires c κs = omega (arith, c .next-piece .ensures .inside, c .before .before .before .before .before .pre .1)
+
+add-ops : tie.Need-add-ops Inv-loop μ-loop
+add-ops c = omega (arith, more (c .before .before .before .before .loop .inv) (c .before .before .next-piece .ensures) (c .before .piece-totals .ensures .0) (c .before .piece-totals .ensures .1) .few, c .before .before .next-piece .ensures .inside, c .before .before .before .before .before .before .before .pre .1)
+
+add-bytes : tie.Need-add-bytes Inv-loop μ-loop
+add-bytes c = omega (arith, more (c .before .before .before .before .before .loop .inv) (c .before .before .before .next-piece .ensures) (c .before .before .piece-totals .ensures .0) (c .before .before .piece-totals .ensures .1) .short, c .before .before .before .next-piece .ensures .inside, c .before .before .before .before .before .before .before .before .pre .1)
+
+add-row : tie.Need-add-row Inv-loop μ-loop
+add-row c = omega (arith, c .before .before .before .before .next-piece .ensures .inside, c .before .before .before .before .before .before .before .before .before .pre .1)
+
+loop-less : tie.Need-loop-less Inv-loop μ-loop
+loop-less c = omega (arith, c .before .before .before .before .next-piece .ensures .inside, c .before .before .before .before .next-piece .ensures .some)
+
+loop-again : tie.Need-loop-again Inv-loop μ-loop
+loop-again c = more (c .before .before .before .before .before .before .loop .inv) (c .before .before .before .before .next-piece .ensures) (c .before .before .before .piece-totals .ensures .0) (c .before .before .before .piece-totals .ensures .1)
+
+returns : tie.Need-returns Inv-loop μ-loop
+returns c = planned-few (all (c .before .before .loop .inv) (c .before .loop-test .left)) (c .before .before .before .before .before .pre .1) (c .if1 .taken)
+
+add-uniqs : tie.Need-add-uniqs Inv-loop μ-loop
+add-uniqs c = omega (arith, c .before .before .before .before .before .pre .1)
+
+add-t13 : tie.Need-add-t13 Inv-loop μ-loop
+add-t13 c = omega (arith, c .before .before .before .before .before .pre .1)
+
+returns-2 : tie.Need-returns-2 Inv-loop μ-loop
+returns-2 c = planned-many (all (c .before .before .loop .inv) (c .before .loop-test .left)) (c .before .before .before .before .before .pre .1) (c .if1 .left)
+
+pub measure-spec : {M : Type 1} → statement M
+measure-spec =
+    tie.close
+    (tie.spec
+    Inv-loop
+    μ-loop
+    loop-holds
+    next-piece-requires
+    piece-totals-requires
+    add-ops
+    add-bytes
+    add-row
+    loop-less
+    loop-again
+    returns
+    add-uniqs
+    add-t13
+    returns-2)

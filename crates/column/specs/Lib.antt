@@ -1,0 +1,9 @@
+pub mod Column
+pub mod ColumnLaws
+pub mod Count
+pub mod Piece
+pub mod WalkLaws
+pub mod CutLaws
+pub mod PlanLaws
+pub mod Place
+pub mod PlaceLaws

@@ -1,0 +1,49 @@
+-- `writer::plane::equal`: the outcome so far, and what is left, decide.
+use Prim.Native.Nat.{_-_}
+use mathlib.Core.Logic.{⊎-elim}
+use lib.ListN.{length}
+use Rattle.writer.specs.PlaneLaws.{Comparing, comparing, same-more, other-more, compared}
+use borrow.Author.Needs.{needs}
+use Rattle.writer.proofs.plane.equal.Statement.{statement}
+use Rattle.writer.proofs.plane.equal.Tie as tie
+
+abbrev Inv-loop : tie.InvT-loop
+Inv-loop old new same₀ i₀ same i = Comparing old new same i
+
+abbrev μ-loop : tie.MeasureT-loop
+μ-loop old new same₀ i₀ same i = length old - i
+
+loop-holds : tie.Need-loop-holds Inv-loop μ-loop
+loop-holds c = comparing
+
+shared-slice-read-if1 : tie.Need-shared-slice-read-if1 Inv-loop μ-loop
+shared-slice-read-if1 c = search needs
+
+shared-slice-read-if1-2 : tie.Need-shared-slice-read-if1-2 Inv-loop μ-loop
+shared-slice-read-if1-2 c = search needs
+
+add-i : tie.Need-add-i Inv-loop μ-loop
+add-i c = search needs
+
+loop-less : tie.Need-loop-less Inv-loop μ-loop
+loop-less c = search needs
+
+loop-again : tie.Need-loop-again Inv-loop μ-loop
+loop-again c = ⊎-elim (λ w. rw (w .1) (other-more (c .before .before .before .before .loop .inv) (c .before .before .before .before .before .pre) (c .before .before .before .loop-test .taken) (w .0 .taken))) (λ w. rw (w .1) (same-more (c .before .before .before .before .loop .inv) (c .before .before .before .before .before .pre) (c .before .before .before .loop-test .taken) (w .0 .left))) (c .if1 .came)
+
+returns : tie.Need-returns Inv-loop μ-loop
+returns c = compared (c .before .loop .inv) (c .before .before .pre) (c .loop-test .left)
+
+pub equal-spec : {M : Type 1} → statement M
+equal-spec =
+    tie.close
+    (tie.spec
+    Inv-loop
+    μ-loop
+    loop-holds
+    shared-slice-read-if1
+    shared-slice-read-if1-2
+    add-i
+    loop-less
+    loop-again
+    returns)

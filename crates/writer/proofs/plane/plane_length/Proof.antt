@@ -1,0 +1,24 @@
+-- `writer::plane::plane_length`: an unchanged plane has no list.
+use mathlib.Core.Path.{sym, ap, _∙_}
+use lib.ListN.{length}
+use Rattle.writer.specs.PlaneLaws.{plane-unchanged, plane-changed}
+use native.Mathlib.Omega.{arith}
+use borrow.Author.Needs.{needs}
+use Rattle.writer.proofs.plane.plane_length.Statement.{statement}
+use Rattle.writer.proofs.plane.plane_length.Tie as tie
+
+unchanged-requires : tie.Need-unchanged-requires
+unchanged-requires c κs = search needs
+
+returns : tie.Need-returns
+returns c = (sym (ap length (plane-unchanged _ _ _ _ _ (c .before .unchanged .ensures) (c .if1 .taken))), omega arith)
+
+columns-length-requires : tie.Need-columns-length-requires
+columns-length-requires c κs = search needs
+
+returns-2 : tie.Need-returns-2
+returns-2 c = (c .columns-length .ensures .0 ∙ sym (ap length (plane-changed _ _ _ _ _ (c .before .before .unchanged .ensures) (c .before .if1 .left))), omega (arith, c .columns-length .ensures .1, c .before .before .before .before .before .pre .wide))
+
+pub plane-length-spec : {M : Type 1} → statement M
+plane-length-spec =
+    tie.close (tie.spec unchanged-requires returns columns-length-requires returns-2)
