@@ -63,7 +63,7 @@ fn every_method(random: &mut Random, sizes: Sizes) -> Vec<u8> {
     let picture = random.bytes(sizes.frame());
     let body = files::packed_body(&picture, sizes);
     let mut parts = vec![files::form(b"ILBM", &[files::chunk(b"BMHD", &files::bmhd(sizes, 1)), files::chunk(b"BODY", &body)])];
-    for items in [1, 2, 4].into_iter().filter(|items| sizes.row() % items == 0) {
+    for items in [1, 2, 4].into_iter().filter(|items| sizes.row().is_multiple_of(*items)) {
         let delta = files::random_delta(random, sizes, items);
         parts.push(files::form(b"ILBM", &[files::chunk(b"ANHD", &files::anhd(items, 3)), files::chunk(b"DLTA", &delta)]));
     }

@@ -111,8 +111,7 @@ pub fn random_delta(random: &mut Random, sizes: Sizes, items: usize) -> Vec<u8> 
             set_pointer(&mut out, plane + 8, random.below(200) as u32);
             continue;
         }
-        if random.once_in(6) && latest.is_some() {
-            let (ops, data) = latest.expect("an earlier plane");
+        if let (true, Some((ops, data))) = (random.once_in(6), latest) {
             set_pointer(&mut out, plane, ops);
             set_pointer(&mut out, plane + 8, data);
             continue;
@@ -173,44 +172,46 @@ fn random_lists(random: &mut Random, sizes: Sizes, items: usize, values: usize, 
 }
 
 /// The delta of items of 2 or 4 bytes that turns the old frame into the new one, for method 7.
-pub fn method_7(old: &[u8], new: &[u8], sizes: Sizes, items: usize) -> Vec<u8> {
+pub fn method_7(old_frame: &[u8], new_frame: &[u8], sizes: Sizes, items: usize) -> Vec<u8> {
     let mut out = vec![0; 64];
     let row = sizes.row();
-    for plane in 0..sizes.planes {
-        let at = plane * sizes.plane();
-        let item = |of: &[u8], x: usize, y: usize| of[at + y * row + x..at + y * row + x + items].to_vec();
+    let planes = old_frame.chunks_exact(sizes.plane()).zip(new_frame.chunks_exact(sizes.plane()));
+    for (plane, (old, new)) in planes.enumerate() {
         let (mut ops, mut data) = (Vec::new(), Vec::new());
         for x in (0..row).step_by(items) {
-            let start = ops.len();
-            ops.push(0);
-            let mut y = 0;
-            let mut count = 0;
-            let changed: Vec<bool> = (0..sizes.height).map(|y| item(old, x, y) != item(new, x, y)).collect();
-            while let Some(gap) = changed[y..].iter().position(|&c| c) {
-                if count >= 250 {
-                    return method_7_whole(new, sizes, items);
-                }
-                let skips = (0..gap).step_by(127).map(|from| (gap - from).min(127) as u8);
-                count += skips.len();
-                ops.extend(skips);
-                y += gap;
-                let rows = changed[y..].iter().take(127).take_while(|&&c| c).count();
-                let first = item(new, x, y);
-                if rows > 1 && (y..y + rows).all(|y| item(new, x, y) == first) {
-                    ops.extend([0, rows as u8]);
-                    data.extend(first);
-                } else {
-                    ops.push(128 + rows as u8);
-                    (y..y + rows).for_each(|y| data.extend(item(new, x, y)));
-                }
-                count += 1;
-                y += rows;
+            let column = |plane| -> Vec<&[u8]> { <[u8]>::chunks_exact(plane, row).map(|line| &line[x..x + items]).collect() };
+            if !method_7_column(&column(old), &column(new), &mut ops, &mut data) {
+                return method_7_whole(new_frame, sizes, items);
             }
-            ops[start] = count as u8;
         }
         place_lists(&mut out, plane, &ops, &data);
     }
     out
+}
+
+/// Writes a column as Skips, Sames and Uniqs; false if it would need too many ops.
+fn method_7_column(old: &[&[u8]], new: &[&[u8]], ops: &mut Vec<u8>, data: &mut Vec<u8>) -> bool {
+    let start = ops.len();
+    ops.push(0);
+    let (mut y, mut count) = (0, 0);
+    while let Some(gap) = (y..old.len()).position(|y| old[y] != new[y]) {
+        let skips = (0..gap).step_by(127).map(|from| (gap - from).min(127) as u8);
+        count += skips.len() + 1;
+        ops.extend(skips);
+        y += gap;
+        let rows = (y..old.len()).take(127).take_while(|&y| old[y] != new[y]).count();
+        let changed = &new[y..y + rows];
+        if rows > 1 && changed.iter().all(|item| *item == changed[0]) {
+            ops.extend([0, rows as u8]);
+            data.extend_from_slice(changed[0]);
+        } else {
+            ops.push(128 + rows as u8);
+            data.extend(changed.concat());
+        }
+        y += rows;
+    }
+    ops[start] = count as u8;
+    count <= 255
 }
 
 /// The delta of method 7 that gives every row.
@@ -346,9 +347,9 @@ fn first_frame(random: &mut Random, sizes: Sizes, harm: Harm) -> Vec<u8> {
 }
 
 fn later_frame(random: &mut Random, sizes: Sizes, harm: Harm) -> Vec<u8> {
-    let longs = sizes.row() % 4 == 0 || harm == Harm::AnimHeader && random.once_in(3);
+    let longs = sizes.row().is_multiple_of(4) || harm == Harm::AnimHeader && random.once_in(3);
     let items = *random.pick(if longs { &[1, 2, 4] } else { &[1, 2, 1] });
-    let time = random.next() as u32 >> random.below(32);
+    let time = random.number() as u32 >> random.below(32);
     let mut header = anhd(items, time);
     header[18] = *random.pick(&[0, 2]);
     if harm == Harm::AnimHeader {

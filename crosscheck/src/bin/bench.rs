@@ -13,11 +13,8 @@ use crosscheck::{cover, library};
 use std::hint::black_box;
 use std::time::Instant;
 
-const SIZES: [Sizes; 3] = [
-    Sizes { width: 320, height: 200, planes: 5 },
-    Sizes { width: 640, height: 512, planes: 8 },
-    Sizes { width: 1024, height: 1024, planes: 8 },
-];
+const SIZES: [Sizes; 3] =
+    [Sizes { width: 320, height: 200, planes: 5 }, Sizes { width: 640, height: 512, planes: 8 }, Sizes { width: 1024, height: 1024, planes: 8 }];
 const CHANGES: [&str; 3] = ["light", "heavy", "noise"];
 const METHODS: [(&str, usize); 3] = [("method 5", 1), ("7 short", 2), ("7 long", 4)];
 

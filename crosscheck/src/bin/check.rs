@@ -32,12 +32,8 @@ const ONCE: &[Group] = &[
 ];
 
 /// Made in turn until the time is over.
-const AGAIN: &[Group] = &[
-    ("files", damaged::any_film),
-    ("deltas", damaged::any_deltas),
-    ("lists of calls", calls::list),
-    ("written deltas", writer::pictures),
-];
+const AGAIN: &[Group] =
+    &[("files", damaged::any_film), ("deltas", damaged::any_deltas), ("lists of calls", calls::list), ("written deltas", writer::pictures)];
 
 /// Every number of document 01's table.
 const NUMBERS: [u64; 23] = [11, 12, 13, 14, 21, 22, 23, 24, 25, 31, 32, 33, 34, 35, 36, 41, 42, 43, 44, 51, 53, 61, 62];

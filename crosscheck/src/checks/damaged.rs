@@ -79,7 +79,7 @@ pub fn any_deltas(check: &mut Check) -> Checked<()> {
     let random = &mut check.random;
     let sizes = files::any_sizes(random);
     let body = random.bytes(sizes.frame());
-    let items = *random.pick(if sizes.row() % 4 == 0 { &[1, 2, 4] } else { &[1, 2, 1] });
+    let items = *random.pick(if sizes.row().is_multiple_of(4) { &[1, 2, 4] } else { &[1, 2, 1] });
     let delta = files::random_delta(random, sizes, items);
     play(check, &two_frames(sizes, &body, items, &delta))?;
     for _ in 0..8 {

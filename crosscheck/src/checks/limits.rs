@@ -21,7 +21,9 @@ fn every_call(check: &mut Check, file: &[u8], state: State) -> Checked<()> {
     let length = if length > 2_000_000 { 40 } else { length as usize };
     let mut player = Player::new(&mut check.random, file, length);
     player.set_state(state);
-    for (plane, line) in [(0, 0), (state.planes.wrapping_sub(1), state.height.wrapping_sub(1)), (state.planes, 0), (0, state.height), (u64::MAX, 1 << 32)] {
+    for (plane, line) in
+        [(0, 0), (state.planes.wrapping_sub(1), state.height.wrapping_sub(1)), (state.planes, 0), (0, state.height), (u64::MAX, 1 << 32)]
+    {
         player.row(&mut check.pair, plane, line)?;
     }
     let record = record(state.frame, state.next.wrapping_sub(1));

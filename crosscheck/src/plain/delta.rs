@@ -35,7 +35,7 @@ impl Header {
             (_, 0) => Items::Shorts,
             _ => Items::Longs,
         };
-        need(items != Items::Longs || sizes.row() % 4 == 0, OddLongColumns)?;
+        need(items != Items::Longs || sizes.row().is_multiple_of(4), OddLongColumns)?;
         Ok(Header { method: u64::from(method), time: be32(&anhd[14..]), items })
     }
 }
