@@ -26,6 +26,7 @@ impl Header {
             need(anhd.first().is_none_or(|&method| method == 5 || method == 7), UnknownMethod)?;
         }
         need(anhd.len() >= 40, ShortAnimHeader)?;
+        need(anhd.len() == 40 || !broken("anhd-exactly"), ShortAnimHeader)?;
         let (method, interleave, bits) = (anhd[0], anhd[18], be32(&anhd[20..]));
         need(method == 5 || method == 7, UnknownMethod)?;
         need(matches!(interleave, 0 | 2) || interleave == 1 && broken("interleave-1"), UnknownInterleave)?;
@@ -100,8 +101,10 @@ fn walk<'a, const W: usize>(dlta: &'a [u8], sizes: Sizes, mut put: impl FnMut(Pu
 /// What stands from a pointer's place on.
 fn list_at(dlta: &[u8], pointer: usize) -> Answer<&[u8]> {
     let at = be32(&dlta[4 * pointer..]) as usize;
-    let least = if broken("pointer-below-64") { 0 } else { 64 };
+    let zero_passes = broken("pointer-below-64") || pointer >= 8 && broken("data-pointer-0");
+    let least = if zero_passes { 0 } else { 64 };
     need((least..=dlta.len()).contains(&at), BadPointer)?;
+    need(at < dlta.len() || !broken("pointer-at-end"), BadPointer)?;
     Ok(&dlta[at..])
 }
 

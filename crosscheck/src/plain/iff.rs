@@ -26,6 +26,7 @@ pub fn anim_end(file: &[u8]) -> Answer<usize> {
     need(&file[..4] == b"FORM" && &file[8..12] == b"ANIM", NotFormAnim)?;
     let length = be32(&file[4..]) as usize;
     need(length >= 4 && length + 8 <= file.len(), ChunkPastParent)?;
+    need(length % 2 == 0 || length + 8 < file.len() || !broken("anim-pad-asked"), ChunkPastParent)?;
     Ok(length + 8)
 }
 
@@ -33,7 +34,7 @@ pub fn anim_end(file: &[u8]) -> Answer<usize> {
 pub fn next_frame(parent: &[u8], mut at: usize) -> Answer<Option<Chunk<'_>>> {
     while at < parent.len() {
         let chunk = chunk_at(parent, at)?;
-        if chunk.id == b"FORM" {
+        if chunk.id == b"FORM" && !(broken("short-form-passed") && chunk.contents.len() < 4) {
             need(chunk.contents.len() >= 4, ChunkPastParent)?;
             let (kind, contents) = chunk.contents.split_at(4);
             if kind == b"ILBM" {

@@ -28,6 +28,7 @@ fn read_header(bmhd: &[u8]) -> Answer<(Sizes, bool)> {
     let (planes, masking, compression) = (bmhd[8], bmhd[9], bmhd[10]);
     let sizes = Sizes::new(be16(bmhd), be16(&bmhd[2..]), u64::from(planes)).ok_or(BadHeader)?;
     need(masking != 1 && compression <= 1, BadHeader)?;
+    need(masking == 0 || !broken("masking-above-1"), BadHeader)?;
     Ok((sizes, compression == 1))
 }
 
@@ -57,6 +58,7 @@ impl First<'_> {
 
     fn unpack_plain(&self, frame: &mut [u8]) -> Answer<()> {
         need(self.body.len() >= self.sizes.frame(), BadBody)?;
+        need(self.body.len() == self.sizes.frame() || !broken("body-exactly"), BadBody)?;
         let row = self.sizes.row();
         for (at, from) in self.places().zip(self.body.chunks_exact(row)) {
             frame[at..at + row].copy_from_slice(from);

@@ -176,7 +176,7 @@ fn take_number(rest: &mut &[u8]) -> Option<u64> {
         n |= u64::from(byte & 127) << (7 * group);
         if byte < 128 {
             let shortest = byte > 0 || group == 0 || broken("long-numbers");
-            return (shortest && n < 1 << 32).then_some(n);
+            return (shortest && (n < 1 << 32 || broken("wide-numbers"))).then_some(n);
         }
     }
     None
