@@ -25,7 +25,7 @@ use Rattle.column.specs.Column.{join, groupsOf, loose, stretch, restOf, uniqs, 
 use Rattle.writer.specs.Write.{columnAt, columnIn, columnsBytes, equal, planeBytes, be32Bytes, pointerOf, pointersBytes, listsBytes, deltaBytes, written}
 use Rattle.iff.specs.Pair.{findBoth}
 use Rattle.frame.specs.Frame.{frameIn, frameAt}
-use Rattle.opening.specs.Open.{firstOf, firstIn, firstFrom, opening}
+use Rattle.opening.specs.Open.{placesIn, firstPlaces, firstOf, opening}
 use Rattle.player.specs.Step.{isOdd, shownOf, hiddenOf, ready, change, makes, advance, settle, onHidden, stepOn}
 use Rattle.bench.specs.Film.{film}
 
@@ -119,5 +119,5 @@ table =
 
 -- every example comes to what the paper says
 pub bench : map (λ (r : Row). r .comes) table ≡ map (λ (r : Row). r .says) table
-unfolding table film runs be16 be32 rowBytes frameBytes frameLength stateLength readNumber groups lastGroup writeNumber writeGroups kept changed runsOf changes runBytes runsBytes listBytes recordBytes chunkAt find animEnd nextFrame header unpackRow packetAt body rowsFrom rowAt place drawRows frameHeader byteAt skip fill readOp readOps readColumn readColumns pointer readPlane readPlanes readPicture readDelta put draw readFrame newFrame join groupsOf loose stretch restOf uniqs cut cutAll opsOf columnOps opBytes opsBytes columnBytes columnAt columnIn columnsBytes equal planeBytes be32Bytes pointerOf pointersBytes listsBytes deltaBytes written findBoth frameIn frameAt firstOf firstIn firstFrom opening isOdd shownOf hiddenOf ready change makes advance settle onHidden stepOn
+unfolding table film runs be16 be32 rowBytes frameBytes frameLength stateLength readNumber groups lastGroup writeNumber writeGroups kept changed runsOf changes runBytes runsBytes listBytes recordBytes chunkAt find animEnd nextFrame header unpackRow packetAt body rowsFrom rowAt place drawRows frameHeader byteAt skip fill readOp readOps readColumn readColumns pointer readPlane readPlanes readPicture readDelta put draw readFrame newFrame join groupsOf loose stretch restOf uniqs cut cutAll opsOf columnOps opBytes opsBytes columnBytes columnAt columnIn columnsBytes equal planeBytes be32Bytes pointerOf pointersBytes listsBytes deltaBytes written findBoth frameIn frameAt placesIn firstPlaces firstOf opening isOdd shownOf hiddenOf ready change makes advance settle onHidden stepOn
 bench = refl

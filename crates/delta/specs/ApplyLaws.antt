@@ -7,6 +7,8 @@ use mathlib.Core.List.{List, []}
 use lib.ListN.{length}
 use borrow.Author.Tests.{eq-eqb, ne-eqb}
 use Rattle.laws.specs.Result.{Res.ok, Res.fault}
+use Rattle.refusal.specs.Number.{numberOf}
+use Rattle.refusal.specs.declared.Refusal.{Refusal}
 use Rattle.state.specs.declared.Sizes.{Sizes}
 use Rattle.state.specs.State.{frameBytes, frameLength}
 use Rattle.state.specs.StateLaws.{Sound}
@@ -15,8 +17,9 @@ use Rattle.anhd.specs.declared.Items.the-variants.{Bytes, Shorts, Longs}
 use Rattle.delta.specs.declared.Shape.{Shape}
 use Rattle.delta.specs.declared.Cursor.{Cursor}
 use Rattle.delta.specs.declared.Step.{Step}
+use Rattle.delta.specs.declared.Step.the-variants.{Next, Faulty}
 use Rattle.delta.specs.Delta.{Op, Reading, width, shapeOf, readPicture, readDelta, draw, readFrame, newFrame, opCount, Applies}
-use Rattle.delta.specs.Walk.{Width, Planes, top, reading, Walked, Refused, Took, Took.took, Took.refused}
+use Rattle.delta.specs.Walk.{Width, Planes, top, reading, Walked, Refused, Took, Took.took, Took.refused, Built, Built.built, Built.kept}
 
 widths : (i : Items) → Width (width i)
 widths Bytes = record { least = omega arith; most = omega arith; not-three = λ e. omega arith }
@@ -64,29 +67,38 @@ module _ {z : Sizes} {i : Items} {d f w : List ℕ} where
   unfolding opCount newFrame
   applies-ok e = record { counts = rw e; leaves = rw e }
 
-  -- the first walk was refused
-  pub applies-refused : {S : Shape} {g : List ℕ} {k : ℕ} → S ≡ shapeOf z i → readFrame z i d (length f) (length w) ≡ readDelta (shapeOf z i) d → Refused false w (readPicture S d) top g k
-      → Applies z i d f w (fault k) g
+  pub applies-built : {S : Shape} {g : List ℕ} {b : Step} {c : Cursor} → S ≡ shapeOf z i → readFrame z i d (length f) (length w) ≡ readDelta (shapeOf z i) d → Built S d f w g b → b ≡ Next c
+      → Applies z i d f w (ok (c .ops)) g
+  applies-built {c = c} e r (built {c = c′} ops t n q) h =
+      let u : c′ ≡ c = cc in
+      let m : c .ops ≡ length ops = rw u at n in
+      rw (m, q, e) (applies-ok (r ∙ rw e at t))
+  applies-built e r (kept t q) h = let z : _≡_ {A = ℕ} 0 1 = cc in absurd (omega arith)
+
+  pub applies-kept : {S : Shape} {g : List ℕ} {b : Step} {why : Refusal} → S ≡ shapeOf z i → readFrame z i d (length f) (length w) ≡ readDelta (shapeOf z i) d → Built S d f w g b → b ≡ Faulty why
+      → Applies z i d f w (fault (numberOf why)) g
+  applies-kept e r (built ops t n q) h = let z : _≡_ {A = ℕ} 0 1 = cc in absurd (omega arith)
+  applies-kept {why = why} e r (kept {why = x} t q) h =
+      let u : x ≡ why = cc in
+      rw q (applies-fault (r ∙ rw (e, u) at t))
+
+-- what the two walks come to
+module _ {S : Shape} {d f w : List ℕ} where
+  pub built-kept : {g : List ℕ} (why : Refusal) → Refused false w (readPicture S d) top g (numberOf why) → Built S d f w g (Faulty why)
   unfolding readDelta
-  applies-refused {S} {g} {k} e r t =
-      let s : readPicture (shapeOf z i) d (reading top []) ≡ fault k = rw e at (t .same []) in
-      rw (t .kept refl) (applies-fault (r ∙ rw s))
+  built-kept why t = kept {why = why} (rw (t .same [])) (t .kept refl)
 
   -- the second walk draws what the first one read
-  pub applies-drawn : {S : Shape} {g h k : List ℕ} {m : ℕ} {c : Cursor} {r : Step} → S ≡ shapeOf z i → readFrame z i d (length f) (length w) ≡ readDelta (shapeOf z i) d
-      → Walked S d false w (readPicture S d) top ok g m c → h ≡ f → Took S d true h (readPicture S d) top k m r → Applies z i d f w (ok (c .ops)) k
+  pub built-drawn : {g h k : List ℕ} {m : ℕ} (c : Cursor) {r : Step} → Walked S d false w (readPicture S d) top ok g m c → h ≡ f → Took S d true h (readPicture S d) top k m r → Built S d f w k (Next c)
   unfolding readDelta
-  applies-drawn {S} {g} {h} {k} {m} {c} e r t l (took {c = c′} u) =
-      let s : readPicture (shapeOf z i) d (reading top []) ≡ ok (reading c (t .new)) = rw e at (t .same []) in
+  built-drawn c t l (took {c = c′} u) =
       let a : readPicture S d (reading top []) ≡ ok (reading c (t .new)) = t .same [] in
       let b : readPicture S d (reading top []) ≡ ok (reading c′ (u .new)) = u .same [] in
       let q : reading c (t .new) ≡ reading c′ (u .new) = cc in
       let p : t .new ≡ u .new = ap (λ (x : Reading). x .ops) q in
-      let n : c .ops ≡ length (t .new) = omega (arith, t .counted) in
-      let w : k ≡ draw (shapeOf z i) d (t .new) f = u .drawn ∙ rw (e, l, p) in
-      rw (n, w) (applies-ok (r ∙ rw s))
-  applies-drawn {c = c} e r t l (refused {why = why} u) =
-      let a : readPicture _ d (reading top []) ≡ ok (reading c (t .new)) = t .same [] in
+      built {c = c} (t .new) (rw a) (omega (arith, t .counted)) (u .drawn ∙ rw (l, p))
+  built-drawn c t l (refused {why = why} u) =
+      let a : readPicture S d (reading top []) ≡ ok (reading c (t .new)) = t .same [] in
       let b = u .same [] in
       let q : _≡_ {A = ℕ} 0 1 = cc in
       absurd (omega arith)

@@ -6,16 +6,17 @@ use mathlib.Core.Bool.{Bool, true, false}
 use mathlib.Core.Path.{_≡_, refl, sym, ap, _∙_}
 use mathlib.Core.List.{List, [], _∷_, _++_}
 use lib.Dec.{leb}
-use lib.ListN.{length, getD, set, take, drop}
-use lib.Seq.{drop-cons, sets, length-sets}
+use lib.ListN.{length, getD, set, take, drop, length-drop}
+use lib.Seq.{drop-cons, drop-drop, take-add, length-take-le, sets, length-sets}
 use Rattle.laws.specs.Result.{Res, Res.ok, Res.fault, _>>=_, answer}
 use Rattle.laws.specs.ResultLaws.{Each, Each.each, Each.no-value, each-need}
 use Rattle.laws.specs.Bytes.{be32}
+use Rattle.laws.specs.Store.{sets-append}
 use borrow.Author.Tests.{lt-ltb, le-ltb, le-leb, lt-leb, ne-eqb, leb-true}
 use Rattle.state.specs.declared.Sizes.{Sizes}
 use Rattle.anhd.specs.declared.Items.{Items}
 use Rattle.delta.specs.declared.Shape.{Shape}
-use Rattle.delta.specs.Delta.{Op, Reading, byteAt, skip, fill, pointer, dataPointer, readPicture, readOp, readOps, readColumn, readColumns, readPlane, readPlanes, put, draw, readFrame, newFrame, opCount, shapeOf}
+use Rattle.delta.specs.Delta.{Op, Reading, byteAt, fill, Kind, Kind.same, Kind.skips, Kind.uniq, kindOf, opAs, pointer, dataPointer, readPicture, readOp, readOps, readColumn, readColumns, readPlane, readPlanes, put, draw, readFrame, newFrame, opCount, shapeOf}
 
 -- an item of one byte more
 store : (w : ℕ) (f : List ℕ) (at : ℕ) (d : List ℕ) (from : ℕ) → from < length d → sets f at (take (suc w) (drop from d)) ≡ sets (set f at (getD d from 0)) (suc at) (take w (drop (suc from) d))
@@ -24,21 +25,14 @@ store w f at d from h = rw (drop-cons d from 0 h)
 pub item-one : (f : List ℕ) (at : ℕ) (d : List ℕ) (from w : ℕ) → w ≡ 1 → from + w ≤ length d → set f at (getD d from 0) ≡ sets f at (take w (drop from d))
 item-one f at d from w e h = rw e (sym (store 0 f at d from (omega arith)))
 
-pub item-two : (f : List ℕ) (at : ℕ) (d : List ℕ) (from w : ℕ) → w ≡ 2 → from + w ≤ length d → set (set f at (getD d from 0)) (at + 1) (getD d (from + 1) 0) ≡ sets f at (take w (drop from d))
-item-two f at d from w e h = rw e (simp add-one (sym (store 1 f at d from (omega arith) ∙ store 0 (set f at (getD d from 0)) (suc at) d (suc from) (omega arith))))
+pub item-two : (f : List ℕ) (at : ℕ) (d : List ℕ) (from : ℕ) → from + 2 ≤ length d → set (set f at (getD d from 0)) (at + 1) (getD d (from + 1) 0) ≡ sets f at (take 2 (drop from d))
+item-two f at d from h = simp add-one (sym (store 1 f at d from (omega arith) ∙ store 0 (set f at (getD d from 0)) (suc at) d (suc from) (omega arith)))
 
-pub item-four : (f : List ℕ) (at : ℕ) (d : List ℕ) (from w : ℕ) → w ≡ 4 → from + w ≤ length d
-    → set (set (set (set f at (getD d from 0)) (at + 1) (getD d (from + 1) 0)) (at + 2) (getD d (from + 2) 0)) (at + 3) (getD d (from + 3) 0) ≡ sets f at (take w (drop from d))
+-- an item of two pairs
+pub item-four : (f : List ℕ) (at : ℕ) (d : List ℕ) (from w : ℕ) → w ≡ 4 → from + w ≤ length d → sets (sets f at (take 2 (drop from d))) (at + 2) (take 2 (drop (from + 2) d)) ≡ sets f at (take w (drop from d))
 item-four f at d from w e h =
-    let a : at + 2 ≡ suc (suc at) = omega arith in
-    let b : at + 3 ≡ suc (suc (suc at)) = omega arith in
-    let p : from + 2 ≡ suc (suc from) = omega arith in
-    let q : from + 3 ≡ suc (suc (suc from)) = omega arith in
-    let g = set (set f at (getD d from 0)) (suc at) (getD d (suc from) 0) in
-    rw e
-    (simp (add-one, a, b, p, q)
-    (sym (store 3 f at d from (omega arith) ∙ store 2 (set f at (getD d from 0)) (suc at) d (suc from) (omega arith)
-    ∙ store 1 g (suc (suc at)) d (suc (suc from)) (omega arith) ∙ store 0 (set g (suc (suc at)) (getD d (suc (suc from)) 0)) (suc (suc (suc at))) d (suc (suc (suc from))) (omega arith))))
+    let l : length (take 2 (drop from d)) ≡ 2 = length-take-le 2 (drop from d) (omega (arith, length-drop from d)) in
+    rw (e, take-add 2 2 (drop from d), drop-drop 2 from d) (rw l at (sets-append f at (take 2 (drop from d)) (take 2 (drop (from + 2) d))))
 
 -- rows that are being given items: what is left makes of the frame f what all of it makes of f₀
 pub record Putting (w stride step : ℕ) (d : List ℕ) (count from place : ℕ) (f₀ f : List ℕ) (i : ℕ) : Type 0 where
@@ -107,27 +101,34 @@ same-answer z i d f n = go (readFrame z i d (length f) n)
     go (ok ops) = refl
     go (fault m) = refl
 
+-- what an op does, by the range of its first byte
+pub kind-same : (b : ℕ) → b ≡ 0 → kindOf b ≡ same
+kind-same b e = rw e
+
+pub kind-skip : (b : ℕ) → 0 < b → b ≤ 127 → kindOf b ≡ skips b
+kind-skip b l k = simp (ne-eqb b 0 (omega arith), le-leb _ _ k)
+
+pub kind-uniq : (b : ℕ) → 127 < b → kindOf b ≡ uniq (b - 128)
+kind-uniq b k = simp (ne-eqb b 0 (omega arith), lt-leb _ _ k)
+
 -- the op at a place, by its first byte
 module _ (S : Shape) (d : List ℕ) (base : ℕ) (c : Reading) where
   pub op-none : length d ≤ c .opAt → readOp S d base c ≡ fault 42
   unfolding readOp byteAt
   op-none h = simp (le-ltb _ _ h)
 
-  pub same-none : c .opAt < length d → getD d (c .opAt) 0 ≡ 0 → length d ≤ c .opAt + 1 → readOp S d base c ≡ fault 42
+  pub op-kind : c .opAt < length d → {k : Kind} → kindOf (getD d (c .opAt) 0) ≡ k → readOp S d base c ≡ opAs S d base c k
   unfolding readOp byteAt
-  same-none h e k = simp (lt-ltb _ _ h, e, le-ltb _ _ k)
+  op-kind h e = simp (lt-ltb _ _ h) (rw e)
 
-  pub op-same : getD d (c .opAt) 0 ≡ 0 → c .opAt + 1 < length d → readOp S d base c ≡ fill S d base c (c .opAt + 2) (getD d (c .opAt + 1) 0) (S .item) 0
-  unfolding readOp byteAt
-  op-same e k = let h : c .opAt < length d = omega arith in simp (lt-ltb _ _ h, e, lt-ltb _ _ k)
+  -- a Same, by its count byte
+  pub same-none : length d ≤ c .opAt + 1 → opAs S d base c same ≡ fault 42
+  unfolding byteAt
+  same-none k = simp (le-ltb _ _ k)
 
-  pub op-skip : c .opAt < length d → 0 < getD d (c .opAt) 0 → getD d (c .opAt) 0 ≤ 127 → readOp S d base c ≡ skip S c (getD d (c .opAt) 0)
-  unfolding readOp byteAt
-  op-skip h l k = simp (lt-ltb _ _ h, ne-eqb (getD d (c .opAt) 0) 0 (omega arith), le-leb _ _ k)
-
-  pub op-uniq : c .opAt < length d → 127 < getD d (c .opAt) 0 → readOp S d base c ≡ fill S d base c (c .opAt + 1) (getD d (c .opAt) 0 - 128) ((getD d (c .opAt) 0 - 128) * S .item) (S .item)
-  unfolding readOp byteAt
-  op-uniq h k = simp (lt-ltb _ _ h, ne-eqb (getD d (c .opAt) 0) 0 (omega arith), lt-leb _ _ k)
+  pub same-fill : c .opAt + 1 < length d → opAs S d base c same ≡ fill S d base c (c .opAt + 2) (getD d (c .opAt + 1) 0) (S .item) 0
+  unfolding byteAt
+  same-fill k = simp (lt-ltb _ _ k)
 
   -- a column, by its count byte
   pub column-none : length d ≤ c .opAt → readColumn S d base c ≡ fault 42

@@ -3,28 +3,28 @@ use Prim.Native.Nat.{ℕ, _+_, _-_, _*_, _/_, _<_, _≤_}
 use native.Mathlib.Nat.{mul-le-mul-right, mul-le-mul-left, div-add-mod'}
 use native.Mathlib.Omega.{arith}
 use mathlib.Core.Bool.{Bool, true, false}
-use mathlib.Core.Path.{_≡_, refl}
-use mathlib.Core.List.{List, [], _∷_}
+use mathlib.Core.Path.{_≡_, refl, _∙_}
+use mathlib.Core.List.{List, [], _∷_, _++_}
 use lib.ListN.{length}
 use borrow.Author.Tests.{lt-ltb, le-leb, lt-leb}
-use Rattle.laws.specs.Result.{Res.ok, Res.fault, pick}
+use Rattle.laws.specs.Result.{Res, Res.ok, Res.fault, pick}
 use Rattle.delta.specs.declared.Shape.{Shape}
 use Rattle.delta.specs.declared.Cursor.{Cursor}
-use Rattle.delta.specs.Delta.{Reading, noRows, skip, fill, put, draw}
-use Rattle.delta.specs.Walk.{Inside, Column, Columns, Planes, Walked}
+use Rattle.delta.specs.declared.Taken.{Taken}
+use Rattle.delta.specs.declared.Taken.the-variants.{Rows, Passed, Faulty as NotTaken}
+use Rattle.delta.specs.Delta.{Op, Reading, noRows, skip, fill, put, draw}
+use Rattle.delta.specs.Walk.{Inside, Column, Columns, Planes, filled, Skipped, Skipped.skipped, Skipped.past-last, reading, RowsRead, PassRead, OpRead, Walked}
+use Rattle.delta.specs.WalkLaws.{pick-same}
 
 -- rows from a line on
 pub rows-inside : {n base row w height : ℕ} → Inside n base row w height → (line count : ℕ) → line + count ≤ height → Inside n (base + line * row) row w count
 rows-inside {n} {base} {row} {w} {height} v line count h = record { lies = λ k l. omega (arith, v .lies (line + k) (omega arith)) }
 
 -- items from a place on
-pub items-inside : {size step w count : ℕ} → Inside size 0 step w count → (n from : ℕ) → from + size ≤ n → Inside n from step w count
+items-inside : {size step w count : ℕ} → Inside size 0 step w count → (n from : ℕ) → from + size ≤ n → Inside n from step w count
 items-inside v n from h = record { lies = λ k l. omega (arith, v .lies k l) }
 
--- one item for every row, or one for each
-pub same-inside : (w count : ℕ) → Inside w 0 0 w count
-same-inside w count = record { lies = λ k l. omega arith }
-
+-- one item for each row
 pub uniq-inside : (w count : ℕ) → Inside (count * w) 0 w w count
 uniq-inside w count = record { lies = λ k l. omega (arith, mul-le-mul-right w l) }
 
@@ -48,47 +48,78 @@ plane-inside {S} {n} v p h =
 pub columns-most : {S : Shape} {n : ℕ} → Planes S n → S .row / S .item ≤ 128
 columns-most {S} v = omega (arith, v .row-most, div-add-mod' (S .row) (S .item), mul-le-mul-left (S .row / S .item) (v .width .least))
 
+-- the same op by another name of its definition
+pub read-as : (S : Shape) (d : List ℕ) (whole whole′ : ℕ → Reading → Res Reading) (c : Cursor) (r : Taken) → OpRead S d whole′ c r
+    → ((base : ℕ) (ops : List Op) → whole base (reading c ops) ≡ whole′ base (reading c ops)) → OpRead S d whole c r
+read-as S d whole whole′ c (Rows from step n next) w e = record { same = λ base ops. e base ops ∙ w .same base ops; some-rows = w .some-rows; rows = w .rows; items = w .items; moved = w .moved }
+read-as S d whole whole′ c (Passed next) w e = record { same = λ base ops. e base ops ∙ w .same base ops; moved = w .moved }
+read-as S d whole whole′ c (NotTaken why) w e = λ base ops. e base ops ∙ w base ops
+
 -- a Skip
-pub skip-walked : (S : Shape) (d : List ℕ) (drawing : Bool) (f : List ℕ) (c : Cursor) (n : ℕ) → c .line + n ≤ S .height → c .item ≤ length d
-    → Walked S d drawing f (λ x. skip S x n) c ok f 1 (record { op = c .op + 1; item = c .item; line = c .line + n; ops = c .ops + 1 })
-unfolding skip draw put
-skip-walked S d drawing f c n h i = record {
-  new = noRows ∷ [];
-  same = λ ops. simp (le-leb (c .line + n) (S .height) h);
-  drawn = go drawing;
-  counted = refl;
-  few = omega arith;
-  line = h;
-  item = i;
-}
-  where
-    go : (t : Bool) → f ≡ pick t f f
-    go true = refl
-    go false = refl
+skip-past : (S : Shape) (c : Reading) (n : ℕ) → S .height < c .line + n → skip S c n ≡ fault 43
+unfolding skip
+skip-past S c n h = simp (lt-leb _ _ h)
+
+skip-down : (S : Shape) (c : Reading) (n : ℕ) → c .line + n ≤ S .height → skip S c n ≡ ok (record { opAt = c .opAt + 1; itemAt = c .itemAt; line = c .line + n; ops = c .ops ++ (noRows ∷ []) })
+unfolding skip
+skip-down S c n h = simp (le-leb _ _ h)
+
+pub skip-read : {S : Shape} {c : Cursor} {n : ℕ} {r : Taken} → Skipped S c n r → (d : List ℕ) → c .item ≤ length d → OpRead S d (λ base x. skip S x n) c r
+skip-read {S} {c} {n} (skipped h) d i = record { same = λ base ops. skip-down S (reading c ops) n h; moved = record { counted = refl; line = h; item = i } }
+skip-read {S} {c} {n} (past-last h) d i = λ base ops. skip-past S (reading c ops) n h
 
 -- a Same or a Uniq
-pub fill-walked : (S : Shape) (d : List ℕ) (drawing : Bool) (f : List ℕ) (base : ℕ) (c : Cursor) (p n size step from : ℕ) {g : List ℕ} (c′ : Cursor)
-    → 0 < n → c .line + n ≤ S .height → from ≡ pick (S .inline) p (c .item) → from + size ≤ length d
-    → g ≡ pick drawing (put (S .item) (S .row) step d n from (base + c .line * S .row) f) f
-    → record { op = pick (S .inline) (p + size) p; item = pick (S .inline) (c .item) (c .item + size); line = c .line + n; ops = c .ops + 1 } ≡ c′ → c′ .item ≤ length d
-    → Walked S d drawing f (λ x. fill S d base x p n size step) c ok g 1 c′
-unfolding fill draw
-fill-walked S d drawing f base c p n size step from {g} c′ h l e k w q i =
-    rw (← q)
-    (record {
-      new = record { place = base + c .line * S .row; count = n; from = pick (S .inline) p (c .item); step = step } ∷ [];
-      same = λ ops. simp (lt-ltb 0 n h, le-leb (c .line + n) (S .height) l, le-leb (pick (S .inline) p (c .item) + size) (length d) (rw e at k));
-      drawn = rw e at w;
-      counted = refl;
-      few = omega arith;
-      line = l;
-      item = rw (← q) at i;
-    })
-
 pub pick-most : (t : Bool) (a b n : ℕ) → a ≤ n → b ≤ n → pick t a b ≤ n
 pick-most true a b n h k = h
 pick-most false a b n h k = k
 
-pub skip-past : (S : Shape) (c : Reading) (n : ℕ) → S .height < c .line + n → skip S c n ≡ fault 43
-unfolding skip
-skip-past S c n h = simp (lt-leb _ _ h)
+item-most : (t : Bool) (p i size n : ℕ) → i ≤ n → pick t p i + size ≤ n → pick t i (i + size) ≤ n
+item-most true p i size n h k = h
+item-most false p i size n h k = k
+
+module _ (S : Shape) (d : List ℕ) (c : Cursor) (p n size step : ℕ) where
+  pub fill-none : n ≡ 0 → (base : ℕ) (ops : List Op) → fill S d base (reading c ops) p n size step ≡ fault 44
+  unfolding fill
+  fill-none e base ops = simp e
+
+  module _ (h : 0 < n) where
+    pub fill-past : S .height < c .line + n → (base : ℕ) (ops : List Op) → fill S d base (reading c ops) p n size step ≡ fault 43
+    unfolding fill
+    fill-past l base ops = simp (lt-ltb 0 n h, lt-leb _ _ l)
+
+    module _ (l : c .line + n ≤ S .height) (from : ℕ) (e : from ≡ pick (S .inline) p (c .item)) where
+      pub fill-short : length d < from + size → (base : ℕ) (ops : List Op) → fill S d base (reading c ops) p n size step ≡ fault 42
+      unfolding fill
+      fill-short k base ops = simp (lt-ltb 0 n h, le-leb _ _ l, lt-leb _ _ (rw e at k))
+
+      pub fill-read : c .item ≤ length d → from + size ≤ length d → Inside size 0 step (S .item) n → {c′ : Cursor} → c′ ≡ filled S c p n size
+          → RowsRead S d (λ base x. fill S d base x p n size step) c from step n c′
+      unfolding fill
+      fill-read i k v q =
+          rw (q, e)
+          (record {
+            same = λ base ops. simp (lt-ltb 0 n h, le-leb _ _ l, le-leb _ _ (rw e at k));
+            some-rows = h;
+            rows = l;
+            items = items-inside v (length d) (pick (S .inline) p (c .item)) (rw e at k);
+            moved = record { counted = refl; line = l; item = item-most (S .inline) p (c .item) size (length d) i (rw e at k) };
+          })
+
+-- an op that was read, drawn where that is asked for
+module _ {S : Shape} {d : List ℕ} {whole : ℕ → Reading → Res Reading} {c next : Cursor} (drawing : Bool) (f : List ℕ) (base : ℕ) where
+  pub rows-walked : {from step n : ℕ} {g : List ℕ} → RowsRead S d whole c from step n next → g ≡ pick drawing (put (S .item) (S .row) step d n from (base + c .line * S .row) f) f
+      → Walked S d drawing f (whole base) c ok g 1 next
+  unfolding draw
+  rows-walked w e = record {
+    new = record { place = base + c .line * S .row; count = _; from = _; step = _ } ∷ [];
+    same = w .same base;
+    drawn = e;
+    counted = w .moved .counted;
+    few = omega arith;
+    line = w .moved .line;
+    item = w .moved .item;
+  }
+
+  pub pass-walked : PassRead S d whole c next → Walked S d drawing f (whole base) c ok f 1 next
+  unfolding draw put
+  pass-walked w = record { new = noRows ∷ []; same = w .same base; drawn = pick-same drawing f; counted = w .moved .counted; few = omega arith; line = w .moved .line; item = w .moved .item }

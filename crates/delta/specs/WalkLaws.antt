@@ -16,7 +16,7 @@ use Rattle.delta.specs.Delta.{Op, Reading, draw}
 use Rattle.delta.specs.DeltaLaws.{draw-append}
 use Rattle.delta.specs.Walk.{reading, Walked, Refused, Took, Took.took, Took.refused}
 
-pick-same : (t : Bool) (f : List ℕ) → f ≡ pick t f f
+pub pick-same : (t : Bool) (f : List ℕ) → f ≡ pick t f f
 pick-same true f = refl
 pick-same false f = refl
 

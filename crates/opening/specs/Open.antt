@@ -11,13 +11,15 @@ use Rattle.state.specs.State.{opened}
 use Rattle.state.specs.declared.Sizes.{Sizes}
 use Rattle.state.specs.declared.State.{State}
 use Rattle.iff.specs.Chunk.{bytesOf}
-use Rattle.iff.specs.Form.{chunksOf, animEnd, nextFrame}
-use Rattle.iff.specs.Pair.{findBoth}
+use Rattle.iff.specs.Form.{Frame, chunksOf, animEnd, nextFrame}
+use Rattle.iff.specs.Pair.{Pair, findBoth}
 use Rattle.bmhd.specs.Header.{header}
 use Rattle.ilbm.specs.Body.{body}
 use Rattle.opening.specs.declared.Opening.{Opening}
 use Rattle.opening.specs.declared.Opening.the-variants.{Opened, Refused}
 use Rattle.opening.specs.declared.OpenedFile.{OpenedFile}
+use Rattle.opening.specs.declared.Size.{Size}
+use Rattle.opening.specs.declared.Size.the-variants.{Bytes, Refused as SizeRefused}
 
 abbrev pub BMHD : ℕ
 BMHD = 0x424D4844
@@ -25,34 +27,52 @@ BMHD = 0x424D4844
 abbrev pub BODY : ℕ
 BODY = 0x424F4459
 
--- the first picture: its sizes, the place after its FORM and pad, and its bytes
+-- where the first picture stands: the end place of FORM ANIM, the first FORM ILBM in it, and in that its BMHD and its BODY
+pub record Places : Type 0 where
+  pub end : ℕ
+  pub form : Frame
+  pub parts : Pair
+
+-- 21 or 23 as the chunks of FORM ANIM are walked
+unfoldable pub placesIn : List ℕ → Res Places
+placesIn s =
+    nextFrame s 12 >>= λ o.
+    orRefuse 23 o >>= λ x.
+    findBoth BMHD BODY (chunksOf s x) >>= λ q.
+    orRefuse 23 q >>= λ p.
+    ok (record { end = length s; form = x; parts = p })
+
+-- 13, 21 for under 12 bytes, 22, 21 for the outer length before that
+unfoldable pub firstPlaces : List ℕ → Res Places
+firstPlaces file =
+    need (leb (length file) 2_147_483_647) 13 >>= λ _.
+    animEnd file >>= λ end.
+    placesIn (take end file)
+
+-- the contents of its BMHD and of its BODY
+abbrev pub bmhdAt : List ℕ → Places → List ℕ
+bmhdAt file p = bytesOf (chunksOf file (p .form)) (p .parts .first)
+
+abbrev pub bodyAt : List ℕ → Places → List ℕ
+bodyAt file p = bytesOf (chunksOf file (p .form)) (p .parts .second)
+
+-- the length of the first picture's frame, or what refuses it up to and including 24
+unfoldable pub firstSize : List ℕ → Res ℕ
+firstSize file = firstPlaces file >>= λ p. header (bmhdAt file p) >>= λ z. ok (z .length)
+
+-- the first picture: its sizes and its bytes
 pub record First : Type 0 where
   pub sizes : Sizes
-  pub next : ℕ
   pub picture : List ℕ
 
 -- the first picture of a BMHD and a BODY, with buffers A and B of so many bytes
-unfoldable pub firstOf : List ℕ → List ℕ → ℕ → ℕ → ℕ → Res First
-firstOf h d nx a b =
+unfoldable pub firstOf : List ℕ → List ℕ → ℕ → ℕ → Res First
+firstOf h d a b =
     header h >>= λ z.
     need (eqb a (z .length)) 12 >>= λ _.
     need (eqb b (z .length)) 12 >>= λ _.
     body (z .packed) (z .sizes) d >>= λ p.
-    ok (record { sizes = z .sizes; next = nx; picture = p })
-
--- the same of the chunks of the first FORM ILBM
-unfoldable pub firstIn : List ℕ → ℕ → ℕ → ℕ → Res First
-firstIn s nx a b =
-    findBoth BMHD BODY s >>= λ o.
-    orRefuse 23 o >>= λ p.
-    firstOf (bytesOf s (p .first)) (bytesOf s (p .second)) nx a b
-
--- the same of FORM ANIM
-unfoldable pub firstFrom : List ℕ → ℕ → ℕ → Res First
-firstFrom s a b =
-    nextFrame s 12 >>= λ o.
-    orRefuse 23 o >>= λ x.
-    firstIn (chunksOf s x) (x .next) a b
+    ok (record { sizes = z .sizes; picture = p })
 
 -- what opening fixes for all later calls: the file, the end place, the sizes, the place after frame 1, and frame 1's picture
 pub record Film : Type 0 where
@@ -62,15 +82,14 @@ pub record Film : Type 0 where
   pub start : ℕ
   pub first : List ℕ
 
-abbrev pub film : List ℕ → ℕ → First → Film
-film file end p = record { file = file; end = end; sizes = p .sizes; start = p .next; first = p .picture }
+abbrev pub film : List ℕ → ℕ → ℕ → First → Film
+film file end start p = record { file = file; end = end; sizes = p .sizes; start = start; first = p .picture }
 
 unfoldable pub opening : List ℕ → ℕ → ℕ → Res Film
 opening file a b =
-    need (leb (length file) 2_147_483_647) 13 >>= λ _.
-    animEnd file >>= λ end.
-    firstFrom (take end file) a b >>= λ p.
-    ok (film file end p)
+    firstPlaces file >>= λ p.
+    firstOf (bmhdAt file p) (bodyAt file p) a b >>= λ f.
+    ok (film file (p .end) (p .form .next) f)
 
 -- the state after it: six zeros where it is refused
 abbrev pub zeros : State
@@ -85,10 +104,14 @@ abbrev pub pictureAfter : List ℕ → Res Film → List ℕ
 pictureAfter p (ok F) = F .first
 pictureAfter p (fault n) = p
 
--- what an answer says in the paper's terms
+-- what the answers say in the paper's terms
 abbrev pub openingOf : Opening → Res (Unit {0})
 openingOf Opened = ok tt
 openingOf (Refused why) = fault (numberOf why)
+
+abbrev pub sizeOf : Size → Res ℕ
+sizeOf (Bytes n) = ok n
+sizeOf (SizeRefused why) = fault (numberOf why)
 
 -- answer, state and both buffers after an opening that comes to q
 pub record Opens (q : Res Film) (a b : List ℕ) (r : OpenedFile) (a′ b′ : List ℕ) : Type 0 where

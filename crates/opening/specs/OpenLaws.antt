@@ -1,22 +1,24 @@
 -- Laws of opening: the order of its refusals, and what is left in the buffers.
-use Prim.Native.Nat.{ℕ, _+_, _-_, _<_, _≤_}
+use Prim.Native.Nat.{ℕ, zero, suc, _+_, _-_, _<_, _≤_}
 use native.Mathlib.Nat.{add-sub-cancel-left}
 use native.Mathlib.Omega.{arith}
-use mathlib.Core.List.{List}
-use mathlib.Core.Option.{none, some}
+use mathlib.Core.List.{List, [], _∷_}
+use mathlib.Core.Option.{Option, none, some}
 use mathlib.Core.Path.{_≡_, refl, sym}
+use lib.Dec.{leb}
 use lib.ListN.{length, take, drop}
-use lib.Seq.{length-take-le}
-use borrow.Author.Tests.{eq-eqb, ne-eqb, le-leb, lt-leb}
-use Rattle.laws.specs.Result.{Res, Res.ok, Res.fault, _>>=_, answer, orKeep}
-use Rattle.laws.specs.ResultLaws.{answered, each-is, each-some}
+use lib.Seq.{length-take-le, take-take}
+use borrow.Author.Tests.{eq-eqb, ne-eqb, le-leb, lt-leb, leb-true}
+use Rattle.laws.specs.Result.{Res, Res.ok, Res.fault, _>>=_, orRefuse, answer, orKeep}
+use Rattle.laws.specs.ResultLaws.{answered, Each, Each.each, Each.no-value, each-need, each-bind, each-is, All, all-value}
 use Rattle.refusal.specs.Number.{numberOf}
 use Rattle.refusal.specs.declared.Refusal.{Refusal}
 use Rattle.state.specs.declared.State.{State}
 use Rattle.state.specs.State.{opened}
+use Rattle.iff.specs.declared.Part.{Part}
 use Rattle.iff.specs.Chunk.{contentsOf}
-use Rattle.iff.specs.Form.{animEnd, nextFrame}
-use Rattle.iff.specs.FormLaws.{Closes, anim-closes}
+use Rattle.iff.specs.Form.{Frame, chunksOf, animEnd, nextFrame}
+use Rattle.iff.specs.FormLaws.{Closes, anim-closes, Follows, frame-follows}
 use Rattle.iff.specs.Pair.{Pair, findBoth, BothLie, both-lie}
 use Rattle.bmhd.specs.declared.Header.{Header}
 use Rattle.bmhd.specs.Header.{header}
@@ -24,42 +26,171 @@ use Rattle.bmhd.specs.HeaderLaws.{header-sizes}
 use Rattle.ilbm.specs.Body.{body, picture}
 use Rattle.opening.specs.declared.Opening.the-variants.{Opened, Refused}
 use Rattle.opening.specs.declared.OpenedFile.{OpenedFile}
-use Rattle.opening.specs.Open.{BMHD, BODY, First, firstOf, firstIn, firstFrom, Film, film, opening, zeros, Opens}
+use Rattle.opening.specs.declared.Places.{Places as Found}
+use Rattle.opening.specs.declared.Places.the-variants.{At, Nowhere}
+use Rattle.opening.specs.Open.{BMHD, BODY, Places, placesIn, firstPlaces, bmhdAt, bodyAt, firstSize, First, firstOf, Film, film, opening, zeros, Opens}
 
--- a first picture in whatever file, with its end place
-pub record OpensFirst (end : ℕ) (q : Res First) (a b : List ℕ) (r : OpenedFile) (a′ b′ : List ℕ) : Type 0 where
-  pub opens : (file : List ℕ) → Opens (q >>= λ p. ok (film file end p)) a b r a′ b′
+-- what the walk's answer says in the paper's terms
+abbrev pub placesOf : Found → Res Places
+placesOf (At end nx chunks header body) = ok (record {
+  end = end;
+  form = record { start = chunks .start; size = chunks .len; next = nx };
+  parts = record { first = record { start = header .start; size = header .len }; second = record { start = body .start; size = body .len } };
+})
+placesOf (Nowhere why) = fault (numberOf why)
+
+-- a part of the chunks that stand in a part of the file
+abbrev pub partOf : List ℕ → Part → Part → List ℕ
+partOf file c p = contentsOf (contentsOf file (ok (some (record { start = c .start; size = c .len })))) (ok (some (record { start = p .start; size = p .len })))
+
+-- the walk through FORM ANIM
+module _ (s : List ℕ) where
+  pub anim-broken : {n : ℕ} → nextFrame s 12 ≡ fault n → placesIn s ≡ fault n
+  unfolding placesIn
+  anim-broken e = rw e
+
+  pub anim-empty : nextFrame s 12 ≡ ok none → placesIn s ≡ fault 23
+  unfolding placesIn
+  anim-empty e = rw e
+
+  module _ (start size nx : ℕ) (e : nextFrame s 12 ≡ ok (some (record { start = start; size = size; next = nx }))) where
+    pub form-broken : {n : ℕ} → findBoth BMHD BODY (take (start + size - start) (drop start s)) ≡ fault n → placesIn s ≡ fault n
+    unfolding placesIn
+    form-broken h = rw e (rw (rw (add-sub-cancel-left start size) at h))
+
+    pub form-missing : findBoth BMHD BODY (take (start + size - start) (drop start s)) ≡ ok none → placesIn s ≡ fault 23
+    unfolding placesIn
+    form-missing h = rw e (rw (rw (add-sub-cancel-left start size) at h))
+
+    pub form-whole : {p : Pair} → findBoth BMHD BODY (take (start + size - start) (drop start s)) ≡ ok (some p)
+        → placesIn s ≡ ok (record { end = length s; form = record { start = start; size = size; next = nx }; parts = p })
+    unfolding placesIn
+    form-whole h = rw e (rw (rw (add-sub-cancel-left start size) at h))
+
+-- the walk through the file
+module _ (file : List ℕ) where
+  pub too-long : 2_147_483_647 < length file → firstPlaces file ≡ fault 13
+  unfolding firstPlaces
+  too-long h = simp (lt-leb (length file) 2_147_483_647 h)
+
+  module _ (h : length file ≤ 2_147_483_647) where
+    pub no-anim : {n : ℕ} → animEnd file ≡ fault n → firstPlaces file ≡ fault n
+    unfolding firstPlaces
+    no-anim e = simp (le-leb (length file) 2_147_483_647 h, e)
+
+    pub anim-is : (end : ℕ) → animEnd file ≡ ok end → placesIn (take end file) ≡ firstPlaces file
+    unfolding firstPlaces
+    anim-is end e = simp (le-leb (length file) 2_147_483_647 h, e)
+
+-- where the first picture lies in the file
+pub record Lies (file : List ℕ) (p : Places) : Type 0 where
+  pub short : length file ≤ 2_147_483_647
+  pub ends : p .end ≤ length file
+  pub starts : 12 ≤ p .form .next
+  pub stops : p .form .next ≤ p .end
+  pub chunks : p .form .start + p .form .size ≤ p .form .next
+  pub parts : BothLie (chunksOf file (p .form)) (p .parts)
+
+-- a part of a part is a part of the whole
+inner : (s n e : ℕ) (f : List ℕ) → s + n ≤ e → take n (drop s (take e f)) ≡ take n (drop s f)
+inner zero n e f h = take-take n e f (omega arith)
+inner (suc s) n zero f h = absurd (omega arith)
+inner (suc s) n (suc e) [] h = refl
+inner (suc s) n (suc e) (x ∷ f) h = inner s n e f (omega arith)
+
+pub places-lie : (file : List ℕ) → Each (Lies file) (firstPlaces file)
+unfolding firstPlaces placesIn
+places-lie file =
+    each-need (leb (length file) 2_147_483_647) 13 _ λ l.
+    each-bind (anim-closes file) λ end c.
+    let n : length (take end file) ≡ end = length-take-le end file (c .most) in
+    each-bind (frame-follows (take end file) 12) (form end c (leb-true (length file) 2_147_483_647 l) n)
+  where
+    pair : (end : ℕ) (c : Closes file end) (l : length file ≤ 2_147_483_647) (n : length (take end file) ≡ end) (x : Frame) → Follows (take end file) 12 x
+        → (q : Option Pair) → All (BothLie (chunksOf (take end file) x)) q → Each (Lies file) (orRefuse 23 q >>= λ p. ok (record { end = length (take end file); form = x; parts = p }))
+    pair end c l n x k none b = no-value
+    pair end c l n x k (some p) b =
+        let i : chunksOf (take end file) x ≡ chunksOf file x = inner (x .start) (x .size) end file (omega (arith, k .holds, k .ends)) in
+        let u : length (take end file) ≤ length file = omega (arith, c .most) in
+        let v : 12 ≤ x .next = omega (arith, k .rises) in
+        each (record { short = l; ends = u; starts = v; stops = k .ends; chunks = k .holds; parts = rw i at (all-value b) })
+
+    form : (end : ℕ) (c : Closes file end) (l : length file ≤ 2_147_483_647) (n : length (take end file) ≡ end) (o : Option Frame) → All (Follows (take end file) 12) o
+        → Each (Lies file) (orRefuse 23 o >>= λ x. findBoth BMHD BODY (chunksOf (take end file) x) >>= λ q. orRefuse 23 q >>= λ p. ok (record { end = length (take end file); form = x; parts = p }))
+    form end c l n none b = no-value
+    form end c l n (some x) b = each-bind (both-lie BMHD BODY (chunksOf (take end file) x)) (pair end c l n x (all-value b))
+
+-- the contents of the two chunks, as they are lent
+module _ (file : List ℕ) {p : Places} (e : firstPlaces file ≡ ok p) where
+  lies : Lies file p
+  lies = each-is e (places-lie file)
+
+  form-is : contentsOf file (ok (some (record { start = p .form .start; size = p .form .size }))) ≡ chunksOf file (p .form)
+  form-is = let k = lies in rw (le-leb (p .form .start + p .form .size) (length file) (omega (arith, k .chunks, k .stops, k .ends)))
+
+  pub bmhd-is : contentsOf (contentsOf file (ok (some (record { start = p .form .start; size = p .form .size })))) (ok (some (p .parts .first))) ≡ bmhdAt file p
+  bmhd-is = rw form-is (rw (le-leb (p .parts .first .start + p .parts .first .size) (length (chunksOf file (p .form))) (lies .parts .first .ends)))
+
+  pub body-is : contentsOf (contentsOf file (ok (some (record { start = p .form .start; size = p .form .size })))) (ok (some (p .parts .second))) ≡ bodyAt file p
+  body-is = rw form-is (rw (le-leb (p .parts .second .start + p .parts .second .size) (length (chunksOf file (p .form))) (lies .parts .second .ends)))
+
+-- the length of the frame
+module _ (file : List ℕ) where
+  pub size-nowhere : {n : ℕ} → firstPlaces file ≡ fault n → firstSize file ≡ fault n
+  unfolding firstSize
+  size-nowhere e = rw e
+
+  pub size-header : {p : Places} (h : List ℕ) {q : Res Header} → firstPlaces file ≡ ok p
+      → h ≡ contentsOf (contentsOf file (ok (some (record { start = p .form .start; size = p .form .size })))) (ok (some (p .parts .first)))
+      → header h ≡ q → firstSize file ≡ (q >>= λ z. ok (z .length))
+  unfolding firstSize
+  size-header h {q} e i k = rw (e, sym (bmhd-is file e), sym i, k)
+
+-- a first picture in whatever file, with its end place and the place after its FORM
+pub record OpensFirst (end start : ℕ) (q : Res First) (a b : List ℕ) (r : OpenedFile) (a′ b′ : List ℕ) : Type 0 where
+  pub opens : (file : List ℕ) → Opens (q >>= λ p. ok (film file end start p)) a b r a′ b′
 
 -- a refused opening
-pub opens-refused : {q : Res Film} {why : Refusal} {r : OpenedFile} {a b : List ℕ} → q ≡ fault (numberOf why) → r ≡ record { answer = Refused why; state = zeros } → Opens q a b r a b
+opens-refused : {q : Res Film} {why : Refusal} {r : OpenedFile} {a b : List ℕ} → q ≡ fault (numberOf why) → r ≡ record { answer = Refused why; state = zeros } → Opens q a b r a b
 opens-refused e h = rw (e, h) (record { answer = refl; state = refl; left = refl; right = refl })
 
-pub first-refused : {end : ℕ} {q : Res First} {why : Refusal} {r : OpenedFile} {a b a′ : List ℕ} → q ≡ fault (numberOf why) → r ≡ record { answer = Refused why; state = zeros } → a′ ≡ a
-    → OpensFirst end q a b r a′ b
+pub first-refused : {end start : ℕ} {q : Res First} {why : Refusal} {r : OpenedFile} {a b a′ : List ℕ} → q ≡ fault (numberOf why) → r ≡ record { answer = Refused why; state = zeros } → a′ ≡ a
+    → OpensFirst end start q a b r a′ b
 first-refused e h l = rw l (record { opens = λ file. opens-refused (rw e) h })
 
 -- an opening that is taken
-pub first-opened : {end : ℕ} {q : Res First} {p : First} {s : State} {a b a′ b′ : List ℕ} → q ≡ ok p → s ≡ opened (p .sizes) (p .next) end → a′ ≡ p .picture → b′ ≡ p .picture
-    → OpensFirst end q a b (record { answer = Opened; state = s }) a′ b′
+pub first-opened : {end start : ℕ} {q : Res First} {p : First} {s : State} {a b a′ b′ : List ℕ} → q ≡ ok p → s ≡ opened (p .sizes) start end → a′ ≡ p .picture → b′ ≡ p .picture
+    → OpensFirst end start q a b (record { answer = Opened; state = s }) a′ b′
 first-opened e h l m = rw (e, h, l, m) (record { opens = λ file. record { answer = refl; state = refl; left = refl; right = refl } })
+
+-- a file that is opened
+pub opens-nowhere : (file a b : List ℕ) {why : Refusal} {r : OpenedFile} → firstPlaces file ≡ fault (numberOf why) → r ≡ record { answer = Refused why; state = zeros }
+    → Opens (opening file (length a) (length b)) a b r a b
+unfolding opening
+opens-nowhere file a b e h = opens-refused (rw e) h
+
+pub opens-at : (file a b : List ℕ) {p : Places} (h d : List ℕ) {r : OpenedFile} {a′ b′ : List ℕ} → firstPlaces file ≡ ok p → h ≡ bmhdAt file p → d ≡ bodyAt file p
+    → OpensFirst (p .end) (p .form .next) (firstOf h d (length a) (length b)) a b r a′ b′ → Opens (opening file (length a) (length b)) a b r a′ b′
+unfolding opening
+opens-at file a b h d e i j o = rw e (rw (i, j) at (o .opens file))
 
 answer-refused : {A : Type 0} (r : Res A) {n : ℕ} → answer r ≡ fault n → r ≡ fault n
 answer-refused (ok a) e = let z : _≡_ {A = ℕ} 0 1 = cc in absurd (omega arith)
 answer-refused (fault m) {n} e = let q : m ≡ n = cc in rw q
 
 -- the contents of a BMHD and of a BODY
-module _ (h d : List ℕ) (nx a b : ℕ) where
-  pub first-unread : {n : ℕ} → header h ≡ fault n → firstOf h d nx a b ≡ fault n
+module _ (h d : List ℕ) (a b : ℕ) where
+  pub first-unread : {n : ℕ} → header h ≡ fault n → firstOf h d a b ≡ fault n
   unfolding firstOf
   first-unread e = rw e
 
   module _ {z : Header} (e : header h ≡ ok z) where
-    pub first-left : (a ≡ z .length → ⊥) → firstOf h d nx a b ≡ fault 12
+    pub first-left : (a ≡ z .length → ⊥) → firstOf h d a b ≡ fault 12
     unfolding firstOf
     first-left l = simp (e, ne-eqb a (z .length) l)
 
     module _ (l : a ≡ z .length) where
-      pub first-right : (b ≡ z .length → ⊥) → firstOf h d nx a b ≡ fault 12
+      pub first-right : (b ≡ z .length → ⊥) → firstOf h d a b ≡ fault 12
       unfolding firstOf
       first-right m = simp (e, eq-eqb a (z .length) l, ne-eqb b (z .length) m)
 
@@ -68,61 +199,16 @@ module _ (h d : List ℕ) (nx a b : ℕ) where
       whole = simp (each-is e (header-sizes h), eq-eqb a (z .length) l)
 
       module _ (m : b ≡ z .length) where
-        first-is : firstOf h d nx a b ≡ (picture (z .packed) (z .sizes) d a >>= λ p. ok (record { sizes = z .sizes; next = nx; picture = p }))
+        first-is : firstOf h d a b ≡ (picture (z .packed) (z .sizes) d a >>= λ p. ok (record { sizes = z .sizes; picture = p }))
         unfolding firstOf
         first-is = rw whole (simp (e, eq-eqb a (z .length) l, eq-eqb b (z .length) m))
 
-        pub first-bad : {n : ℕ} → answer (picture (z .packed) (z .sizes) d a) ≡ fault n → firstOf h d nx a b ≡ fault n
+        pub first-bad : {n : ℕ} → answer (picture (z .packed) (z .sizes) d a) ≡ fault n → firstOf h d a b ≡ fault n
         first-bad k = rw (first-is, answer-refused (picture (z .packed) (z .sizes) d a) k)
 
         pub first-kept : (x y : List ℕ) {n : ℕ} → answer (picture (z .packed) (z .sizes) d a) ≡ fault n → x ≡ orKeep y (picture (z .packed) (z .sizes) d a) → x ≡ y
         first-kept x y k e = rw (answer-refused (picture (z .packed) (z .sizes) d a) k) at e
 
         pub first-taken : (x y : List ℕ) → answer (picture (z .packed) (z .sizes) d a) ≡ ok tt → x ≡ orKeep y (picture (z .packed) (z .sizes) d a)
-            → firstOf h d nx a b ≡ ok (record { sizes = z .sizes; next = nx; picture = x })
+            → firstOf h d a b ≡ ok (record { sizes = z .sizes; picture = x })
         first-taken x y k e = let w = answered (picture (z .packed) (z .sizes) d a) (sym k) in rw (first-is, e, w .1)
-
--- the chunks of the first FORM ILBM
-module _ (s : List ℕ) (nx a b : ℕ) where
-  pub form-broken : {n : ℕ} → findBoth BMHD BODY s ≡ fault n → firstIn s nx a b ≡ fault n
-  unfolding firstIn
-  form-broken e = rw e
-
-  pub form-missing : findBoth BMHD BODY s ≡ ok none → firstIn s nx a b ≡ fault 23
-  unfolding firstIn
-  form-missing e = rw e
-
-  pub form-is : {p : Pair} → findBoth BMHD BODY s ≡ ok (some p) → firstOf (contentsOf s (ok (some (p .first)))) (contentsOf s (ok (some (p .second)))) nx a b ≡ firstIn s nx a b
-  unfolding firstIn
-  form-is {p} e =
-      let l : BothLie s p = each-some e (both-lie BMHD BODY s) in
-      rw e (rw (le-leb (p .first .start + p .first .size) (length s) (l .first .ends), le-leb (p .second .start + p .second .size) (length s) (l .second .ends)) refl)
-
--- FORM ANIM
-module _ (s : List ℕ) (a b : ℕ) where
-  pub anim-broken : {n : ℕ} → nextFrame s 12 ≡ fault n → firstFrom s a b ≡ fault n
-  unfolding firstFrom
-  anim-broken e = rw e
-
-  pub anim-empty : nextFrame s 12 ≡ ok none → firstFrom s a b ≡ fault 23
-  unfolding firstFrom
-  anim-empty e = rw e
-
-  pub anim-is : (start size nx : ℕ) → nextFrame s 12 ≡ ok (some (record { start = start; size = size; next = nx })) → firstIn (take (start + size - start) (drop start s)) nx a b ≡ firstFrom s a b
-  unfolding firstFrom
-  anim-is start size nx e = rw (e, add-sub-cancel-left start size)
-
--- the file
-module _ (file : List ℕ) (a b : ℕ) where
-  pub too-long : 2_147_483_647 < length file → opening file a b ≡ fault 13
-  unfolding opening
-  too-long h = simp (lt-leb (length file) 2_147_483_647 h)
-
-  module _ (h : length file ≤ 2_147_483_647) where
-    pub no-anim : {n : ℕ} → animEnd file ≡ fault n → opening file a b ≡ fault n
-    unfolding opening
-    no-anim e = simp (le-leb (length file) 2_147_483_647 h, e)
-
-    pub opening-is : (end : ℕ) → animEnd file ≡ ok end → (firstFrom (take end file) a b >>= λ p. ok (film file (length (take end file)) p)) ≡ opening file a b
-    unfolding opening
-    opening-is end e = let c : Closes file end = each-is e (anim-closes file) in simp (le-leb (length file) 2_147_483_647 h, e, length-take-le end file (c .most))

@@ -1,15 +1,16 @@
-// Opening: both picture buffers get the first picture of a file.
+// Opening: both picture buffers get the first picture of a file. The length of its frame is asked beforehand.
 ghost use mathlib.Core.Path.{_≡_};
 ghost use lib.ListN.{length};
 ghost use Rattle.opening.specs.declared.Opening.the-variants.{Refused};
-ghost use Rattle.opening.specs.Open.{firstOf, firstIn, firstFrom, zeros, MeetsOpen};
-ghost use Rattle.opening.specs.OpenLaws.{OpensFirst};
+ghost use Rattle.opening.specs.Open.{placesIn, firstPlaces, firstSize, firstOf, zeros, sizeOf, MeetsOpen};
+ghost use Rattle.opening.specs.OpenLaws.{placesOf, partOf, OpensFirst};
 use bmhd::Bmhd;
 use buffer::copy;
 use iff::Both;
 use iff::Form;
 use iff::Found;
 use iff::Outer;
+use iff::Part;
 use ilbm::Unpacked;
 use refusal::Refusal;
 use state::Sizes;
@@ -31,6 +32,24 @@ pub struct OpenedFile {
     pub state: State,
 }
 
+// The length of the first picture's frame, or why there is none.
+pub enum Size {
+    Bytes(usize),
+    Refused(Refusal),
+}
+
+// Where the first picture stands: the end of FORM ANIM, the place past its FORM, the chunks of that, and in them BMHD and BODY.
+enum Places {
+    At {
+        end: usize,
+        next: usize,
+        chunks: Part,
+        header: Part,
+        body: Part,
+    },
+    Nowhere(Refusal),
+}
+
 fn refused(why: Refusal) -> OpenedFile
     ensures { λ r. ⌜ r ≡ record { answer = Refused why; state = zeros } ⌝ }
 {
@@ -50,6 +69,89 @@ fn refused(why: Refusal) -> OpenedFile
     }
 }
 
+// Finds the first picture in FORM ANIM.
+fn places_in(anim: &[u8]) -> Places
+    ensures { λ r. ⌜ placesOf r ≡ placesIn (now (anim .entry)) ⌝ }
+{
+    let f = iff::next_form(anim, 12);
+    match f {
+        Form::Faulty(why) => Places::Nowhere(why),
+        Form::Last => Places::Nowhere(Refusal::NoPicture),
+        Form::Ilbm { start, len, next } => {
+            let stop = start + len;
+            let p = iff::find_both(&anim[start..stop], BMHD, BODY);
+            match p {
+                Both::Broken(why) => Places::Nowhere(why),
+                Both::Missing => Places::Nowhere(Refusal::NoPicture),
+                Both::At { first, second } => Places::At {
+                    end: anim.len(),
+                    next,
+                    chunks: Part { start, len },
+                    header: first,
+                    body: second,
+                },
+            }
+        }
+    }
+}
+
+// Finds the first picture of a file.
+fn first_places(file: &[u8]) -> Places
+    ensures { λ r. ⌜ placesOf r ≡ firstPlaces (now (file .entry)) ⌝ }
+{
+    if State::MAX_PLACE < file.len() {
+        return Places::Nowhere(Refusal::FileTooLong);
+    }
+    let o = iff::anim_end(file);
+    match o {
+        Outer::Unread(why) => Places::Nowhere(why),
+        Outer::Ends(end) => places_in(&file[..end]),
+    }
+}
+
+// The contents of a chunk of the first picture, as a part of the file.
+fn part_of(file: &[u8], chunks: Part, part: Part) -> &[u8]
+    ensures { λ r. ⌜ now r ≡ partOf (now (file .entry)) chunks part ⌝ }
+{
+    let form = iff::contents(
+        file,
+        Found::At {
+            start: chunks.start,
+            len: chunks.len,
+        },
+    );
+    iff::contents(
+        form,
+        Found::At {
+            start: part.start,
+            len: part.len,
+        },
+    )
+}
+
+// The length of the first picture's frame, or what refuses it up to and including its BMHD.
+pub fn frame_size(file: &[u8]) -> Size
+    ensures { λ r. ⌜ sizeOf r ≡ firstSize (now (file .entry)) ⌝ }
+{
+    let p = first_places(file);
+    match p {
+        Places::Nowhere(why) => Size::Refused(why),
+        Places::At {
+            end: _,
+            next: _,
+            chunks,
+            header,
+            body: _,
+        } => {
+            let h = bmhd::read_header(part_of(file, chunks, header));
+            match h {
+                Bmhd::Unread(why) => Size::Refused(why),
+                Bmhd::Picture(picture) => Size::Bytes(picture.length),
+            }
+        }
+    }
+}
+
 // Opens with the contents of a BMHD and of a BODY.
 fn open_picture(
     header: &[u8],
@@ -59,7 +161,7 @@ fn open_picture(
     a: &mut [u8],
     b: &mut [u8],
 ) -> OpenedFile
-    ensures { λ r. ⌜ OpensFirst end (firstOf (now (header .entry)) (now (body .entry)) next (length (now (a .entry))) (length (now (b .entry)))) (now (a .entry)) (now (b .entry)) r (now (a .exit)) (now (b .exit)) ⌝ }
+    ensures { λ r. ⌜ OpensFirst end next (firstOf (now (header .entry)) (now (body .entry)) (length (now (a .entry))) (length (now (b .entry)))) (now (a .entry)) (now (b .entry)) r (now (a .exit)) (now (b .exit)) ⌝ }
 {
     let h = bmhd::read_header(header);
     match h {
@@ -86,62 +188,26 @@ fn open_picture(
     }
 }
 
-// Opens with the first FORM ILBM, whose chunks are lent.
-fn open_form(chunks: &[u8], next: usize, end: usize, a: &mut [u8], b: &mut [u8]) -> OpenedFile
-    ensures { λ r. ⌜ OpensFirst end (firstIn (now (chunks .entry)) next (length (now (a .entry))) (length (now (b .entry)))) (now (a .entry)) (now (b .entry)) r (now (a .exit)) (now (b .exit)) ⌝ }
-{
-    let f = iff::find_both(chunks, BMHD, BODY);
-    match f {
-        Both::Broken(why) => refused(why),
-        Both::Missing => refused(Refusal::NoPicture),
-        Both::At { first, second } => {
-            let header = iff::contents(
-                chunks,
-                Found::At {
-                    start: first.start,
-                    len: first.len,
-                },
-            );
-            let body = iff::contents(
-                chunks,
-                Found::At {
-                    start: second.start,
-                    len: second.len,
-                },
-            );
-            open_picture(header, body, next, end, a, b)
-        }
-    }
-}
-
-// Opens FORM ANIM.
-fn open_anim(anim: &[u8], a: &mut [u8], b: &mut [u8]) -> OpenedFile
-    ensures { λ r. ⌜ OpensFirst (length (now (anim .entry))) (firstFrom (now (anim .entry)) (length (now (a .entry))) (length (now (b .entry)))) (now (a .entry)) (now (b .entry)) r (now (a .exit)) (now (b .exit)) ⌝ }
-{
-    let f = iff::next_form(anim, 12);
-    match f {
-        Form::Faulty(why) => refused(why),
-        Form::Last => refused(Refusal::NoPicture),
-        Form::Ilbm { start, len, next } => {
-            let stop = start + len;
-            open_form(&anim[start..stop], next, anim.len(), a, b)
-        }
-    }
-}
-
 // Opens a file: A and B get its first picture, all or nothing.
 pub fn open(file: &[u8], a: &mut [u8], b: &mut [u8]) -> OpenedFile
     ensures { λ r. ⌜ MeetsOpen (now (file .entry)) (now (a .entry)) (now (b .entry)) r (now (a .exit)) (now (b .exit)) ⌝ }
 {
-    if State::MAX_PLACE < file.len() {
-        return refused(Refusal::FileTooLong);
-    }
-    let o = iff::anim_end(file);
-    match o {
-        Outer::Unread(why) => refused(why),
-        Outer::Ends(end) => {
-            let anim = &file[..end];
-            open_anim(anim, a, b)
-        }
+    let p = first_places(file);
+    match p {
+        Places::Nowhere(why) => refused(why),
+        Places::At {
+            end,
+            next,
+            chunks,
+            header,
+            body,
+        } => open_picture(
+            part_of(file, chunks, header),
+            part_of(file, chunks, body),
+            next,
+            end,
+            a,
+            b,
+        ),
     }
 }

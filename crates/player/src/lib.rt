@@ -13,8 +13,8 @@ use delta::Applied;
 use frame::Next;
 use iff::Found;
 use record::Recorded;
-use record::Restored;
 use refusal::Refusal;
+use restore::Restored;
 use state::Length;
 use state::State;
 
@@ -214,7 +214,7 @@ fn take_back(state: State, shown: &mut [u8], bytes: &[u8]) -> SteppedBack
     ensures { λ r. ⌜ Restores state (now (shown .entry)) (now (bytes .entry)) r (now (shown .exit)) ⌝ }
 {
     let sizes = state.sizes;
-    let p = record::restore(bytes, shown, state.frame, state.next);
+    let p = restore::restore(bytes, shown, state.frame, state.next);
     match p {
         Restored::Kept(why) => SteppedBack {
             answer: Back::Refused(why),

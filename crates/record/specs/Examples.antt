@@ -5,8 +5,8 @@ use mathlib.Core.Option.{none, some}
 use mathlib.Core.Path.{_≡_, refl}
 use Rattle.laws.specs.Result.{Res.ok, Res.fault}
 use Rattle.number.specs.Number.{readNumber, groups, lastGroup, writeNumber, writeGroups}
-use Rattle.runs.specs.Runs.{kept, changed, runsOf}
-use Rattle.record.specs.RunList.{changes, runBytes, runsBytes, listBytes, readRun, readRuns, readList, differ, putBack, runsBack, beforeOf}
+use Rattle.runs.specs.Runs.{kept, changed, runsOf, differ}
+use Rattle.record.specs.RunList.{changes, runBytes, runsBytes, listBytes, readRun, readRuns, readList, putBack, runsBack, beforeOf}
 use Rattle.record.specs.Record.{recordBytes, measure, written, pastOf, restored}
 
 zeros : List ℕ

@@ -1,12 +1,9 @@
 pub mod RunList
 pub mod Record
 pub mod Walk
-pub mod StretchLaws
 pub mod RunLaws
 pub mod PutLaws
-pub mod ReadLaws
-pub mod BackLaws
 pub mod RecordLaws
-pub mod RestoreLaws
 pub mod RoundLaws
+pub mod LengthLaws
 pub mod Examples

@@ -12,8 +12,6 @@ use Rattle.runs.specs.Runs.{runsOf}
 use Rattle.record.specs.RunList.{changes, listBytes, beforeOf}
 use Rattle.record.specs.declared.Recorded.{Recorded}
 use Rattle.record.specs.declared.Recorded.the-variants.{Written, Refused}
-use Rattle.record.specs.declared.Restored.{Restored}
-use Rattle.record.specs.declared.Restored.the-variants.{Back, Kept}
 
 -- the bytes of a record
 unfoldable pub recordBytes : ℕ → ℕ → List ℕ → List ℕ → List ℕ
@@ -75,11 +73,7 @@ abbrev pub placeOf : Res Past → Res ℕ
 placeOf (ok p) = ok (p .place)
 placeOf (fault n) = fault n
 
--- what the answers say in the paper's terms
+-- what the answer says in the paper's terms
 abbrev pub recordedOf : Recorded → Res Measure
 recordedOf (Written length changed) = ok (record { length = length; changed = changed })
 recordedOf (Refused why) = fault (numberOf why)
-
-abbrev pub restoredOf : Restored → Res ℕ
-restoredOf (Back place) = ok place
-restoredOf (Kept why) = fault (numberOf why)

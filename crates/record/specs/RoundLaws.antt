@@ -7,37 +7,23 @@ use mathlib.Core.List.{List, [], _∷_, _++_, append-assoc, append-nil}
 use mathlib.Core.Option.{Option, none, some}
 use mathlib.Core.Path.{_≡_, refl, sym, ap, _∙_}
 use lib.Dec.{eqb}
-use lib.ListN.{length, take, drop, length-append, length-take, length-drop}
+use lib.ListN.{length, take, drop, length-append}
 use lib.Seq.{take-append-seam, drop-append-seam}
 use borrow.Author.Tests.{lt-ltb, le-leb, eqb-true, eqb-false}
 use Rattle.laws.specs.Result.{pick, _>>?_, given}
-use Rattle.laws.specs.ResultLaws.{All, all-some, all-none}
-use Rattle.number.specs.Number.{readNumber}
 use Rattle.number.specs.NumberLaws.{read-write}
-use Rattle.runs.specs.Runs.{Run, kept, changed, runsOf}
-use Rattle.record.specs.RunList.{Before, changes, runBytes, runsBytes, listBytes, readRun, readRuns, readList, differ, putBack, runsBack, beforeOf}
-use Rattle.record.specs.Record.{Past, recordBytes, pastOf}
-use Rattle.runs.specs.RunLaws.{runs-kept, runs-changed}
-use Rattle.record.specs.StretchLaws.{by-test}
-use Rattle.record.specs.ReadLaws.{differ-more, differ-stop}
-
-false-true : {A : Type 0} → false ≡ true → A
-false-true e = let z : _≡_ {A = ℕ} 0 1 = cc in absurd (omega arith)
+use Rattle.runs.specs.Runs.{Run, kept, changed, runsOf, differ}
+use Rattle.runs.specs.RunLaws.{runs-kept, runs-changed, changed-joins, changed-begins}
+use Rattle.runs.specs.StretchLaws.{by-test}
+use Rattle.runs.specs.DifferLaws.{differ-more}
+use Rattle.record.specs.RunList.{changes, runBytes, runsBytes, listBytes, readRun, readRuns, readList, putBack, runsBack, beforeOf}
+use Rattle.record.specs.Record.{recordBytes, pastOf}
 
 -- how many places differ
 unfoldable pub differing : List ℕ → List ℕ → ℕ
 differing [] new = 0
 differing (a ∷ old) [] = 0
 differing (a ∷ old) (b ∷ new) = pick (eqb a b) (differing old new) (suc (differing old new))
-
--- a changed byte joins the run that begins at once, or is one by itself
-changed-joins : (a : ℕ) (r : Run) (rs : List Run) → eqb (r .gap) 0 ≡ true → changed a (r ∷ rs) ≡ record { gap = 0; old = a ∷ r .old } ∷ rs
-unfolding changed
-changed-joins a r rs e = rw (e, changed)
-
-changed-apart : (a : ℕ) (r : Run) (rs : List Run) → eqb (r .gap) 0 ≡ false → changed a (r ∷ rs) ≡ record { gap = 0; old = a ∷ [] } ∷ r ∷ rs
-unfolding changed
-changed-apart a r rs e = rw (e, changed)
 
 -- two buffers byte by byte: what holds of none, and goes on over a kept and over a changed byte, holds of their runs
 module _ (P : List ℕ → List ℕ → List Run → Type 0) (at-end : (new : List ℕ) → P [] new []) (at-end-too : (a : ℕ) (old : List ℕ) → P (a ∷ old) [] [])
@@ -59,7 +45,7 @@ changes-kept (r ∷ rs) = refl
 changes-changed : (a : ℕ) (rs : List Run) → changes (changed a rs) ≡ suc (changes rs)
 changes-changed a [] = unfold changes changed in refl
 changes-changed a (r ∷ rs) =
-    by-test true (eqb (r .gap) 0) (λ e. rw (changed-joins a r rs e) (unfold changes in suc-add (length (r .old)) (changes rs))) (λ e. rw (changed-apart a r rs e) (unfold changes in omega arith))
+    by-test true (eqb (r .gap) 0) (λ e. rw (changed-joins a r rs e) (unfold changes in suc-add (length (r .old)) (changes rs))) (λ e. rw (changed-begins a r rs e) (unfold changes in omega arith))
 
 pub changes-runs : (old new : List ℕ) → changes (runsOf old new) ≡ differing old new
 changes-runs =
@@ -103,7 +89,7 @@ back-changed a b [] f e = unfold changed in back-apart a b [] f e
 back-changed a b (r ∷ rs) f e =
     by-test true (eqb (r .gap) 0)
     (λ g. rw (changed-joins a r rs g) (back-joins a b r rs f e (eqb-true (r .gap) 0 g)))
-    (λ g. rw (changed-apart a r rs g) (back-apart a b (r ∷ rs) f e))
+    (λ g. rw (changed-begins a r rs g) (back-apart a b (r ∷ rs) f e))
 
 -- the runs lead back
 pub runs-back : (old new : List ℕ) → length old ≡ length new → putBack (runsOf old new) new ≡ some old
@@ -145,7 +131,7 @@ fit-changed a room [] h = unfold Fit changed in (omega arith, omega arith, omega
 fit-changed a room (r ∷ rs) h =
     by-test true (eqb (r .gap) 0)
     (λ g. rw (changed-joins a r rs g) (fit-joins a room r rs (eqb-true (r .gap) 0 g) h))
-    (λ g. rw (changed-apart a r rs g) (fit-apart a room r rs (pos-of-ne-zero (eqb-false (r .gap) 0 g)) h))
+    (λ g. rw (changed-begins a r rs g) (fit-apart a room r rs (pos-of-ne-zero (eqb-false (r .gap) 0 g)) h))
 
 pub fit-runs : (old new : List ℕ) → Fit 0 (length new) (runsOf old new)
 fit-runs =
@@ -160,7 +146,7 @@ count-kept (r ∷ rs) = refl
 
 count-changed : (a : ℕ) (rs : List Run) → length (changed a rs) ≤ suc (length rs)
 count-changed a [] = unfold changed in omega arith
-count-changed a (r ∷ rs) = by-test true (eqb (r .gap) 0) (λ g. rw (changed-joins a r rs g) (omega arith)) (λ g. rw (changed-apart a r rs g) (omega arith))
+count-changed a (r ∷ rs) = by-test true (eqb (r .gap) 0) (λ g. rw (changed-joins a r rs g) (omega arith)) (λ g. rw (changed-begins a r rs g) (omega arith))
 
 count-runs : (old new : List ℕ) → length (runsOf old new) ≤ length new
 count-runs =
@@ -196,42 +182,3 @@ unfolding pastOf recordBytes
 past-record n p old new hn hp l h =
     let e : beforeOf (listBytes (runsOf old new)) new ≡ some (record { buffer = old; rest = [] }) = rw append-nil at (list-back old new [] l (omega arith)) in
     simp (append-assoc, read-write, e)
-
--- what restoring gives is as long as what was shown
-differ-short : (old f : List ℕ) → differ old f ≡ true → length old ≤ length f
-differ-short [] f e = omega arith
-differ-short (a ∷ old) [] e = let z : false ≡ true = unfold differ in e in false-true z
-differ-short (a ∷ old) (b ∷ f) e =
-    by-test false (eqb a b) (λ d. let h = differ-short old f (sym (differ-more a b old f d) ∙ e) in omega arith) (λ d. false-true (sym (differ-stop a b old f d) ∙ e))
-
--- what holds of each value of a chain
-all-then : {A B : Type 0} {P : A → Type 0} {Q : B → Type 0} {x : Option A} {f : A → Option B} → All P x → ((a : A) → P a → All Q (f a)) → All Q (x >>? f)
-all-then (all-some {a = a} p) q = q a p
-all-then all-none q = all-none
-
-all-bind : {A B : Type 0} {Q : B → Type 0} (x : Option A) (f : A → Option B) → ((a : A) → All Q (f a)) → All Q (x >>? f)
-all-bind (some a) f q = q a
-all-bind none f q = all-none
-
-all-given : {B : Type 0} {Q : B → Type 0} (t : Bool) (f : Unit {0} → Option B) → (t ≡ true → All Q (f tt)) → All Q (given t >>? f)
-all-given true f q = q refl
-all-given false f q = all-none
-
-spliced : (g : ℕ) (f old t : List ℕ) → length t ≡ length (drop (g + length old) f) → length old ≤ length (drop g f) → length (take g f ++ old ++ t) ≡ length f
-spliced g f old t e h = simp (length-append, length-take) (omega (arith, e, h, length-drop (g + length old) f, length-drop g f))
-
-back-length : (rs : List Run) (f : List ℕ) → All (λ t. length t ≡ length f) (putBack rs f)
-unfolding putBack
-back-length [] f = all-some refl
-back-length (r ∷ rs) f =
-    let ih = back-length rs (drop (r .gap + length (r .old)) f) in
-    all-given (differ (r .old) (drop (r .gap) f)) _ (λ e. all-then ih (λ t q. all-some (spliced (r .gap) f (r .old) t q (differ-short (r .old) (drop (r .gap) f) e))))
-
-before-length : (s shown : List ℕ) → All (λ (b : Before). length (b .buffer) ≡ length shown) (beforeOf s shown)
-unfolding beforeOf runsBack
-before-length s shown = all-bind (readList (length shown) s) _ (λ m. all-then (back-length (m .runs) shown) (λ t q. all-some q))
-
-pub past-length : (bytes shown : List ℕ) → All (λ (p : Past). length (p .picture) ≡ length shown) (pastOf bytes shown)
-unfolding pastOf
-past-length bytes shown =
-    all-bind (readNumber bytes) _ (λ f. all-bind (readNumber (f .rest)) _ (λ p. all-then (before-length (p .rest) shown) (λ b q. all-given (eqb (length (b .rest)) 0) _ (λ e. all-some q))))

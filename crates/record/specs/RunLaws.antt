@@ -1,14 +1,12 @@
--- Laws of runs: how long they are written, that they are read back, and that they lead from the new bytes to the old ones.
+-- Laws of the next run of two pictures: how it is written, and what it adds to the runs behind it.
 use Prim.Native.Nat.{ℕ, suc, _+_}
-use native.Mathlib.Omega.{arith}
-use mathlib.Core.List.{List, [], _++_}
+use mathlib.Core.List.{List, _++_}
 use mathlib.Core.Path.{_≡_, ap, _∙_}
-use lib.ListN.{length, take, drop, length-append, length-drop}
-use lib.Seq.{length-take-le}
+use lib.ListN.{length, take, drop, length-append}
 use Rattle.number.specs.Number.{writeNumber}
 use Rattle.runs.specs.Runs.{Run, runsOf}
+use Rattle.runs.specs.NextLaws.{RunAhead, ahead-length}
 use Rattle.record.specs.RunList.{changes, runBytes, runsBytes}
-use Rattle.record.specs.Walk.{RunAhead}
 
 -- the length of a run
 pub run-length : (r : Run) → length (runBytes r) ≡ length (writeNumber (r .gap)) + length (writeNumber (length (r .old))) + length (r .old)
@@ -17,15 +15,12 @@ run-length r = simp length-append
 
 -- the next run, in the numbers that the runs come to
 module _ {old new : List ℕ} {at gap count : ℕ} (a : RunAhead old new at gap count) where
-  pub ahead-length : length (take count (drop (at + gap) old)) ≡ count
-  ahead-length = length-take-le count (drop (at + gap) old) (omega (arith, length-drop (at + gap) old, a .inside))
-
   pub ahead-runs : length (runsOf (drop at old) (drop at new)) ≡ suc (length (runsOf (drop (at + (gap + count)) old) (drop (at + (gap + count)) new)))
   ahead-runs = ap length (a .runs)
 
   pub ahead-changes : changes (runsOf (drop at old) (drop at new)) ≡ count + changes (runsOf (drop (at + (gap + count)) old) (drop (at + (gap + count)) new))
   unfolding changes
-  ahead-changes = rw (a .runs, changes, ahead-length)
+  ahead-changes = rw (a .runs, changes, ahead-length a)
 
   pub ahead-bytes : runsBytes (runsOf (drop at old) (drop at new))
       ≡ runBytes (record { gap = gap; old = take count (drop (at + gap) old) }) ++ runsBytes (runsOf (drop (at + (gap + count)) old) (drop (at + (gap + count)) new))
@@ -33,7 +28,7 @@ module _ {old new : List ℕ} {at gap count : ℕ} (a : RunAhead old new at gap 
   ahead-bytes = rw (a .runs, runsBytes)
 
   pub ahead-size : length (runBytes (record { gap = gap; old = take count (drop (at + gap) old) })) ≡ length (writeNumber gap) + length (writeNumber count) + count
-  ahead-size = run-length (record { gap = gap; old = take count (drop (at + gap) old) }) ∙ rw ahead-length
+  ahead-size = run-length (record { gap = gap; old = take count (drop (at + gap) old) }) ∙ rw (ahead-length a)
 
   pub ahead-bytes-length : length (runsBytes (runsOf (drop at old) (drop at new)))
       ≡ length (writeNumber gap) + length (writeNumber count) + count + length (runsBytes (runsOf (drop (at + (gap + count)) old) (drop (at + (gap + count)) new)))

@@ -2,14 +2,13 @@
 -- runs, then each run: the unchanged bytes since the previous run, the count, the old bytes. It is malformed if it ends early,
 -- a number is malformed, a gap after the first is 0, a count is 0, or a run passes the end.
 use Prim.Native.Nat.{ℕ, zero, suc, _+_, _-_}
-use mathlib.Core.Bool.{Bool, true, false}
 use mathlib.Core.List.{List, [], _∷_, _++_}
 use mathlib.Core.Option.{Option, some}
-use lib.Dec.{leb, ltb, eqb}
+use lib.Dec.{leb, ltb}
 use lib.ListN.{length, take, drop}
 use Rattle.laws.specs.Result.{_>>?_, given}
 use Rattle.number.specs.Number.{readNumber, writeNumber}
-use Rattle.runs.specs.Runs.{Run}
+use Rattle.runs.specs.Runs.{Run, differ}
 
 -- the number of bytes that changed
 unfoldable pub changes : List Run → ℕ
@@ -59,12 +58,6 @@ readRuns (suc k) least room s =
 -- a run list for a buffer of size bytes
 unfoldable pub readList : ℕ → List ℕ → Option Runs
 readList size s = readNumber s >>? λ n. readRuns (n .value) 0 size (n .rest)
-
--- no old byte equals the one that it replaces
-unfoldable pub differ : List ℕ → List ℕ → Bool
-differ [] f = true
-differ (a ∷ old) [] = false
-differ (a ∷ old) (b ∷ f) = elim (eqb a b) [ true ↦ false | false ↦ differ old f ]
 
 -- the buffer with the old bytes put back, or none if an old byte equals the one that it replaces
 unfoldable pub putBack : List Run → List ℕ → Option (List ℕ)

@@ -9,7 +9,7 @@ use lib.Dec.{eqb}
 use lib.ListN.{length, take, drop}
 use borrow.Author.Tests.{eqb-true}
 use Rattle.runs.specs.Runs.{Run, kept, changed, runsOf}
-use Rattle.runs.specs.RunLaws.{runs-kept, runs-changed}
+use Rattle.runs.specs.RunLaws.{runs-kept, runs-changed, changed-joins, changed-begins}
 
 -- a list with the old elements of its runs
 unfoldable pub patch : List Run → List ℕ → List ℕ
@@ -20,14 +20,6 @@ patch-kept : (b : ℕ) (rs : List Run) (f : List ℕ) → patch (kept rs) (b ∷
 unfolding patch kept
 patch-kept b [] f = refl
 patch-kept b (r ∷ rs) f = rw (suc-add (r .gap) (length (r .old)))
-
-changed-joins : (a : ℕ) (r : Run) (rs : List Run) → eqb (r .gap) 0 ≡ true → changed a (r ∷ rs) ≡ record { gap = 0; old = a ∷ r .old } ∷ rs
-unfolding changed
-changed-joins a r rs e = rw (e, changed)
-
-changed-begins : (a : ℕ) (r : Run) (rs : List Run) → eqb (r .gap) 0 ≡ false → changed a (r ∷ rs) ≡ record { gap = 0; old = a ∷ [] } ∷ r ∷ rs
-unfolding changed
-changed-begins a r rs e = rw (e, changed)
 
 patch-changed : (a b : ℕ) (rs : List Run) (f : List ℕ) → patch (changed a rs) (b ∷ f) ≡ a ∷ patch rs f
 unfolding patch

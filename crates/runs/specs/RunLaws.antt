@@ -20,6 +20,15 @@ pub runs-changed : (a b : ℕ) (old new : List ℕ) → eqb a b ≡ false → ru
 unfolding runsOf
 runs-changed a b old new e = rw (e, runsOf)
 
+-- a changed element joins the run that begins at once, or begins one
+pub changed-joins : (a : ℕ) (r : Run) (rs : List Run) → eqb (r .gap) 0 ≡ true → changed a (r ∷ rs) ≡ record { gap = 0; old = a ∷ r .old } ∷ rs
+unfolding changed
+changed-joins a r rs e = rw (e, changed)
+
+pub changed-begins : (a : ℕ) (r : Run) (rs : List Run) → eqb (r .gap) 0 ≡ false → changed a (r ∷ rs) ≡ record { gap = 0; old = a ∷ [] } ∷ r ∷ rs
+unfolding changed
+changed-begins a r rs e = rw (e, changed)
+
 -- the runs from a place of two lists on
 unfoldable pub runsAt : List ℕ → List ℕ → ℕ → List Run
 runsAt old new i = runsOf (drop i old) (drop i new)

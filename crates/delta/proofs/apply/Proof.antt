@@ -1,11 +1,9 @@
--- `delta::apply`: the checks in the definition's order; a walk that only checks, and then the same walk that draws.
+-- `delta::apply`: the checks of the sizes and the two buffers, in the definition's order; then the delta decides.
 use mathlib.Core.Path.{sym, _∙_}
 use Rattle.laws.specs.ResultLaws.{told, each-is}
-use Rattle.laws.specs.Store.{over-whole}
 use Rattle.state.specs.State.{lengthOf}
 use Rattle.state.specs.StateLaws.{sizes-sound}
-use Rattle.delta.specs.WalkLaws.{took-next, took-faulty}
-use Rattle.delta.specs.ApplyLaws.{planes-sound, frame-limits, frame-picture, frame-work, frame-delta, applies-fault, applies-refused, applies-drawn}
+use Rattle.delta.specs.ApplyLaws.{planes-sound, frame-limits, frame-picture, frame-work, frame-delta, applies-fault, applies-built, applies-kept}
 use borrow.Author.Needs.{needs}
 use Rattle.delta.proofs.apply.Statement.{statement}
 use Rattle.delta.proofs.apply.Tie as tie
@@ -28,20 +26,17 @@ returns-2 c = applies-fault (frame-work _ _ _ _ _ (told lengthOf (c .before .bef
 shape-of-requires : tie.Need-shape-of-requires
 shape-of-requires c κs = search needs
 
-take-delta-requires : tie.Need-take-delta-requires
-take-delta-requires c κs = planes-sound (c .before .before .before .before .before .before .before .before .before .before .before .args .items) (c .before .shape-of .ensures) (each-is (told lengthOf (c .before .before .before .before .before .before .before .frame-length .ensures) (c .before .before .before .before .before .l2 .given .1)) (sizes-sound (c .before .before .before .before .before .before .before .before .before .before .before .args .sizes))) (c .before .before .if2 .left)
+build-requires : tie.Need-build-requires
+build-requires c κs =
+    let a = c .before .before .before .before .before .before .before .before .before .before .before .args in
+    let l = told lengthOf (c .before .before .before .before .before .before .before .frame-length .ensures) (c .before .before .before .before .before .l2 .given .1) in
+    (planes-sound (a .items) (c .shape-of .ensures) (each-is l (sizes-sound (a .sizes))) (c .before .before .if2 .left), c .before .before .before .if1 .left ∙ sym (c .before .before .if2 .left))
 
-enum-known-checked : tie.Need-enum-known-checked
-enum-known-checked c = search needs
+enum-known-b : tie.Need-enum-known-b
+enum-known-b c = search needs
 
-enum-known-checked-2 : tie.Need-enum-known-checked-2
-enum-known-checked-2 c = search needs
-
-copy-requires : tie.Need-copy-requires
-copy-requires c κs = search needs
-
-take-delta-requires-2 : tie.Need-take-delta-requires-2
-take-delta-requires-2 c κs = planes-sound (c .before .before .before .before .before .before .before .before .before .before .before .before .before .before .before .before .before .before .before .before .before .before .args .items) (c .before .before .before .before .before .before .before .before .before .before .before .before .shape-of .ensures) (each-is (told lengthOf (c .before .before .before .before .before .before .before .before .before .before .before .before .before .before .before .before .before .before .frame-length .ensures) (c .before .before .before .before .before .before .before .before .before .before .before .before .before .before .before .before .l2 .given .1)) (sizes-sound (c .before .before .before .before .before .before .before .before .before .before .before .before .before .before .before .before .before .before .before .before .before .before .args .sizes))) (c .before .before .before .copy .kept .0 ∙ c .before .before .before .before .before .before .before .before .before .before .take-delta .kept .0 ∙ c .before .before .before .before .before .before .before .before .before .before .before .before .before .if2 .left)
+enum-known-b-2 : tie.Need-enum-known-b-2
+enum-known-b-2 c = search needs
 
 returns-3 : tie.Need-returns-3
 returns-3 c = applies-fault (frame-limits _ _ _ _ _ (told lengthOf (c .before .before .before .frame-length .ensures) (c .before .l .given .1)))
@@ -50,15 +45,13 @@ same-length : tie.Need-same-length
 same-length c = search needs
 
 returns-4 : tie.Need-returns-4
-returns-4 c = applies-refused (c .before .before .before .before .before .before .before .shape-of .ensures) (frame-delta _ _ _ _ _ (told lengthOf (c .before .before .before .before .before .before .before .before .before .before .before .before .before .frame-length .ensures) (c .before .before .before .before .before .before .before .before .before .before .before .l2 .given .1)) (c .before .before .before .before .before .before .before .before .before .if1 .left) (c .before .before .before .before .before .before .before .before .if2 .left)) (took-faulty (c .before .before .before .before .before .take-delta .ensures) (c .before .checked .given .1))
+returns-4 c = applies-kept (c .before .before .before .before .before .before .shape-of .ensures) (frame-delta _ _ _ _ _ (told lengthOf (c .before .before .before .before .before .before .before .before .before .before .before .before .before .frame-length .ensures) (c .before .before .before .before .before .before .before .before .before .before .before .l2 .given .1)) (c .before .before .before .before .before .before .before .before .before .if1 .left) (c .before .before .before .before .before .before .before .before .if2 .left)) (c .before .before .before .before .before .build .ensures) (c .before .b .given .1)
 
 same-length-2 : tie.Need-same-length-2
 same-length-2 c = search needs
 
 returns-5 : tie.Need-returns-5
-returns-5 c =
-    applies-drawn (c .before .before .before .before .before .before .before .before .before .before .before .before .before .before .before .shape-of .ensures) (frame-delta _ _ _ _ _ (told lengthOf (c .before .before .before .before .before .before .before .before .before .before .before .before .before .before .before .before .before .before .before .before .before .frame-length .ensures) (c .before .before .before .before .before .before .before .before .before .before .before .before .before .before .before .before .before .before .before .l2 .given .1)) (c .before .before .before .before .before .before .before .before .before .before .before .before .before .before .before .before .before .if1 .left) (c .before .before .before .before .before .before .before .before .before .before .before .before .before .before .before .before .if2 .left)) (took-next (c .before .before .before .before .before .before .before .before .before .before .before .before .before .take-delta .ensures) (c .before .before .before .before .before .before .before .before .before .checked2 .given .1))
-    (c .before .before .before .before .before .before .copy .ensures ∙ over-whole _ _ (c .before .before .before .before .before .before .before .before .before .before .before .before .before .take-delta .kept .0 ∙ c .before .before .before .before .before .before .before .before .before .before .before .before .before .before .before .before .if2 .left ∙ sym (c .before .before .before .before .before .before .before .before .before .before .before .before .before .before .before .before .before .if1 .left))) (c .before .before .take-delta2 .ensures)
+returns-5 c = applies-built (c .before .before .before .before .before .before .shape-of .ensures) (frame-delta _ _ _ _ _ (told lengthOf (c .before .before .before .before .before .before .before .before .before .before .before .before .before .frame-length .ensures) (c .before .before .before .before .before .before .before .before .before .before .before .l2 .given .1)) (c .before .before .before .before .before .before .before .before .before .if1 .left) (c .before .before .before .before .before .before .before .before .if2 .left)) (c .before .before .before .before .before .build .ensures) (c .before .b2 .given .1)
 
 pub apply-spec : {M : Type 1} → statement M
 apply-spec =
@@ -70,11 +63,9 @@ apply-spec =
     returns
     returns-2
     shape-of-requires
-    take-delta-requires
-    enum-known-checked
-    enum-known-checked-2
-    copy-requires
-    take-delta-requires-2
+    build-requires
+    enum-known-b
+    enum-known-b-2
     returns-3
     same-length
     returns-4

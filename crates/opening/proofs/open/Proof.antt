@@ -1,40 +1,34 @@
--- `opening::open`: the file's length, FORM ANIM, then what is in it.
-use mathlib.Core.Path.{sym}
-use lib.Seq.{length-take-le}
-use Rattle.opening.specs.OpenLaws.{opens-refused, too-long, no-anim, opening-is}
-use Rattle.iff.specs.FormLaws.{anim-closes}
-use Rattle.iff.specs.Form.{outerOf}
-use Rattle.laws.specs.ResultLaws.{told, each-is}
+-- `opening::open`: the first picture's places, then its two chunks.
+use mathlib.Core.Path.{_∙_}
+use Rattle.laws.specs.ResultLaws.{told}
+use Rattle.opening.specs.OpenLaws.{placesOf, bmhd-is, body-is, opens-nowhere, opens-at}
 use borrow.Author.Needs.{needs}
 use Rattle.opening.proofs.open.Statement.{statement}
 use Rattle.opening.proofs.open.Tie as tie
 
+first-places-requires : tie.Need-first-places-requires
+first-places-requires c κs = search needs
+
+enum-known-p : tie.Need-enum-known-p
+enum-known-p c = search needs
+
 refused-requires : tie.Need-refused-requires
 refused-requires c κs = search needs
 
+enum-known-p-2 : tie.Need-enum-known-p-2
+enum-known-p-2 c = search needs
+
+part-of-requires : tie.Need-part-of-requires
+part-of-requires c κs = search needs
+
+part-of-requires-2 : tie.Need-part-of-requires-2
+part-of-requires-2 c κs = search needs
+
+open-picture-requires : tie.Need-open-picture-requires
+open-picture-requires c κs = search needs
+
 returns : tie.Need-returns
-returns c = opens-refused (too-long _ _ _ (c .before .if1 .taken)) (c .refused .ensures)
-
-anim-end-requires : tie.Need-anim-end-requires
-anim-end-requires c κs = search needs
-
-enum-known-o : tie.Need-enum-known-o
-enum-known-o c = search needs
-
-refused-requires-2 : tie.Need-refused-requires-2
-refused-requires-2 c κs = search needs
-
-enum-known-o-2 : tie.Need-enum-known-o-2
-enum-known-o-2 c = search needs
-
-slice-aggregate-anim : tie.Need-slice-aggregate-anim
-slice-aggregate-anim c = sym (length-take-le _ _ (each-is (told outerOf (c .before .before .before .before .anim-end .ensures) (c .before .before .o2 .given .1)) (anim-closes _) .most))
-
-open-anim-requires : tie.Need-open-anim-requires
-open-anim-requires c κs = search needs
-
-returns-2 : tie.Need-returns-2
-returns-2 c = opens-refused (no-anim _ _ _ (c .before .before .before .before .before .if1 .left) (told outerOf (c .before .before .before .before .anim-end .ensures) (c .before .before .o .given .1))) (c .refused2 .ensures)
+returns c = opens-nowhere _ _ _ (told placesOf (c .before .before .before .before .first-places .ensures) (c .before .before .p .given .1)) (c .refused .ensures)
 
 same-length : tie.Need-same-length
 same-length c = search needs
@@ -42,22 +36,21 @@ same-length c = search needs
 same-length-2 : tie.Need-same-length-2
 same-length-2 c = search needs
 
-returns-3 : tie.Need-returns-3
-returns-3 c = let k = c .before .before .before .before .before .before .before .before .before .before .before .before .before .before .before .before .args in rw (opening-is (k .file .now) _ _ (c .before .before .before .before .before .before .before .before .before .before .before .before .if1 .left) _ (told outerOf (c .before .before .before .before .before .before .before .before .before .before .before .anim-end .ensures) (c .before .before .before .before .before .before .before .before .before .o2 .given .1))) at (c .before .before .before .before .open-anim .ensures .opens (k .file .now))
+returns-2 : tie.Need-returns-2
+returns-2 c = let e = told placesOf (c .before .before .before .before .before .before .before .before .before .before .before .before .first-places .ensures) (c .before .before .before .before .before .before .before .before .before .before .p2 .given .1) in opens-at _ _ _ _ _ e (c .before .before .before .before .before .before .before .before .part-of .ensures ∙ bmhd-is _ e) (c .before .before .before .before .before .before .before .part-of2 .ensures ∙ body-is _ e) (c .before .before .before .before .open-picture .ensures)
 
 pub open-spec : {M : Type 1} → statement M
 open-spec =
     tie.close
     (tie.spec
+    first-places-requires
+    enum-known-p
     refused-requires
+    enum-known-p-2
+    part-of-requires
+    part-of-requires-2
+    open-picture-requires
     returns
-    anim-end-requires
-    enum-known-o
-    refused-requires-2
-    enum-known-o-2
-    slice-aggregate-anim
-    open-anim-requires
-    returns-2
     same-length
     same-length-2
-    returns-3)
+    returns-2)

@@ -25,13 +25,13 @@ refused-requires-2 : tie.Need-refused-requires-2
 refused-requires-2 c κs = search needs
 
 returns : tie.Need-returns
-returns c = first-refused (first-left _ _ _ _ _ (told headerOf (c .before .before .before .before .before .before .read-header .ensures) (c .before .before .before .before .h2 .given .1)) (c .before .if1 .taken)) (c .refused2 .ensures) refl
+returns c = first-refused (first-left _ _ _ _ (told headerOf (c .before .before .before .before .before .before .read-header .ensures) (c .before .before .before .before .h2 .given .1)) (c .before .if1 .taken)) (c .refused2 .ensures) refl
 
 refused-requires-3 : tie.Need-refused-requires-3
 refused-requires-3 c κs = search needs
 
 returns-2 : tie.Need-returns-2
-returns-2 c = first-refused (first-right _ _ _ _ _ (told headerOf (c .before .before .before .before .before .before .before .before .read-header .ensures) (c .before .before .before .before .before .before .h2 .given .1)) (c .before .before .before .if1 .left) (c .before .if2 .taken)) (c .refused3 .ensures) refl
+returns-2 c = first-refused (first-right _ _ _ _ (told headerOf (c .before .before .before .before .before .before .before .before .read-header .ensures) (c .before .before .before .before .before .before .h2 .given .1)) (c .before .before .before .if1 .left) (c .before .if2 .taken)) (c .refused3 .ensures) refl
 
 unpack-requires : tie.Need-unpack-requires
 unpack-requires c κs = search needs
@@ -52,13 +52,13 @@ opened-requires : tie.Need-opened-requires
 opened-requires c κs = search needs
 
 returns-3 : tie.Need-returns-3
-returns-3 c = first-refused (first-unread _ _ _ _ _ (told headerOf (c .before .before .before .before .read-header .ensures) (c .before .before .h .given .1))) (c .refused .ensures) refl
+returns-3 c = first-refused (first-unread _ _ _ _ (told headerOf (c .before .before .before .before .read-header .ensures) (c .before .before .h .given .1))) (c .refused .ensures) refl
 
 same-length : tie.Need-same-length
 same-length c = search needs
 
 returns-4 : tie.Need-returns-4
-returns-4 c = let e = told unpackedOf (c .before .before .before .before .before .before .unpack .ensures .0) (c .before .before .u .given .1) in let h = told headerOf (c .before .before .before .before .before .before .before .before .before .before .before .before .before .before .before .read-header .ensures) (c .before .before .before .before .before .before .before .before .before .before .before .before .before .h2 .given .1) in first-refused (first-bad _ _ _ _ _ h (c .before .before .before .before .before .before .before .before .before .before .if1 .left) (c .before .before .before .before .before .before .before .before .if2 .left) e) (c .refused4 .ensures) (first-kept _ _ 0 _ _ h (c .before .before .before .before .before .before .before .before .before .before .if1 .left) (c .before .before .before .before .before .before .before .before .if2 .left) _ _ e (c .before .before .before .before .before .before .unpack .ensures .1))
+returns-4 c = let e = told unpackedOf (c .before .before .before .before .before .before .unpack .ensures .0) (c .before .before .u .given .1) in let h = told headerOf (c .before .before .before .before .before .before .before .before .before .before .before .before .before .before .before .read-header .ensures) (c .before .before .before .before .before .before .before .before .before .before .before .before .before .h2 .given .1) in first-refused (first-bad _ _ _ _ h (c .before .before .before .before .before .before .before .before .before .before .if1 .left) (c .before .before .before .before .before .before .before .before .if2 .left) e) (c .refused4 .ensures) (first-kept _ _ _ _ h (c .before .before .before .before .before .before .before .before .before .before .if1 .left) (c .before .before .before .before .before .before .before .before .if2 .left) _ _ e (c .before .before .before .before .before .before .unpack .ensures .1))
 
 same-length-2 : tie.Need-same-length-2
 same-length-2 c = search needs
@@ -67,7 +67,7 @@ same-length-3 : tie.Need-same-length-3
 same-length-3 c = search needs
 
 returns-5 : tie.Need-returns-5
-returns-5 c = first-opened (first-taken _ _ _ _ _ (told headerOf (c .before .before .before .before .before .before .before .before .before .before .before .before .before .before .before .before .before .before .before .read-header .ensures) (c .before .before .before .before .before .before .before .before .before .before .before .before .before .before .before .before .before .h2 .given .1)) (c .before .before .before .before .before .before .before .before .before .before .before .before .before .before .if1 .left) (c .before .before .before .before .before .before .before .before .before .before .before .before .if2 .left) _ _ (told unpackedOf (c .before .before .before .before .before .before .before .before .before .before .unpack .ensures .0) (c .before .before .before .before .before .before .enum-told .given .1)) (c .before .before .before .before .before .before .before .before .before .before .unpack .ensures .1)) (c .opened .ensures) refl (c .before .before .before .copy .ensures ∙ over-whole _ _ (c .before .before .before .before .before .before .before .before .before .before .before .before .if2 .left ∙ sym (c .before .before .before .before .before .before .before .before .before .before .unpack .kept .0 ∙ c .before .before .before .before .before .before .before .before .before .before .before .before .before .before .if1 .left)))
+returns-5 c = first-opened (first-taken _ _ _ _ (told headerOf (c .before .before .before .before .before .before .before .before .before .before .before .before .before .before .before .before .before .before .before .read-header .ensures) (c .before .before .before .before .before .before .before .before .before .before .before .before .before .before .before .before .before .h2 .given .1)) (c .before .before .before .before .before .before .before .before .before .before .before .before .before .before .if1 .left) (c .before .before .before .before .before .before .before .before .before .before .before .before .if2 .left) _ _ (told unpackedOf (c .before .before .before .before .before .before .before .before .before .before .unpack .ensures .0) (c .before .before .before .before .before .before .enum-told .given .1)) (c .before .before .before .before .before .before .before .before .before .before .unpack .ensures .1)) (c .opened .ensures) refl (c .before .before .before .copy .ensures ∙ over-whole _ _ (c .before .before .before .before .before .before .before .before .before .before .before .before .if2 .left ∙ sym (c .before .before .before .before .before .before .before .before .before .before .unpack .kept .0 ∙ c .before .before .before .before .before .before .before .before .before .before .before .before .before .before .if1 .left)))
 
 pub open-picture-spec : {M : Type 1} → statement M
 open-picture-spec =

@@ -1,6 +1,6 @@
 -- `player::take_back`: what putting the record back comes to.
 use Rattle.player.specs.BackLaws.{restores-refused, restores-taken}
-use Rattle.record.specs.Record.{restoredOf}
+use Rattle.restore.specs.Restored.{restoredOf}
 use Rattle.laws.specs.ResultLaws.{told}
 use borrow.Author.Needs.{needs}
 use Rattle.player.proofs.take_back.Statement.{statement}

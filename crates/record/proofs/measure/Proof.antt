@@ -1,12 +1,14 @@
 -- `record::measure`: what is passed and what is left, from here, come to the whole.
 use Prim.Native.Nat.{ℕ, _+_, _-_, _*_, _≤_}
 use mathlib.Core.List.{List, []}
-use mathlib.Core.Path.{_≡_, subst}
+use mathlib.Core.Path.{_≡_}
 use lib.ListN.{length, drop}
 use Rattle.number.specs.Number.{writeNumber}
-use Rattle.runs.specs.Runs.{runsOf}
+use Rattle.laws.specs.ResultLaws.{told}
+use Rattle.runs.specs.Runs.{runsOf, changeOf}
+use Rattle.runs.specs.NextLaws.{RunAhead, ahead-of, none-ahead}
 use Rattle.record.specs.RunList.{runsBytes, changes}
-use Rattle.record.specs.Walk.{NextRun, RunAhead, Totalled}
+use Rattle.record.specs.Walk.{Totalled}
 use Rattle.record.specs.RunLaws.{ahead-runs, ahead-bytes-length, ahead-changes}
 use borrow.Author.Needs.{needs}
 use native.Mathlib.Omega.{arith}
@@ -55,7 +57,7 @@ abbrev μ-loop : tie.MeasureT-loop
 ahead : (c : tie.After-known-told Inv-loop μ-loop)
     → RunAhead (c .before .before .before .before .before .before .before .args .old .now) (c .before .before .before .before .before .before .before .args .new .now)
     (c .before .before .before .before .loop .at) (c .before .c .given .0 .0) (c .before .c .given .0 .1 .0)
-ahead c = subst (NextRun _ _ _) (c .before .c .given .1) (c .before .before .before .next-run .ensures)
+ahead c = ahead-of _ _ _ _ _ (told changeOf (c .before .before .before .next-run .ensures) (c .before .c .given .1))
 
 loop-holds : tie.Need-loop-holds Inv-loop μ-loop
 loop-holds c = record { inside = omega arith; few = omega arith; short = omega arith; some-changed = omega arith; runs-left = omega arith; bytes-left = omega arith; changes-left = omega arith }
@@ -67,7 +69,7 @@ enum-told : tie.Need-enum-told Inv-loop μ-loop
 enum-told c = search needs
 
 returns : tie.Need-returns Inv-loop μ-loop
-returns c = all (c .before .before .before .loop .inv) (subst (NextRun _ _ _) (c .enum-told .given .1) (c .before .before .next-run .ensures))
+returns c = all (c .before .before .before .loop .inv) (none-ahead _ _ _ (c .before .before .before .before .before .before .pre .0) (told changeOf (c .before .before .next-run .ensures) (c .enum-told .given .1)))
 
 enum-known-c : tie.Need-enum-known-c Inv-loop μ-loop
 enum-known-c c = search needs

@@ -2,12 +2,13 @@
 use Prim.Native.Nat.{ℕ, _+_, _-_, _≤_}
 use native.Mathlib.Omega.{arith}
 use mathlib.Core.List.{List, [], _++_}
-use mathlib.Core.Path.{_≡_, refl, ap, subst, _∙_}
+use mathlib.Core.Path.{_≡_, refl, ap, _∙_}
 use lib.ListN.{length, take, drop, length-append}
-use Rattle.runs.specs.Runs.{runsOf}
+use Rattle.laws.specs.ResultLaws.{told}
+use Rattle.runs.specs.Runs.{runsOf, changeOf}
+use Rattle.runs.specs.NextLaws.{RunAhead, ahead-of, none-ahead}
 use Rattle.record.specs.RunList.{runBytes, runsBytes}
 use Rattle.laws.specs.Put.{Put}
-use Rattle.record.specs.Walk.{NextRun, RunAhead}
 use Rattle.record.specs.RunLaws.{ahead-bytes}
 use Rattle.laws.specs.Put.{put-then, put-nothing}
 use borrow.Author.Needs.{needs}
@@ -60,7 +61,7 @@ abbrev μ-loop : tie.MeasureT-loop
 
 ahead : (c : tie.After-known-told Inv-loop μ-loop)
     → RunAhead (c .before .before .before .before .before .before .before .before .args .old .now) (c .before .before .before .before .before .before .before .before .args .new .now) (c .before .before .before .before .loop .at) (c .before .c .given .0 .0) (c .before .c .given .0 .1 .0)
-ahead c = subst (NextRun _ _ _) (c .before .c .given .1) (c .before .before .before .next-run .ensures)
+ahead c = ahead-of _ _ _ _ _ (told changeOf (c .before .before .before .next-run .ensures) (c .before .c .given .1))
 
 loop-holds : tie.Need-loop-holds Inv-loop μ-loop
 loop-holds c = record { inside = omega arith; size = refl; fits = c .before .before .before .pre .2; whole = λ p. p }
@@ -75,7 +76,7 @@ same-length : tie.Need-same-length Inv-loop μ-loop
 same-length c = search needs
 
 returns : tie.Need-returns Inv-loop μ-loop
-returns c = all (c .before .before .before .loop .inv) (subst (NextRun _ _ _) (c .enum-told .given .1) (c .before .before .next-run .ensures))
+returns c = all (c .before .before .before .loop .inv) (none-ahead _ _ _ (c .before .before .before .before .before .before .before .pre .0) (told changeOf (c .before .before .next-run .ensures) (c .enum-told .given .1)))
 
 enum-known-c : tie.Need-enum-known-c Inv-loop μ-loop
 enum-known-c c = search needs

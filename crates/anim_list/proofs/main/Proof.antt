@@ -1,0 +1,67 @@
+-- `anim_list::main`: what was written lies within the buffer.
+use mathlib.Core.Path.{sym}
+use lib.Seq.{length-take-le}
+use borrow.Author.Needs.{needs}
+use Rattle.anim_list.proofs.main.Statement.{statement}
+use Rattle.anim_list.proofs.main.Tie as tie
+
+slice-aggregate-read-full : tie.Need-slice-aggregate-read-full
+slice-aggregate-read-full c = search needs
+
+read-full-requires : tie.Need-read-full-requires
+read-full-requires c κs = search needs
+
+array-share-prefix-file : tie.Need-array-share-prefix-file
+array-share-prefix-file c = search needs
+
+slice-aggregate-list : tie.Need-slice-aggregate-list
+slice-aggregate-list c = search needs
+
+slice-aggregate-list-2 : tie.Need-slice-aggregate-list-2
+slice-aggregate-list-2 c = search needs
+
+slice-aggregate-list-3 : tie.Need-slice-aggregate-list-3
+slice-aggregate-list-3 c = search needs
+
+slice-aggregate-list-4 : tie.Need-slice-aggregate-list-4
+slice-aggregate-list-4 c = search needs
+
+slice-aggregate-list-5 : tie.Need-slice-aggregate-list-5
+slice-aggregate-list-5 c = search needs
+
+slice-aggregate-list-6 : tie.Need-slice-aggregate-list-6
+slice-aggregate-list-6 c = search needs
+
+list-requires : tie.Need-list-requires
+list-requires c κs = search needs
+
+array-share-prefix-out : tie.Need-array-share-prefix-out
+array-share-prefix-out c = c .before .before .before .before .before .list .ensures .most
+
+slice-aggregate-write-all : tie.Need-slice-aggregate-write-all
+slice-aggregate-write-all c = sym (length-take-le _ _ (c .before .before .before .before .before .before .list .ensures .most))
+
+write-all-requires : tie.Need-write-all-requires
+write-all-requires c κs = search needs
+
+returns : tie.Need-returns
+returns c = search needs
+
+pub main-spec : {M : Type 1} → statement M
+main-spec =
+    tie.close
+    (tie.spec
+    slice-aggregate-read-full
+    read-full-requires
+    array-share-prefix-file
+    slice-aggregate-list
+    slice-aggregate-list-2
+    slice-aggregate-list-3
+    slice-aggregate-list-4
+    slice-aggregate-list-5
+    slice-aggregate-list-6
+    list-requires
+    array-share-prefix-out
+    slice-aggregate-write-all
+    write-all-requires
+    returns)

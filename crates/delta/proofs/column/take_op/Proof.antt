@@ -1,0 +1,75 @@
+-- `delta::column::take_op`: each branch is one of the definition's, by the ranges of the op's first byte.
+use Prim.Native.Nat.{_-_, _<_, _≤_}
+use native.Mathlib.Omega.{arith}
+use lib.ListN.{getD}
+use Rattle.delta.specs.Delta.{Kind.same, Kind.skips, Kind.uniq, opAs, readOp}
+use Rattle.delta.specs.Walk.{reading}
+use Rattle.delta.specs.DeltaLaws.{op-none, op-kind, kind-same, kind-skip, kind-uniq}
+use Rattle.delta.specs.FillLaws.{skip-read, read-as}
+use borrow.Author.Needs.{needs}
+use Rattle.delta.proofs.column.take_op.Statement.{statement}
+use Rattle.delta.proofs.column.take_op.Tie as tie
+
+returns : tie.Need-returns
+returns c = let a = c .before .before .args in λ base ops. op-none (a .shape) (a .d .now) base (reading (a .c) ops) (c .if1 .taken)
+
+shared-slice-read-b : tie.Need-shared-slice-read-b
+shared-slice-read-b c = search needs
+
+take-same-requires : tie.Need-take-same-requires
+take-same-requires c κs = search needs
+
+cast-take-skip : tie.Need-cast-take-skip
+cast-take-skip c = search needs
+
+take-skip-requires : tie.Need-take-skip-requires
+take-skip-requires c κs = search needs
+
+cast-take-uniq : tie.Need-cast-take-uniq
+cast-take-uniq c = omega (arith, c .before .before .shared-slice-known2 .given (c .before .before .before .before .before .args .c .op))
+
+sub-take-uniq : tie.Need-sub-take-uniq
+sub-take-uniq c = search needs
+
+take-uniq-requires : tie.Need-take-uniq-requires
+take-uniq-requires c κs =
+    let b = c .before .before .before .before .before in
+    let h : getD (b .args .d .now) (b .args .c .op) 0 - 128 ≤ 127 = omega (arith, c .before .before .shared-slice-known2 .given (b .args .c .op)) in
+    (b .pre .0, b .pre .1, c .before .before .before .if1 .left, h)
+
+returns-2 : tie.Need-returns-2
+returns-2 c =
+    let a = c .before .before .before .before .before .args in
+    read-as (a .shape) (a .d .now) (readOp (a .shape) (a .d .now)) (λ base x. opAs (a .shape) (a .d .now) base x same) (a .c) (c .take-same .result) (c .take-same .ensures) (λ base ops. op-kind (a .shape) (a .d .now) base (reading (a .c) ops) (c .before .before .before .if1 .left) (kind-same _ (c .before .match .keys1)))
+
+returns-3 : tie.Need-returns-3
+returns-3 c =
+    let b = c .before .before .before .before .before .before in
+    let a = b .args in
+    let n = getD (a .d .now) (a .c .op) 0 in
+    let h : 0 < n = omega arith in
+    let k : n ≤ 127 = omega arith in
+    read-as (a .shape) (a .d .now) (readOp (a .shape) (a .d .now)) (λ base x. opAs (a .shape) (a .d .now) base x (skips n)) (a .c) (c .take-skip .result) (skip-read (c .take-skip .ensures) (a .d .now) (b .pre .1 .item)) (λ base ops. op-kind (a .shape) (a .d .now) base (reading (a .c) ops) (c .before .before .before .before .if1 .left) (kind-skip n h k))
+
+returns-4 : tie.Need-returns-4
+returns-4 c =
+    let a = c .before .before .before .before .before .before .args in
+    let n = getD (a .d .now) (a .c .op) 0 in
+    let h : 127 < n = omega arith in
+    read-as (a .shape) (a .d .now) (readOp (a .shape) (a .d .now)) (λ base x. opAs (a .shape) (a .d .now) base x (uniq (n - 128))) (a .c) (c .take-uniq .result) (c .take-uniq .ensures) (λ base ops. op-kind (a .shape) (a .d .now) base (reading (a .c) ops) (c .before .before .before .before .if1 .left) (kind-uniq n h))
+
+pub take-op-spec : {M : Type 1} → statement M
+take-op-spec =
+    tie.close
+    (tie.spec
+    returns
+    shared-slice-read-b
+    take-same-requires
+    cast-take-skip
+    take-skip-requires
+    cast-take-uniq
+    sub-take-uniq
+    take-uniq-requires
+    returns-2
+    returns-3
+    returns-4)

@@ -1,0 +1,50 @@
+-- `delta::column::take_same`: a count byte, then rows that get one item.
+use Prim.Native.Nat.{_+_}
+use native.Mathlib.Omega.{arith}
+use lib.ListN.{getD}
+use Rattle.delta.specs.Delta.{fill, Kind.same, opAs}
+use Rattle.delta.specs.Walk.{reading}
+use Rattle.delta.specs.DeltaLaws.{same-none, same-fill}
+use Rattle.delta.specs.FillLaws.{read-as}
+use borrow.Author.Needs.{needs}
+use Rattle.delta.proofs.column.take_same.Statement.{statement}
+use Rattle.delta.proofs.column.take_same.Tie as tie
+
+sub-if1 : tie.Need-sub-if1
+sub-if1 c = search needs
+
+returns : tie.Need-returns
+returns c = let a = c .before .before .args in λ base ops. same-none (a .shape) (a .d .now) base (reading (a .c) ops) (omega arith)
+
+add-count : tie.Need-add-count
+add-count c = search needs
+
+shared-slice-read-count : tie.Need-shared-slice-read-count
+shared-slice-read-count c = search needs
+
+cast-count : tie.Need-cast-count
+cast-count c = omega (arith, c .shared-slice-known2 .given (c .before .before .before .args .c .op + 1))
+
+add-take-fill : tie.Need-add-take-fill
+add-take-fill c = search needs
+
+take-fill-requires : tie.Need-take-fill-requires
+take-fill-requires c κs = search needs
+
+returns-2 : tie.Need-returns-2
+returns-2 c =
+    let a = c .before .before .before .before .args in
+    read-as (a .shape) (a .d .now) (λ base x. opAs (a .shape) (a .d .now) base x same) (λ base x. fill (a .shape) (a .d .now) base x (a .c .op + 2) (getD (a .d .now) (a .c .op + 1) 0) (a .shape .item) 0) (a .c) (c .take-fill .result) (c .take-fill .ensures) (λ base ops. same-fill (a .shape) (a .d .now) base (reading (a .c) ops) (omega arith))
+
+pub take-same-spec : {M : Type 1} → statement M
+take-same-spec =
+    tie.close
+    (tie.spec
+    sub-if1
+    returns
+    add-count
+    shared-slice-read-count
+    cast-count
+    add-take-fill
+    take-fill-requires
+    returns-2)

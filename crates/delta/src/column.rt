@@ -1,0 +1,256 @@
+// One column of a delta: an op count byte and that many ops, read and, where that is asked for, drawn.
+ghost use mathlib.Core.Path.{_≡_};
+ghost use Prim.Native.Nat.{_+_, _<_, _≤_};
+ghost use lib.ListN.{length, take, drop};
+ghost use lib.Seq.{sets};
+ghost use Rattle.laws.specs.Result.{pick};
+ghost use Rattle.delta.specs.Delta.{fill, Kind.same, Kind.uniq, opAs, readOp, readOps, readColumn, put};
+ghost use Rattle.delta.specs.Walk.{Width, Inside, Column, Stands, Fits, filled, Skipped, OpRead, Took};
+use crate::Cursor;
+use crate::Shape;
+use crate::Step;
+use crate::Taken;
+use refusal::Refusal;
+
+// Puts two bytes at a place of the frame.
+fn put_pair(frame: &mut [u8], at: usize, d: &[u8], from: usize)
+    requires { ⌜ (at + 2 ≤ length (now frame)) × (from + 2 ≤ length (now d)) ⌝ }
+    ensures { λ _. ⌜ now (frame .exit) ≡ sets (now (frame .entry)) at (take 2 (drop from (now (d .entry)))) ⌝ }
+{
+    let a = d[from];
+    let b = d[from + 1];
+    frame[at] = a;
+    frame[at + 1] = b;
+}
+
+// Puts one item of one, two or four bytes at a place of the frame.
+fn put_item(frame: &mut [u8], at: usize, d: &[u8], from: usize, item: usize)
+    requires { ⌜ (at + item ≤ length (now frame)) × (from + item ≤ length (now d)) × Width item ⌝ }
+    ensures { λ _. ⌜ now (frame .exit) ≡ sets (now (frame .entry)) at (take item (drop from (now (d .entry)))) ⌝ }
+{
+    if item == 1 {
+        frame[at] = d[from];
+        return;
+    }
+    put_pair(frame, at, d, from);
+    if item == 2 {
+        return;
+    }
+    put_pair(frame, at + 2, d, from + 2);
+}
+
+// Puts items, step bytes apart in the delta, into count rows from a place of the frame on, where that is asked for.
+fn draw_rows(
+    frame: &mut [u8],
+    place: usize,
+    d: &[u8],
+    from: usize,
+    step: usize,
+    count: usize,
+    shape: Shape,
+    drawing: bool,
+)
+    requires { ⌜ Width (shape .item) × Inside (length (now frame)) place (shape .row) (shape .item) count × Inside (length (now d)) from step (shape .item) count ⌝ }
+    ensures { λ _. ⌜ now (frame .exit) ≡ pick drawing (put (shape .item) (shape .row) step (now (d .entry)) count from place (now (frame .entry))) (now (frame .entry)) ⌝ }
+{
+    if !drawing {
+        return;
+    }
+    let item = shape.item;
+    let row = shape.row;
+    let mut i = 0;
+    while i < count {
+        put_item(frame, place + i * row, d, from + i * step, item);
+        i += 1;
+    }
+}
+
+fn pick(test: bool, a: usize, b: usize) -> usize
+    ensures { λ r. ⌜ r ≡ pick test a b ⌝ }
+{
+    if test { a } else { b }
+}
+
+// Where reading stands after count rows got items of size bytes in all; the op's own bytes end at next.
+fn after_fill(shape: Shape, c: Cursor, next: usize, count: usize, size: usize) -> Cursor
+    requires { ⌜ Fits shape c next count size ⌝ }
+    ensures { λ r. ⌜ r ≡ filled shape c next count size ⌝ }
+{
+    let line = c.line + count;
+    let ops = c.ops + 1;
+    if shape.inline {
+        return Cursor {
+            op: next + size,
+            item: c.item,
+            line,
+            ops,
+        };
+    }
+    Cursor {
+        op: next,
+        item: c.item + size,
+        line,
+        ops,
+    }
+}
+
+// Reads an op that gives count rows from the cursor on items of size bytes in all; its own bytes end at next.
+fn take_fill(
+    d: &[u8],
+    shape: Shape,
+    c: Cursor,
+    next: usize,
+    count: usize,
+    size: usize,
+    step: usize,
+) -> Taken
+    requires { ⌜ Stands shape (now d) c 1 × (next ≤ length (now d)) × Inside size 0 step (shape .item) count ⌝ }
+    ensures { λ r. ⌜ OpRead shape (now (d .entry)) (λ base x. fill shape (now (d .entry)) base x next count size step) c r ⌝ }
+{
+    if count == 0 {
+        return Taken::Faulty(Refusal::ZeroCount);
+    }
+    if shape.height - c.line < count {
+        return Taken::Faulty(Refusal::OpPastLastRow);
+    }
+    let from = pick(shape.inline, next, c.item);
+    if d.len() - from < size {
+        return Taken::Faulty(Refusal::DeltaTooShort);
+    }
+    let next = after_fill(shape, c, next, count, size);
+    Taken::Rows {
+        from,
+        step,
+        count,
+        next,
+    }
+}
+
+// Reads the Skip at the cursor.
+fn take_skip(shape: Shape, c: Cursor, rows: usize) -> Taken
+    requires { ⌜ (c .line ≤ shape .height) × (c .op < 18446744073709551615) × (c .ops + 1 < 4294967296) ⌝ }
+    ensures { λ r. ⌜ Skipped shape c rows r ⌝ }
+{
+    if shape.height - c.line < rows {
+        return Taken::Faulty(Refusal::OpPastLastRow);
+    }
+    Taken::Passed(Cursor {
+        op: c.op + 1,
+        item: c.item,
+        line: c.line + rows,
+        ops: c.ops + 1,
+    })
+}
+
+// Reads the Same at the cursor: a count byte, then one item.
+fn take_same(d: &[u8], shape: Shape, c: Cursor) -> Taken
+    requires { ⌜ Stands shape (now d) c 1 × (c .op < length (now d)) ⌝ }
+    ensures { λ r. ⌜ OpRead shape (now (d .entry)) (λ base x. opAs shape (now (d .entry)) base x same) c r ⌝ }
+{
+    let op = c.op;
+    if d.len() - op < 2 {
+        return Taken::Faulty(Refusal::DeltaTooShort);
+    }
+    let count = d[op + 1] as usize;
+    take_fill(d, shape, c, op + 2, count, shape.item, 0)
+}
+
+// Reads the Uniq of count rows at the cursor.
+fn take_uniq(d: &[u8], shape: Shape, c: Cursor, count: usize) -> Taken
+    requires { ⌜ Width (shape .item) × Stands shape (now d) c 1 × (c .op < length (now d)) × (count ≤ 127) ⌝ }
+    ensures { λ r. ⌜ OpRead shape (now (d .entry)) (λ base x. opAs shape (now (d .entry)) base x (uniq count)) c r ⌝ }
+{
+    let item = shape.item;
+    take_fill(d, shape, c, c.op + 1, count, count * item, item)
+}
+
+// Reads the op at the cursor.
+fn take_op(d: &[u8], shape: Shape, c: Cursor) -> Taken
+    requires { ⌜ Width (shape .item) × Stands shape (now d) c 1 ⌝ }
+    ensures { λ r. ⌜ OpRead shape (now (d .entry)) (readOp shape (now (d .entry))) c r ⌝ }
+{
+    let op = c.op;
+    if d.len() <= op {
+        return Taken::Faulty(Refusal::DeltaTooShort);
+    }
+    let b = d[op];
+    match b {
+        0 => take_same(d, shape, c),
+        1..=127 => take_skip(shape, c, b as usize),
+        128..=255 => take_uniq(d, shape, c, b as usize - 128),
+    }
+}
+
+// Takes the op at the cursor, in the column that starts at base, and draws it where that is asked for.
+fn draw_op(frame: &mut [u8], d: &[u8], shape: Shape, base: usize, c: Cursor, drawing: bool) -> Step
+    requires { ⌜ Width (shape .item) × Column shape (length (now frame)) base × Stands shape (now d) c 1 ⌝ }
+    ensures { λ r. ⌜ Took shape (now (d .entry)) drawing (now (frame .entry)) (readOp shape (now (d .entry)) base) c (now (frame .exit)) 1 r ⌝ }
+{
+    let t = take_op(d, shape, c);
+    match t {
+        Taken::Faulty(why) => Step::Faulty(why),
+        Taken::Passed(next) => Step::Next(next),
+        Taken::Rows {
+            from,
+            step,
+            count,
+            next,
+        } => {
+            let place = base + c.line * shape.row;
+            draw_rows(frame, place, d, from, step, count, shape, drawing);
+            Step::Next(next)
+        }
+    }
+}
+
+// Takes count ops of the column that starts at base.
+fn take_ops(
+    frame: &mut [u8],
+    d: &[u8],
+    shape: Shape,
+    base: usize,
+    count: usize,
+    c: Cursor,
+    drawing: bool,
+) -> Step
+    requires { ⌜ Width (shape .item) × Column shape (length (now frame)) base × Stands shape (now d) c count ⌝ }
+    ensures { λ r. ⌜ Took shape (now (d .entry)) drawing (now (frame .entry)) (readOps shape (now (d .entry)) base count) c (now (frame .exit)) count r ⌝ }
+{
+    let mut at = c;
+    let mut left = count;
+    while 0 < left {
+        let t = draw_op(frame, d, shape, base, at, drawing);
+        match t {
+            Step::Faulty(why) => return Step::Faulty(why),
+            Step::Next(next) => at = next,
+        }
+        left -= 1;
+    }
+    Step::Next(at)
+}
+
+// Takes the column that starts at base: an op count byte and that many ops.
+pub(crate) fn take_column(
+    frame: &mut [u8],
+    d: &[u8],
+    shape: Shape,
+    base: usize,
+    c: Cursor,
+    drawing: bool,
+) -> Step
+    requires { ⌜ Width (shape .item) × Column shape (length (now frame)) base × Stands shape (now d) c 255 ⌝ }
+    ensures { λ r. ⌜ Took shape (now (d .entry)) drawing (now (frame .entry)) (readColumn shape (now (d .entry)) base) c (now (frame .exit)) 255 r ⌝ }
+{
+    let op = c.op;
+    if d.len() <= op {
+        return Step::Faulty(Refusal::DeltaTooShort);
+    }
+    let count = d[op] as usize;
+    let top = Cursor {
+        op: op + 1,
+        item: c.item,
+        line: 0,
+        ops: c.ops,
+    };
+    take_ops(frame, d, shape, base, count, top, drawing)
+}

@@ -1,0 +1,23 @@
+-- `listing::put_byte`: a byte where there is room for it.
+use Rattle.listing.specs.TextLaws.{adds-byte, adds-nothing}
+use borrow.Author.Needs.{needs}
+use Rattle.listing.proofs.put_byte.Statement.{statement}
+use Rattle.listing.proofs.put_byte.Tie as tie
+
+slice-write-out : tie.Need-slice-write-out
+slice-write-out c = search needs
+
+add-result : tie.Need-add-result
+add-result c = search needs
+
+same-length : tie.Need-same-length
+same-length c = search needs
+
+returns : tie.Need-returns
+returns c = adds-byte _ (c .if1 .taken)
+
+returns-2 : tie.Need-returns-2
+returns-2 c = adds-nothing _ (c .before .pre) (c .if1 .left)
+
+pub put-byte-spec : {M : Type 1} → statement M
+put-byte-spec = tie.close (tie.spec slice-write-out add-result same-length returns returns-2)

@@ -1,0 +1,20 @@
+-- `listing::put_field`: a text, then a number.
+use Rattle.listing.specs.TextLaws.{adds-then}
+use borrow.Author.Needs.{needs}
+use Rattle.listing.proofs.put_field.Statement.{statement}
+use Rattle.listing.proofs.put_field.Tie as tie
+
+put-text-requires : tie.Need-put-text-requires
+put-text-requires c κs = search needs
+
+put-number-requires : tie.Need-put-number-requires
+put-number-requires c κs = search needs
+
+same-length : tie.Need-same-length
+same-length c = search needs
+
+returns : tie.Need-returns
+returns c = adds-then (c .before .before .before .before .before .before .put-text .ensures) (c .before .before .put-number .ensures)
+
+pub put-field-spec : {M : Type 1} → statement M
+put-field-spec = tie.close (tie.spec put-text-requires put-number-requires same-length returns)

@@ -1,0 +1,173 @@
+-- Laws of the listing of a whole file: the order of its tests, what is left in the buffers, and that the text is the file's alone.
+use Prim.Native.Nat.{ℕ, zero, suc, _-_, _<_, _≤_}
+use native.Mathlib.Omega.{arith}
+use mathlib.Core.Bool.{Bool, true, false}
+use mathlib.Core.List.{List, [], _++_}
+use mathlib.Core.Path.{_≡_, refl, sym, ap, _∙_}
+use lib.Dec.{leb}
+use lib.ListN.{length, take, drop}
+use lib.Seq.{length-take-le, take-nil}
+use borrow.Author.Tests.{le-leb, lt-leb}
+use Rattle.laws.specs.Result.{Res, Res.ok, Res.fault, answer, pick}
+use Rattle.laws.specs.Loop.{Step.next, Step.done, run, runs}
+use Rattle.laws.specs.Store.{over}
+use Rattle.opening.specs.declared.OpenedFile.{OpenedFile}
+use Rattle.opening.specs.Open.{Film, Opens, openingOf, pictureAfter, stateAfter, opening, firstSize}
+use Rattle.player.specs.Step.{World, Answer, Answer.refused, Answer.ended, Answer.tookOn, Answer.tookBack, stepOn}
+use Rattle.listing.specs.Lines.{pictureLine, refusedLine, tooLarge}
+use Rattle.listing.specs.TextLaws.{Adds, adds-front, length-over}
+use Rattle.listing.specs.Listing.{Scene, says, leaves, lineOn, listStep, frames, shows, ROOM, front, behind, sized, listed, blank, listing, roomy, lent, lentText, Lists, MeetsList}
+
+-- what the work and the record buffer hold makes no difference to pictures, state and text
+record Alike (c d : Scene) : Type 0 where
+  world : c .world ≡ d .world
+  text : c .text ≡ d .text
+
+abbrev scene : World → List ℕ → List ℕ → List ℕ → Scene
+scene w t k r = record { world = w; work = k; rec = r; text = t }
+
+module _ (file : List ℕ) (size room : ℕ) where
+  run-alike : (n : ℕ) (x y : Scene) (w : World) (t k r k′ r′ : List ℕ) → Alike x y → Alike (run (listStep file size room) x n (scene w t k r)) (run (listStep file size room) y n (scene w t k′ r′))
+  run-alike zero x y w t k r k′ r′ h = h
+  run-alike (suc n) x y w t k r k′ r′ h = go (stepOn file w size room .answer) (λ v u i j i′ j′. run-alike n x y v u i j i′ j′ h)
+    where
+      go : (z : Answer) → ((v : World) (u i j i′ j′ : List ℕ) → Alike (run (listStep file size room) x n (scene v u i j)) (run (listStep file size room) y n (scene v u i′ j′)))
+          → Alike (elim (lineOn z (leaves (scene w t k r) (stepOn file w size room))) [ next c ↦ run (listStep file size room) x n c | done c ↦ c ])
+          (elim (lineOn z (leaves (scene w t k′ r′) (stepOn file w size room))) [ next c ↦ run (listStep file size room) y n c | done c ↦ c ])
+      go (tookOn rep) ih = ih _ _ _ _ _ _
+      go ended ih = record { world = refl; text = refl }
+      go (refused m) ih = record { world = refl; text = refl }
+      go tookBack ih = record { world = refl; text = refl }
+
+  frames-alike : (w : World) (t k r k′ r′ : List ℕ) → Alike (frames file size room (scene w t k r)) (frames file size room (scene w t k′ r′))
+  unfolding frames runs
+  frames-alike w t k r k′ r′ = run-alike (suc (length file - w .state .next)) (scene w t k r) (scene w t k′ r′) w t k r k′ r′ (record { world = refl; text = refl })
+
+-- the text of a file is the same whatever buffers are lent
+module _ (file a b work rec : List ℕ) where
+  shown-text : (n : ℕ) (q : Res Film) → behind n (blank a b work rec) (shows file n ROOM (front n (blank a b work rec)) q) .text ≡ behind n (blank [] [] [] []) (shows file n ROOM (front n (blank [] [] [] [])) q) .text
+  shown-text n (ok F) = frames-alike file n ROOM _ _ _ _ _ _ .text
+  shown-text n (fault m) = refl
+
+  sized-text : (q : Res ℕ) → sized file (blank a b work rec) q .text ≡ sized file (blank [] [] [] []) q .text
+  sized-text (fault n) = refl
+  sized-text (ok n) = go (leb n 16_384)
+    where
+      go : (t : Bool) → pick t (behind n (blank a b work rec) (shows file n ROOM (front n (blank a b work rec)) (opening file n n))) (says (blank a b work rec) tooLarge) .text
+          ≡ pick t (behind n (blank [] [] [] []) (shows file n ROOM (front n (blank [] [] [] [])) (opening file n n))) (says (blank [] [] [] []) tooLarge) .text
+      go true = shown-text n (opening file n n)
+      go false = refl
+
+  pub text-same : listed file (blank a b work rec) .text ≡ listing file
+  unfolding listed listing
+  text-same = go (leb (length file) 65_536)
+    where
+      go : (t : Bool) → pick t (sized file (blank a b work rec) (firstSize file)) (says (blank a b work rec) tooLarge) .text
+          ≡ pick t (sized file (blank [] [] [] []) (firstSize file)) (says (blank [] [] [] []) tooLarge) .text
+      go true = sized-text (firstSize file)
+      go false = refl
+
+-- one line is the whole text
+pub lists-line : {c : Scene} {line out : List ℕ} {n : ℕ} {out′ : List ℕ} (a b work rec : List ℕ) → c ≡ says (blank a b work rec) line → Adds out 0 line out′ n → Lists c out n a b work rec out′
+lists-line a b work rec e v = let t = adds-front v in rw e (record { text = t .0; count = t .1; left = refl; right = refl; drawn = refl; written = refl })
+
+-- an opening that is refused, and one that isn't
+module _ (file : List ℕ) (size room : ℕ) {q : Res Film} (a b work rec : List ℕ) {r : OpenedFile} {a′ b′ : List ℕ} (m : Opens q a b r a′ b′) where
+  pub shows-refused : {i : ℕ} {out : List ℕ} {n : ℕ} {out′ : List ℕ} → openingOf (r .answer) ≡ fault i → Adds out 0 (refusedLine i) out′ n
+      → Lists (shows file size room (blank a b work rec) q) out n a′ b′ work rec out′
+  shows-refused {i} {out} {n} {out′} e v = go q (sym (m .answer) ∙ e) (m .left) (m .right)
+    where
+      go : (p : Res Film) → answer p ≡ fault i → a′ ≡ pictureAfter a p → b′ ≡ pictureAfter b p → Lists (shows file size room (blank a b work rec) p) out n a′ b′ work rec out′
+      go (ok F) d l k = let z : _≡_ {A = ℕ} 0 1 = cc in absurd (omega arith)
+      go (fault j) d l k = let f : j ≡ i = cc in rw (l, k, f) (lists-line a b work rec refl v)
+
+  pub shows-opened : {out : List ℕ} {n : ℕ} {a″ b″ work′ rec′ out′ : List ℕ} → openingOf (r .answer) ≡ ok tt
+      → Lists (frames file size room (record { world = record { a = a′; b = b′; state = r .state }; work = work; rec = rec; text = pictureLine (r .state .sizes) })) out n a″ b″ work′ rec′ out′
+      → Lists (shows file size room (blank a b work rec) q) out n a″ b″ work′ rec′ out′
+  shows-opened {out} {n} {a″} {b″} {work′} {rec′} {out′} e v = go q (sym (m .answer) ∙ e) (m .left) (m .right) (m .state)
+    where
+      go : (p : Res Film) → answer p ≡ ok tt → a′ ≡ pictureAfter a p → b′ ≡ pictureAfter b p → r .state ≡ stateAfter p → Lists (shows file size room (blank a b work rec) p) out n a″ b″ work′ rec′ out′
+      go (ok F) d l k s = rw (l, k, s) at v
+      go (fault j) d l k s = let z : _≡_ {A = ℕ} 0 1 = cc in absurd (omega arith)
+
+-- the tests of a file, in order
+module _ (file : List ℕ) (c : Scene) where
+  pub file-large : 65_536 < length file → listed file c ≡ says c tooLarge
+  unfolding listed
+  file-large h = rw (lt-leb (length file) 65_536 h) refl
+
+  module _ (h : length file ≤ 65_536) where
+    pub size-refused : {n : ℕ} → firstSize file ≡ fault n → listed file c ≡ says c (refusedLine n)
+    unfolding listed
+    size-refused e = rw (le-leb (length file) 65_536 h, e) refl
+
+    module _ {n : ℕ} (e : firstSize file ≡ ok n) where
+      pub frame-large : 16_384 < n → listed file c ≡ says c tooLarge
+      unfolding listed
+      frame-large k = rw (le-leb (length file) 65_536 h, e) (rw (lt-leb n 16_384 k) refl)
+
+      pub frame-fits : n ≤ 16_384 → listed file c ≡ behind n c (shows file n ROOM (front n c) (opening file n n))
+      unfolding listed
+      frame-fits k = rw (le-leb (length file) 65_536 h, e) (rw (le-leb n 16_384 k) refl)
+
+-- what is listed with the front parts of the buffers; the bytes behind them stay
+pub lists-front : (file a b work rec : List ℕ) {n : ℕ} → length file ≤ 65_536 → firstSize file ≡ ok n → n ≤ 16_384
+    → 16_384 ≤ length a → 16_384 ≤ length b → 16_384 ≤ length work → ROOM ≤ length rec → {out : List ℕ} {r : ℕ} {a′ b′ work′ rec′ out′ : List ℕ}
+    → Lists (shows file (length (take n work)) (length (take ROOM rec)) (blank (take n a) (take n b) (take n work) (take ROOM rec)) (opening file (length (take n a)) (length (take n b)))) out r a′ b′ work′ rec′ out′
+    → Lists (listed file (blank a b work rec)) out r (a′ ++ drop n a) (b′ ++ drop n b) (work′ ++ drop n work) (rec′ ++ drop ROOM rec) out′
+lists-front file a b work rec {n} h e k la lb lw lr {out} {r} {a′} {b′} {work′} {rec′} {out′} v =
+    let v′ : Lists (shows file n ROOM (front n (blank a b work rec)) (opening file n n)) out r a′ b′ work′ rec′ out′ =
+    rw (length-take-le n a (omega arith), length-take-le n b (omega arith), length-take-le n work (omega arith), length-take-le ROOM rec lr) at v in
+    rw (frame-fits file (blank a b work rec) h e k)
+    (record {
+      text = v′ .text;
+      count = v′ .count;
+      left = ap (λ (t : List ℕ). t ++ drop n a) (v′ .left);
+      right = ap (λ (t : List ℕ). t ++ drop n b) (v′ .right);
+      drawn = ap (λ (t : List ℕ). t ++ drop n work) (v′ .drawn);
+      written = ap (λ (t : List ℕ). t ++ drop ROOM rec) (v′ .written);
+    })
+
+-- buffers that are too short, and buffers that are long enough
+module _ (file a b work rec out : List ℕ) where
+  module _ {t : Bool} (e : roomy a b work rec ≡ t) where
+    lent-is : lent file a b work rec ≡ pick t (listed file (blank a b work rec)) (blank a b work rec)
+    unfolding lent
+    lent-is = rw e refl
+
+    text-is : lentText file a b work rec ≡ pick t (listing file) []
+    unfolding lentText
+    text-is = rw e refl
+
+  over-nothing : out ≡ over [] out
+  unfolding over
+  over-nothing = ap (λ (t : List ℕ). t ++ out) (sym (take-nil (length out)))
+
+  kept : roomy a b work rec ≡ false → MeetsList file a b work rec out 0 a b work rec out
+  kept e =
+      let l = lent-is e in
+      let t = text-is e in
+      record { text = rw t over-nothing; count = rw t (omega arith); most = omega arith; left = rw l refl; right = rw l refl; drawn = rw l refl; written = rw l refl }
+
+  pub short-a : length a < 16_384 → MeetsList file a b work rec out 0 a b work rec out
+  short-a h = kept (simp (lt-leb 16_384 (length a) h))
+
+  module _ (la : 16_384 ≤ length a) where
+    pub short-b : length b < 16_384 → MeetsList file a b work rec out 0 a b work rec out
+    short-b h = kept (simp (le-leb 16_384 (length a) la, lt-leb 16_384 (length b) h))
+
+    module _ (lb : 16_384 ≤ length b) where
+      pub short-work : length work < 16_384 → MeetsList file a b work rec out 0 a b work rec out
+      short-work h = kept (simp (le-leb 16_384 (length a) la, le-leb 16_384 (length b) lb, lt-leb 16_384 (length work) h))
+
+      module _ (lw : 16_384 ≤ length work) where
+        pub short-rec : length rec < ROOM → MeetsList file a b work rec out 0 a b work rec out
+        short-rec h = kept (simp (le-leb 16_384 (length a) la, le-leb 16_384 (length b) lb, le-leb 16_384 (length work) lw, lt-leb ROOM (length rec) h))
+
+        pub meets-list : ROOM ≤ length rec → {r : ℕ} {a′ b′ work′ rec′ out′ : List ℕ} → Lists (listed file (blank a b work rec)) out r a′ b′ work′ rec′ out′ → MeetsList file a b work rec out r a′ b′ work′ rec′ out′
+        meets-list lr {r} {out′ = out′} v =
+            let e : roomy a b work rec ≡ true = simp (le-leb 16_384 (length a) la, le-leb 16_384 (length b) lb, le-leb 16_384 (length work) lw, le-leb ROOM (length rec) lr) in
+            let l = lent-is e in
+            let t = text-is e ∙ sym (text-same file a b work rec) in
+            let n : r ≤ length out′ = omega (arith, v .count, ap length (v .text) ∙ length-over (listed file (blank a b work rec) .text) out) in
+            record { text = rw t (v .text); count = rw t (v .count); most = n; left = rw l (v .left); right = rw l (v .right); drawn = rw l (v .drawn); written = rw l (v .written) }

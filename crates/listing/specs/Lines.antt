@@ -1,0 +1,64 @@
+-- The lines of a listing (document 01, "Bench examples"), as their bytes.
+use Prim.Native.Nat.{ℕ, zero, suc, _+_, _/_, _%_}
+use Prim.Native.Char.{code}
+use Prim.Native.String.{String, [] as none, _∷_ as _then_}
+use mathlib.Core.Bool.{true, false}
+use mathlib.Core.List.{List, [], _∷_, _++_}
+use mathlib.Core.Path.{_≡_, refl}
+use lib.Dec.{ltb}
+use Rattle.state.specs.declared.Sizes.{Sizes}
+use Rattle.player.specs.Step.{Report}
+
+-- the bytes of a text
+abbrev pub ascii : String → List ℕ
+ascii none = []
+ascii (c then s) = code c ∷ ascii s
+
+-- a number in decimal, of at most so many digits; and in as many as it has
+abbrev pub digits : ℕ → ℕ → List ℕ
+digits zero n = []
+digits (suc k) n = elim (ltb n 10) [ true ↦ (48 + n) ∷ [] | false ↦ digits k (n / 10) ++ ((48 + n % 10) ∷ []) ]
+
+unfoldable pub decimal : ℕ → List ℕ
+decimal n = digits (suc n) n
+
+-- a word and a number
+abbrev pub field : String → ℕ → List ℕ
+field word n = ascii word ++ decimal n
+
+abbrev pub newline : List ℕ
+newline = 10 ∷ []
+
+abbrev pub tooLarge : List ℕ
+tooLarge = ascii "too large\n"
+
+unfoldable pub refusedLine : ℕ → List ℕ
+refusedLine n = field "refused " n ++ newline
+
+unfoldable pub endLine : ℕ → List ℕ
+endLine n = field "end " n ++ newline
+
+unfoldable pub pictureLine : Sizes → List ℕ
+pictureLine z = field "picture " (z .width) ++ field "x" (z .height) ++ field "x" (z .planes) ++ newline
+
+-- frame n, and what stepping on reported of it
+unfoldable pub frameLine : ℕ → Report → List ℕ
+frameLine n r =
+    field "frame " n ++ field " method " (r .method) ++ field " time " (r .time) ++ field " changed " (r .changed) ++ field " record " (r .length) ++ newline
+
+-- the papers' sample, line by line
+sample-picture : pictureLine (record { width = 16; height = 2; planes = 1 }) ≡ ascii "picture 16x2x1\n"
+unfolding pictureLine decimal
+sample-picture = refl
+
+sample-frame : frameLine 2 (record { method = 5; time = 3; changed = 2; length = 9 }) ≡ ascii "frame 2 method 5 time 3 changed 2 record 9\n"
+unfolding frameLine decimal
+sample-frame = refl
+
+sample-end : endLine 2 ≡ ascii "end 2\n"
+unfolding endLine decimal
+sample-end = refl
+
+large-number : decimal 4294967295 ≡ ascii "4294967295"
+unfolding decimal
+large-number = refl

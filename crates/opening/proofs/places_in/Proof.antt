@@ -1,0 +1,84 @@
+-- `opening::places_in`: the walk to the first FORM ILBM, then to its two chunks.
+use native.Mathlib.Omega.{arith}
+use mathlib.Core.Path.{sym}
+use Rattle.laws.specs.ResultLaws.{told, each-some}
+use Rattle.iff.specs.Pair.{bothOf}
+use Rattle.iff.specs.Form.{formOf}
+use Rattle.iff.specs.FormLaws.{Follows, frame-follows}
+use Rattle.opening.specs.OpenLaws.{anim-broken, anim-empty, form-broken, form-missing, form-whole}
+use borrow.Author.Needs.{needs}
+use Rattle.opening.proofs.places_in.Statement.{statement}
+use Rattle.opening.proofs.places_in.Tie as tie
+
+next-form-requires : tie.Need-next-form-requires
+next-form-requires c κs = search needs
+
+enum-known-f : tie.Need-enum-known-f
+enum-known-f c = search needs
+
+enum-told : tie.Need-enum-told
+enum-told c = search needs
+
+enum-known-f-2 : tie.Need-enum-known-f-2
+enum-known-f-2 c = search needs
+
+add-stop : tie.Need-add-stop
+add-stop c = let k : Follows _ _ _ = each-some (told formOf (c .before .before .before .next-form .ensures) (c .before .f2 .given .1)) (frame-follows _ _) in omega (arith, k .holds, k .ends)
+
+sub-find-both : tie.Need-sub-find-both
+sub-find-both c = search needs
+
+part-find-both-start : tie.Need-part-find-both-start
+part-find-both-start c = search needs
+
+part-find-both-end : tie.Need-part-find-both-end
+part-find-both-end c = let k : Follows _ _ _ = each-some (told formOf (c .before .before .before .next-form .ensures) (c .before .f2 .given .1)) (frame-follows _ _) in omega (arith, k .holds, k .ends)
+
+find-both-requires : tie.Need-find-both-requires
+find-both-requires c κs = search needs
+
+enum-known-p : tie.Need-enum-known-p
+enum-known-p c = search needs
+
+enum-told-2 : tie.Need-enum-told-2
+enum-told-2 c = search needs
+
+enum-known-p-2 : tie.Need-enum-known-p-2
+enum-known-p-2 c = search needs
+
+returns : tie.Need-returns
+returns c = sym (anim-broken _ (told formOf (c .before .before .before .next-form .ensures) (c .before .f .given .1)))
+
+returns-2 : tie.Need-returns-2
+returns-2 c = sym (anim-empty _ (told formOf (c .before .before .next-form .ensures) (c .enum-told .given .1)))
+
+returns-3 : tie.Need-returns-3
+returns-3 c = sym (form-broken _ _ _ _ (told formOf (c .before .before .before .before .before .before .before .before .next-form .ensures) (c .before .before .before .before .before .before .f2 .given .1)) (told bothOf (c .before .before .before .find-both .ensures) (c .before .p .given .1)))
+
+returns-4 : tie.Need-returns-4
+returns-4 c = sym (form-missing _ _ _ _ (told formOf (c .before .before .before .before .before .before .before .next-form .ensures) (c .before .before .before .before .before .f2 .given .1)) (told bothOf (c .before .before .find-both .ensures) (c .enum-told2 .given .1)))
+
+returns-5 : tie.Need-returns-5
+returns-5 c = sym (form-whole _ _ _ _ (told formOf (c .before .before .before .before .before .before .before .before .next-form .ensures) (c .before .before .before .before .before .before .f2 .given .1)) (told bothOf (c .before .before .before .find-both .ensures) (c .before .p2 .given .1)))
+
+pub places-in-spec : {M : Type 1} → statement M
+places-in-spec =
+    tie.close
+    (tie.spec
+    next-form-requires
+    enum-known-f
+    enum-told
+    enum-known-f-2
+    add-stop
+    sub-find-both
+    part-find-both-start
+    part-find-both-end
+    find-both-requires
+    enum-known-p
+    enum-told-2
+    enum-known-p-2
+    returns
+    returns-2
+    returns-3
+    returns-4
+    returns-5)
