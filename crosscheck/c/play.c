@@ -1,0 +1,220 @@
+/* Plays a file to its end and back again, and checks that it comes back to frame 1. */
+#include "anim.h"
+
+#include <stdio.h>
+#include <stdlib.h>
+#include <string.h>
+
+/* A state, report or length as the bytes that a call is lent. */
+#define BYTES(x) ((uint8_t *)&(x)), sizeof(x)
+
+/* A record that is kept until its step is taken back. */
+struct kept {
+    uint8_t *bytes;
+    size_t length;
+    struct kept *before;
+};
+
+struct player {
+    uint8_t *file, *a, *b, *work, *record;
+    size_t file_length, frame, room;
+    anim_state state;
+    anim_report report;
+    struct kept *latest;
+};
+
+static void stop(const char *what) {
+    fprintf(stderr, "play: %s\n", what);
+    exit(1);
+}
+
+/* Memory of exactly so many bytes. */
+static uint8_t *memory(size_t length) {
+    uint8_t *p = (uint8_t *)malloc(length > 0 ? length : 1);
+    if (p == NULL)
+        stop("no memory");
+    return p;
+}
+
+static void read_file(struct player *p, const char *name) {
+    FILE *f = fopen(name, "rb");
+    long length = -1;
+    if (f == NULL || fseek(f, 0, SEEK_END) != 0 || (length = ftell(f)) < 0 || fseek(f, 0, SEEK_SET) != 0)
+        stop("the file can't be read");
+    p->file_length = (size_t)length;
+    p->file = memory(p->file_length);
+    if (fread(p->file, 1, p->file_length, f) != p->file_length)
+        stop("the file can't be read");
+    fclose(f);
+}
+
+static size_t number_at(const uint8_t *p, int bytes) {
+    size_t n = 0;
+    while (bytes-- > 0)
+        n = n << 8 | *p++;
+    return n;
+}
+
+/* A part of the file. */
+struct part {
+    const uint8_t *at;
+    size_t length;
+};
+
+/* Takes the first chunk off a parent; 0 if there is no whole one. */
+static int take_chunk(struct part *parent, const uint8_t **id, struct part *contents) {
+    size_t padded;
+    if (parent->length < 8)
+        return 0;
+    *id = parent->at;
+    contents->at = parent->at + 8;
+    contents->length = number_at(parent->at + 4, 4);
+    padded = contents->length + contents->length % 2;
+    if (padded > parent->length - 8)
+        return 0;
+    parent->at += 8 + padded;
+    parent->length -= 8 + padded;
+    return 1;
+}
+
+/* The bytes of a frame as the BMHD in a FORM ILBM has them, 0 if there is none. */
+static size_t frame_in(struct part form) {
+    const uint8_t *id;
+    struct part header;
+    while (take_chunk(&form, &id, &header))
+        if (memcmp(id, "BMHD", 4) == 0 && header.length >= 9)
+            return ANIM_FRAME_BYTES(number_at(header.at, 2), number_at(header.at + 2, 2), header.at[8]);
+    return 0;
+}
+
+/* The bytes of the file's frames, 0 if they can't be found; anim_open checks them. */
+static size_t frame_bytes(const uint8_t *file, size_t length) {
+    struct part anim, form;
+    const uint8_t *id;
+    if (length < 12)
+        return 0;
+    anim.at = file + 12;
+    anim.length = length - 12;
+    while (take_chunk(&anim, &id, &form))
+        if (memcmp(id, "FORM", 4) == 0 && form.length >= 4 && memcmp(form.at, "ILBM", 4) == 0) {
+            form.at += 4;
+            form.length -= 4;
+            return frame_in(form);
+        }
+    return 0;
+}
+
+static uint64_t open_file(struct player *p) {
+    p->frame = frame_bytes(p->file, p->file_length);
+    if (p->frame > ANIM_FRAME_BYTES(ANIM_MAX_WIDTH, ANIM_MAX_HEIGHT, ANIM_MAX_PLANES))
+        p->frame = 0;
+    p->room = ANIM_RECORD_ROOM(p->frame);
+    p->a = memory(p->frame);
+    p->b = memory(p->frame);
+    p->work = memory(p->frame);
+    p->record = memory(p->room);
+    p->latest = NULL;
+    return anim_open(p->file, p->file_length, p->a, p->frame, p->b, p->frame, BYTES(p->state));
+}
+
+/* Steps on and keeps the record in memory of its own length. */
+static uint64_t step_on(struct player *p) {
+    struct kept *k;
+    uint64_t answer = anim_step_on(p->file, p->file_length, BYTES(p->state), p->a, p->frame, p->b, p->frame,
+                                   p->work, p->frame, p->record, p->room, BYTES(p->report));
+    if (answer != ANIM_OK)
+        return answer;
+    k = (struct kept *)malloc(sizeof *k);
+    if (k == NULL)
+        stop("no memory");
+    k->length = (size_t)p->report.record;
+    k->bytes = memory(k->length);
+    memcpy(k->bytes, p->record, k->length);
+    k->before = p->latest;
+    p->latest = k;
+    return answer;
+}
+
+/* Takes the latest step back and gives its record up. */
+static void step_back(struct player *p) {
+    struct kept *k = p->latest;
+    if (anim_step_back(k->bytes, k->length, BYTES(p->state), p->a, p->frame, p->b, p->frame) != ANIM_OK)
+        stop("a step back is refused");
+    p->latest = k->before;
+    free(k->bytes);
+    free(k);
+}
+
+/* Asks for every row of the shown picture and looks at its bytes. */
+static unsigned look(const struct player *p) {
+    const uint8_t *shown = p->state.frame % 2 == 1 ? p->a : p->b;
+    const uint8_t *state = (const uint8_t *)&p->state;
+    unsigned sum = 0;
+    uint64_t plane, row, at, x;
+    for (plane = 0; plane < p->state.planes; plane++)
+        for (row = 0; row < p->state.height; row++) {
+            if (anim_row_refusal(state, sizeof p->state, p->a, p->frame, p->b, p->frame, plane, row) != ANIM_OK)
+                stop("a row is refused");
+            at = anim_row_place(state, sizeof p->state, p->a, p->frame, p->b, p->frame, plane, row);
+            for (x = 0; x < ANIM_ROW_BYTES(p->state.width); x++)
+                sum = sum * 31 + shown[at + x];
+        }
+    return sum;
+}
+
+/* Writes the delta from A to B and checks that it has room. */
+static uint64_t write_delta(const struct player *p) {
+    size_t room = ANIM_DELTA_ROOM(p->state.width, p->state.height, p->state.planes);
+    uint8_t *out = memory(room);
+    uint64_t length = 0;
+    uint64_t answer = anim_write_delta(p->a, p->frame, p->b, p->frame, out, room, BYTES(length),
+                                       p->state.width, p->state.height, p->state.planes);
+    if (answer != ANIM_OK)
+        stop("a delta is refused");
+    free(out);
+    return length;
+}
+
+static void play(struct player *p) {
+    anim_state first = p->state;
+    unsigned looked = look(p), most = 0;
+    uint8_t *a = memory(p->frame), *b = memory(p->frame);
+    uint64_t answer;
+    memcpy(a, p->a, p->frame);
+    memcpy(b, p->b, p->frame);
+    while ((answer = step_on(p)) == ANIM_OK) {
+        look(p);
+        write_delta(p);
+        most++;
+    }
+    while (p->latest != NULL)
+        step_back(p);
+    if (memcmp(&first, &p->state, sizeof first) != 0 || memcmp(a, p->a, p->frame) != 0 || memcmp(b, p->b, p->frame) != 0 || look(p) != looked)
+        stop("it doesn't come back to frame 1");
+    free(a);
+    free(b);
+    printf("%u steps on and back, ", most);
+    if (answer == ANIM_END)
+        printf("end\n");
+    else
+        printf("refused %u\n", (unsigned)answer);
+}
+
+int main(int argc, char **argv) {
+    struct player p;
+    uint64_t answer;
+    if (argc != 2)
+        stop("name a file");
+    read_file(&p, argv[1]);
+    answer = open_file(&p);
+    if (answer == ANIM_OK)
+        play(&p);
+    else
+        printf("refused %u\n", (unsigned)answer);
+    free(p.file);
+    free(p.a);
+    free(p.b);
+    free(p.work);
+    free(p.record);
+    return 0;
+}

@@ -1,0 +1,269 @@
+//! Times the library against plain Rust on the same input, in turns, best of several.
+//!
+//!     bench [--times] [--turns N] [--only WORD,WORD]
+//!
+//! The table has ratios, library / plain Rust; with --times microseconds stand beside them.
+//! With --only a case is run if it has all the words: open or step or write, the width, light or heavy or noise,
+//! and the items' bytes of the method (1, 2, 4), or packed or plain for opening.
+use crosscheck::files;
+use crosscheck::pair::{delta_room, record_room};
+use crosscheck::plain::{self, Sizes, State};
+use crosscheck::random::Random;
+use crosscheck::{cover, library};
+use std::hint::black_box;
+use std::time::Instant;
+
+const SIZES: [Sizes; 3] =
+    [Sizes { width: 320, height: 200, planes: 5 }, Sizes { width: 640, height: 512, planes: 8 }, Sizes { width: 1024, height: 1024, planes: 8 }];
+const CHANGES: [&str; 3] = ["light", "heavy", "noise"];
+const METHODS: [(&str, usize); 3] = [("method 5", 1), ("7 short", 2), ("7 long", 4)];
+
+/// The best time of each side, in seconds.
+#[derive(Clone, Copy)]
+struct Best {
+    library: f64,
+    plain: f64,
+}
+
+impl Best {
+    fn new() -> Best {
+        Best { library: f64::MAX, plain: f64::MAX }
+    }
+
+    fn cell(&self, times: bool) -> String {
+        let ratio = format!("{:.2}", self.library / self.plain);
+        if times {
+            format!("{ratio} ({:.1} / {:.1})", self.library * 1e6, self.plain * 1e6)
+        } else {
+            ratio
+        }
+    }
+}
+
+/// Runs something and keeps its time if it is the best.
+fn time<T>(best: &mut f64, run: impl FnOnce() -> T) -> T {
+    let start = Instant::now();
+    let answer = black_box(run());
+    *best = best.min(start.elapsed().as_secs_f64());
+    answer
+}
+
+/// A picture with runs and noise, as drawings have them.
+fn picture(random: &mut Random, sizes: Sizes) -> Vec<u8> {
+    let mut frame = Vec::with_capacity(sizes.frame());
+    while frame.len() < sizes.frame() {
+        let count = random.from_to(1, 24);
+        if random.once_in(3) {
+            frame.extend(random.bytes(count));
+        } else {
+            let value = random.byte();
+            frame.extend(std::iter::repeat_n(value, 2 * count));
+        }
+    }
+    frame.truncate(sizes.frame());
+    frame
+}
+
+/// The picture after it: boxes changed until about so many bytes of a hundred differ, or all of it.
+fn next_picture(random: &mut Random, sizes: Sizes, old: &[u8], change: &str) -> Vec<u8> {
+    let wanted = match change {
+        "light" => old.len() * 2 / 100,
+        "heavy" => old.len() * 40 / 100,
+        _ => return random.bytes(old.len()),
+    };
+    let mut new = old.to_vec();
+    let mut changed = 0;
+    while changed < wanted {
+        let plane = random.below(sizes.planes) * sizes.plane();
+        let (wide, high) = (random.from_to(1, 6), random.from_to(4, 24));
+        let (x, y) = (random.below(sizes.row() - wide + 1), random.below(sizes.height - high + 1));
+        let (filled, value) = (random.once_in(2), random.byte());
+        for at in (y..y + high).flat_map(|y| (x..x + wide).map(move |x| plane + y * sizes.row() + x)) {
+            let before = new[at] != old[at];
+            new[at] = if filled { value } else { random.byte() };
+            changed = changed + usize::from(new[at] != old[at]) - usize::from(before);
+        }
+    }
+    new
+}
+
+fn file_of(sizes: Sizes, compression: u8, body: &[u8], later: Option<(usize, &[u8])>) -> Vec<u8> {
+    let mut parts = vec![files::form(b"ILBM", &[files::chunk(b"BMHD", &files::bmhd(sizes, compression)), files::chunk(b"BODY", body)])];
+    if let Some((items, delta)) = later {
+        parts.push(files::form(b"ILBM", &[files::chunk(b"ANHD", &files::anhd(items, 1)), files::chunk(b"DLTA", delta)]));
+    }
+    files::form(b"ANIM", &parts)
+}
+
+/// The buffers of one side.
+struct Side {
+    a: Vec<u8>,
+    b: Vec<u8>,
+    work: Vec<u8>,
+    record: Vec<u8>,
+}
+
+impl Side {
+    fn new(sizes: Sizes) -> Side {
+        let frame = vec![0; sizes.frame()];
+        Side { a: frame.clone(), b: frame.clone(), work: frame, record: vec![0; record_room(sizes.frame())] }
+    }
+}
+
+fn opening(turns: usize, file: &[u8], sizes: Sizes) -> Best {
+    let mut best = Best::new();
+    let (mut l, mut p) = (Side::new(sizes), Side::new(sizes));
+    let mut state = [0; 48];
+    for _ in 0..turns {
+        let x = time(&mut best.library, || library::open(black_box(file), &mut l.a, &mut l.b, &mut state));
+        let y = time(&mut best.plain, || plain::open(black_box(file), &mut p.a, &mut p.b));
+        assert!(x == 0 && y == Ok(cover::state_in(&state)) && l.a == p.a && l.b == p.b);
+    }
+    best
+}
+
+/// A step on and back again: the best time of each.
+fn steps(turns: usize, file: &[u8], sizes: Sizes) -> (Best, Best) {
+    let (mut on, mut back) = (Best::new(), Best::new());
+    let (mut l, mut p) = (Side::new(sizes), Side::new(sizes));
+    let (mut state, mut report) = ([0; 48], [0; 32]);
+    assert_eq!(library::open(file, &mut l.a, &mut l.b, &mut state), 0);
+    let mut now: State = plain::open(file, &mut p.a, &mut p.b).expect("it opens");
+    for _ in 0..turns {
+        let x = time(&mut on.library, || library::step_on(black_box(file), &mut state, &mut l.a, &mut l.b, &mut l.work, &mut l.record, &mut report));
+        let y = time(&mut on.plain, || plain::step_on(black_box(file), &mut now, &mut p.a, &mut p.b, &mut p.work, &mut p.record));
+        let length = y.expect("a step").expect("a frame").record as usize;
+        assert!(x == 0 && l.b == p.b && l.record[..length] == p.record[..length]);
+        let x = time(&mut back.library, || library::step_back(black_box(&l.record[..length]), &mut state, &mut l.a, &mut l.b));
+        let y = time(&mut back.plain, || plain::step_back(black_box(&p.record[..length]), &mut now, &mut p.a, &mut p.b));
+        assert!(x == 0 && y.is_ok() && l.b == p.b);
+    }
+    (on, back)
+}
+
+fn writing(turns: usize, old: &[u8], new: &[u8], sizes: Sizes) -> Best {
+    let mut best = Best::new();
+    let [w, h, p] = [sizes.width as u64, sizes.height as u64, sizes.planes as u64];
+    let (mut out, mut other) = (vec![0; delta_room(sizes)], vec![0; delta_room(sizes)]);
+    let mut length = [0; 8];
+    for _ in 0..turns {
+        let x = time(&mut best.library, || library::write_delta(black_box(old), new, &mut out, &mut length, w, h, p));
+        let y = time(&mut best.plain, || plain::write_delta(black_box(old), new, &mut other, w, h, p));
+        assert!(x == 0 && y == Ok(u64::from_le_bytes(length) as usize) && out == other);
+    }
+    best
+}
+
+fn method_delta(old: &[u8], new: &[u8], sizes: Sizes, items: usize) -> Vec<u8> {
+    if items > 1 {
+        return files::method_7(old, new, sizes, items);
+    }
+    let mut out = vec![0; delta_room(sizes)];
+    let [w, h, p] = [sizes.width as u64, sizes.height as u64, sizes.planes as u64];
+    let length = plain::write_delta(old, new, &mut out, w, h, p).expect("room");
+    out.truncate(length);
+    out
+}
+
+/// What was asked for.
+struct Words {
+    times: bool,
+    turns: usize,
+    only: Vec<String>,
+}
+
+impl Words {
+    fn read() -> Words {
+        let args: Vec<String> = std::env::args().collect();
+        let after = |name: &str| args.iter().position(|word| word == name).and_then(|k| args.get(k + 1));
+        Words {
+            times: args.iter().any(|word| word == "--times"),
+            turns: after("--turns").and_then(|n| n.parse().ok()).unwrap_or(25),
+            only: after("--only").map_or(vec![], |words| words.split(',').map(String::from).collect()),
+        }
+    }
+
+    /// Whether a case with these words is to be run.
+    fn wants(&self, case: &[&str]) -> bool {
+        self.only.iter().all(|word| case.contains(&word.as_str()))
+    }
+
+    fn turns(&self, sizes: Sizes) -> usize {
+        if sizes.frame() < 100_000 {
+            8 * self.turns
+        } else {
+            self.turns
+        }
+    }
+}
+
+/// The lines of each table.
+#[derive(Default)]
+struct Tables {
+    open: Vec<String>,
+    on: Vec<String>,
+    back: Vec<String>,
+    write: Vec<String>,
+}
+
+fn bench_opening(words: &Words, tables: &mut Tables, sizes: Sizes, old: &[u8]) {
+    let mut line = format!("| {} |", name(sizes));
+    for (kind, compression, body) in [("packed", 1, files::packed_body(old, sizes)), ("plain", 0, files::plain_body(old, sizes))] {
+        let file = file_of(sizes, compression, &body, None);
+        let wanted = words.wants(&["open", &sizes.width.to_string(), kind]);
+        line += &cell(words, wanted.then(|| opening(words.turns(sizes), &file, sizes)));
+    }
+    tables.open.push(line);
+}
+
+fn bench_change(words: &Words, tables: &mut Tables, sizes: Sizes, old: &[u8], new: &[u8], change: &str) {
+    let width = sizes.width.to_string();
+    let body = files::plain_body(old, sizes);
+    let start = format!("| {} | {change} |", name(sizes));
+    let (mut on_line, mut back_line) = (start.clone(), start.clone());
+    for (_, items) in METHODS {
+        let steps = words.wants(&["step", &width, change, &items.to_string()]).then(|| {
+            let delta = method_delta(old, new, sizes, items);
+            steps(words.turns(sizes), &file_of(sizes, 0, &body, Some((items, &delta))), sizes)
+        });
+        on_line += &cell(words, steps.map(|s| s.0));
+        back_line += &cell(words, steps.map(|s| s.1));
+    }
+    let wanted = words.wants(&["write", &width, change]);
+    let written = wanted.then(|| writing(words.turns(sizes), old, new, sizes));
+    tables.on.push(on_line);
+    tables.back.push(back_line);
+    tables.write.push(start + &cell(words, written));
+}
+
+fn cell(words: &Words, best: Option<Best>) -> String {
+    best.map_or(" |".into(), |best| format!(" {} |", best.cell(words.times)))
+}
+
+fn name(sizes: Sizes) -> String {
+    format!("{} x {} x {}", sizes.width, sizes.height, sizes.planes)
+}
+
+fn main() {
+    let words = Words::read();
+    let mut random = Random::new(5);
+    let mut tables = Tables::default();
+    for sizes in SIZES {
+        let old = picture(&mut random, sizes);
+        bench_opening(&words, &mut tables, sizes, &old);
+        for change in CHANGES {
+            let new = next_picture(&mut random, sizes, &old, change);
+            bench_change(&words, &mut tables, sizes, &old, &new, change);
+        }
+    }
+    println!("Ratios, library / plain Rust{}; below 1 the library is faster.", if words.times { " (microseconds of each)" } else { "" });
+    let methods = METHODS.map(|m| m.0).join(" | ");
+    table("Opening", "| sizes | ByteRun1 | plain BODY |\n|---|---|---|", &tables.open);
+    table("Step on, record included", &format!("| sizes | changes | {methods} |\n|---|---|---|---|---|"), &tables.on);
+    table("Step back", &format!("| sizes | changes | {methods} |\n|---|---|---|---|---|"), &tables.back);
+    table("Writer", "| sizes | changes | method 5 |\n|---|---|---|", &tables.write);
+}
+
+fn table(title: &str, head: &str, lines: &[String]) {
+    println!("\n{title}\n\n{head}\n{}", lines.join("\n"));
+}

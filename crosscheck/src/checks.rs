@@ -1,0 +1,71 @@
+//! The checks: groups of calls that are made on both sides.
+pub mod calls;
+pub mod damaged;
+pub mod large;
+pub mod limits;
+pub mod listings;
+pub mod orders;
+pub mod records;
+pub mod writer;
+
+use crate::files;
+use crate::pair::{Checked, Pair, Player};
+use crate::plain::Sizes;
+use crate::random::Random;
+
+/// Both sides and where the numbers come from.
+pub struct Check {
+    pub pair: Pair,
+    pub random: Random,
+}
+
+/// Opens a file, plays it to its end or first refusal, and takes every step back.
+pub fn play(check: &mut Check, file: &[u8]) -> Checked<()> {
+    let mut player = Player::fitting(&mut check.random, file);
+    if player.open(&mut check.pair)? != 0 {
+        return Ok(());
+    }
+    let mut past = Vec::new();
+    loop {
+        let before = (player.a.bytes().to_vec(), player.b.bytes().to_vec(), player.now());
+        match player.step_on(&mut check.pair)? {
+            0 => past.push((player.written(), before)),
+            51 => return Err("a record buffer of the length of anim.h is too short".into()),
+            _ => break,
+        }
+    }
+    for (record, (a, b, state)) in past.into_iter().rev() {
+        if player.step_back(&mut check.pair, &record)? != 0 {
+            return Err(format!("a step back to {state:?} with its own record is refused"));
+        }
+        if (player.a.bytes(), player.b.bytes(), player.now()) != (&a, &b, state) {
+            return Err(format!("a step back to {state:?} leads elsewhere"));
+        }
+    }
+    Ok(())
+}
+
+/// Small well-formed files of every kind of BODY and delta.
+pub fn small_films(check: &mut Check) -> Vec<Vec<u8>> {
+    let sizes = [(16, 2, 1), (20, 3, 2), (32, 3, 1), (33, 2, 3), (64, 5, 1)];
+    let random = &mut check.random;
+    let mut films = Vec::new();
+    for (width, height, planes) in sizes {
+        let sizes = Sizes { width, height, planes };
+        films.push(files::film(random, sizes, 4, files::Harm::None));
+        films.push(every_method(random, sizes));
+    }
+    films
+}
+
+/// A file with a packed BODY and a frame of each kind of item.
+fn every_method(random: &mut Random, sizes: Sizes) -> Vec<u8> {
+    let picture = random.bytes(sizes.frame());
+    let body = files::packed_body(&picture, sizes);
+    let mut parts = vec![files::form(b"ILBM", &[files::chunk(b"BMHD", &files::bmhd(sizes, 1)), files::chunk(b"BODY", &body)])];
+    for items in [1, 2, 4].into_iter().filter(|items| sizes.row().is_multiple_of(*items)) {
+        let delta = files::random_delta(random, sizes, items);
+        parts.push(files::form(b"ILBM", &[files::chunk(b"ANHD", &files::anhd(items, 3)), files::chunk(b"DLTA", &delta)]));
+    }
+    files::form(b"ANIM", &parts)
+}

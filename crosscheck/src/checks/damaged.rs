@@ -1,0 +1,107 @@
+//! Damaged files: cut at every byte, every byte changed, harmed in one chunk, and broken at random.
+use super::{play, small_films, Check};
+use crate::files::{self, Harm, HARMS};
+use crate::pair::Checked;
+use crate::plain::Sizes;
+
+/// Small files cut at every byte, as they are and with FORM ANIM's length set right.
+pub fn cut(check: &mut Check) -> Checked<()> {
+    for film in small_films(check) {
+        for length in 0..film.len() {
+            let mut file = film[..length].to_vec();
+            play(check, &file)?;
+            if length >= 12 {
+                file[4..8].copy_from_slice(&(length as u32 - 8).to_be_bytes());
+                play(check, &file)?;
+            }
+        }
+    }
+    Ok(())
+}
+
+/// Every bit of small files changed, and every byte to some other values.
+pub fn flipped(check: &mut Check) -> Checked<()> {
+    for film in small_films(check) {
+        for at in 0..film.len() {
+            for change in [1, 2, 4, 8, 16, 32, 64, 128, 255] {
+                let mut file = film.clone();
+                file[at] ^= change;
+                play(check, &file)?;
+            }
+        }
+    }
+    Ok(())
+}
+
+/// BODY and DLTA cut at every byte in files that are well formed around them.
+pub fn cut_contents(check: &mut Check) -> Checked<()> {
+    let sizes = Sizes { width: 32, height: 6, planes: 2 };
+    let random = &mut check.random;
+    let picture: Vec<u8> = (0..sizes.frame()).map(|_| random.below(2) as u8).collect();
+    let bodies = [files::plain_body(&picture, sizes), files::packed_body(&picture, sizes), files::ragged_body(random, &picture, sizes)];
+    let deltas = [1, 2, 4].map(|items| files::random_delta(random, sizes, items));
+    for (k, body) in bodies.iter().enumerate() {
+        for length in 0..=body.len() {
+            let first = first_frame(sizes, usize::min(k, 1) as u8, &body[..length]);
+            play(check, &files::form(b"ANIM", &[first]))?;
+        }
+    }
+    for (items, delta) in [1, 2, 4].into_iter().zip(&deltas) {
+        for length in 0..=delta.len() {
+            play(check, &two_frames(sizes, &bodies[0], items, &delta[..length]))?;
+        }
+    }
+    Ok(())
+}
+
+fn first_frame(sizes: Sizes, compression: u8, body: &[u8]) -> Vec<u8> {
+    files::form(b"ILBM", &[files::chunk(b"BMHD", &files::bmhd(sizes, compression)), files::chunk(b"BODY", body)])
+}
+
+/// A file of a plain picture and one delta.
+pub fn two_frames(sizes: Sizes, body: &[u8], items: usize, delta: &[u8]) -> Vec<u8> {
+    let later = files::form(b"ILBM", &[files::chunk(b"ANHD", &files::anhd(items, 1)), files::chunk(b"DLTA", delta)]);
+    files::form(b"ANIM", &[first_frame(sizes, 0, body), later])
+}
+
+/// One file, well formed or harmed.
+pub fn any_film(check: &mut Check) -> Checked<()> {
+    let random = &mut check.random;
+    let sizes = files::any_sizes(random);
+    let harm = *random.pick(&HARMS);
+    let frames = random.from_to(1, 5);
+    let film = files::film(random, sizes, frames, harm);
+    play(check, &film)
+}
+
+/// Many deltas for one picture, most of them damaged.
+pub fn any_deltas(check: &mut Check) -> Checked<()> {
+    let random = &mut check.random;
+    let sizes = files::any_sizes(random);
+    let body = random.bytes(sizes.frame());
+    let items = *random.pick(if sizes.row().is_multiple_of(4) { &[1, 2, 4] } else { &[1, 2, 1] });
+    let delta = files::random_delta(random, sizes, items);
+    play(check, &two_frames(sizes, &body, items, &delta))?;
+    for _ in 0..8 {
+        let mut spoilt = delta.clone();
+        for _ in 0..check.random.from_to(1, 2) {
+            if spoilt.len() > 64 {
+                files::damage_delta(&mut check.random, &mut spoilt);
+            }
+        }
+        play(check, &two_frames(sizes, &body, items, &spoilt))?;
+    }
+    Ok(())
+}
+
+/// Every kind of harm once, for the numbers it gives.
+pub fn each_harm(check: &mut Check) -> Checked<()> {
+    for harm in HARMS {
+        for _ in 0..if harm == Harm::None { 20 } else { 60 } {
+            let sizes = files::small_sizes(&mut check.random);
+            let film = files::film(&mut check.random, sizes, 3, harm);
+            play(check, &film)?;
+        }
+    }
+    Ok(())
+}

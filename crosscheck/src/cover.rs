@@ -1,0 +1,83 @@
+//! The rules of the C interface over the plain functions: states, reports and lengths are numbers of eight bytes, low byte first.
+use crate::plain::{self, Answer, State};
+
+/// The number of a state, report or length slice of a wrong length.
+const WRONG_LENGTH: u64 = 11;
+const END: u64 = 1;
+
+pub fn state_in(bytes: &[u8]) -> State {
+    let n = |k: usize| u64::from_le_bytes(bytes[8 * k..8 * k + 8].try_into().expect("eight bytes"));
+    State { width: n(0), height: n(1), planes: n(2), frame: n(3), next: n(4), end: n(5) }
+}
+
+pub fn state_bytes(s: State) -> Vec<u8> {
+    numbers(&[s.width, s.height, s.planes, s.frame, s.next, s.end])
+}
+
+pub fn numbers(of: &[u64]) -> Vec<u8> {
+    of.iter().flat_map(|n| n.to_le_bytes()).collect()
+}
+
+pub fn open(file: &[u8], a: &mut [u8], b: &mut [u8], state: &mut [u8]) -> u64 {
+    if state.len() != 48 {
+        return WRONG_LENGTH;
+    }
+    let opened = plain::open(file, a, b);
+    state.copy_from_slice(&state_bytes(opened.unwrap_or_default()));
+    number(opened)
+}
+
+pub fn step_on(file: &[u8], state: &mut [u8], a: &mut [u8], b: &mut [u8], work: &mut [u8], record: &mut [u8], report: &mut [u8]) -> u64 {
+    if state.len() != 48 || report.len() != 32 {
+        return WRONG_LENGTH;
+    }
+    let mut now = state_in(state);
+    match plain::step_on(file, &mut now, a, b, work, record) {
+        Ok(Some(r)) => {
+            state.copy_from_slice(&state_bytes(now));
+            report.copy_from_slice(&numbers(&[r.method, r.time, r.changed, r.record]));
+            0
+        }
+        Ok(None) => END,
+        Err(refusal) => refusal.number(),
+    }
+}
+
+pub fn step_back(record: &[u8], state: &mut [u8], a: &mut [u8], b: &mut [u8]) -> u64 {
+    if state.len() != 48 {
+        return WRONG_LENGTH;
+    }
+    let mut now = state_in(state);
+    let taken = plain::step_back(record, &mut now, a, b);
+    if taken.is_ok() {
+        state.copy_from_slice(&state_bytes(now));
+    }
+    number(taken)
+}
+
+/// A row's place, 0 if it is refused, and the number of the refusal.
+pub fn row(state: &[u8], a: &[u8], b: &[u8], plane: u64, row: u64) -> (u64, u64) {
+    if state.len() != 48 {
+        return (0, WRONG_LENGTH);
+    }
+    match plain::row_place(&state_in(state), a.len(), b.len(), plane, row) {
+        Ok(at) => (at as u64, 0),
+        Err(refusal) => (0, refusal.number()),
+    }
+}
+
+pub fn write_delta(old: &[u8], new: &[u8], out: &mut [u8], length: &mut [u8], width: u64, height: u64, planes: u64) -> u64 {
+    if length.len() != 8 {
+        return WRONG_LENGTH;
+    }
+    let written = plain::write_delta(old, new, out, width, height, planes);
+    if let Ok(n) = written {
+        length.copy_from_slice(&numbers(&[n as u64]));
+    }
+    number(written)
+}
+
+/// 0, or the refusal's number.
+fn number<T>(answer: Answer<T>) -> u64 {
+    answer.err().map_or(0, |refusal| refusal.number())
+}

@@ -1,0 +1,73 @@
+//! Deliberate errors of the plain side, each by its name; without the feature `faults` there are none.
+
+/// Each name and what it breaks.
+pub const NAMES: &[(&str, &str)] = &[
+    ("repeat-128", "ByteRun1's 128 is 129 copies"),
+    ("masking-above-1", "masking 2 and 3 are refused too"),
+    ("body-exactly", "a BODY with bytes after its last row is refused"),
+    ("body-plane-by-plane", "BODY holds plane after plane"),
+    ("anim-pad-asked", "FORM ANIM's own pad must lie in the file"),
+    ("short-form-passed", "a FORM of under 4 bytes is passed over"),
+    ("pad-not-passed", "the pad of an odd chunk isn't passed over"),
+    ("last-chunk-counts", "the last chunk of an id counts, not the first"),
+    ("frame-not-walked", "a chunk that passes its frame is not seen behind the ones that are needed"),
+    ("wide-by-one", "a width of 1,025 is within the limits"),
+    ("lengths-before-limits", "12 is asked before 11"),
+    ("last-frame-after-end", "53 is asked after the walk"),
+    ("method-before-length", "33 is asked before 32"),
+    ("interleave-1", "interleave 1 is taken as 2"),
+    ("anhd-exactly", "an ANHD of more than 40 bytes is refused"),
+    ("one-byte-down", "a column goes on by one byte and not by a row"),
+    ("skip-past-last-row", "a Skip may pass the last row"),
+    ("data-starts-anew", "method 7's data list starts anew at each column"),
+    ("pointer-at-end", "a pointer that is DLTA's length is refused with 41"),
+    ("data-pointer-0", "a data pointer may be 0"),
+    ("pointer-below-64", "a pointer may lead into the pointers"),
+    ("drawn-before-checked", "a refused delta leaves the frame half drawn in the work buffer"),
+    ("full-record-hides-frame", "51 leaves the work buffer as it was"),
+    ("first-delta-only", "after frame 2 a step only counts on"),
+    ("back-counts-only", "a step back only lowers the frame number"),
+    ("long-numbers", "a record's number need not be in its shortest form"),
+    ("wide-numbers", "a record's number may reach 2^32"),
+    ("zero-gap", "two runs of a record may touch"),
+    ("equal-old-byte", "a record's old byte may equal the one that it replaces"),
+    ("place-at-next", "a record's place may be the state's next place"),
+    ("other-before-bad", "62 is asked before 61"),
+    ("same-of-three", "the writer makes a Same of three rows"),
+    ("same-past-stretch", "the writer's Same goes on into unchanged rows"),
+    ("skip-of-128", "the writer's Skip is cut at 128"),
+    ("same-of-254", "the writer's Same is cut at 254"),
+    ("uniq-of-126", "the writer's Uniq is cut at 126"),
+    ("whole-column-short", "a column of too many ops is written without its last row"),
+    ("ops-past-255", "the writer's column may have 256 ops"),
+];
+
+#[cfg(feature = "faults")]
+static CHOSEN: std::sync::OnceLock<String> = std::sync::OnceLock::new();
+
+/// Breaks the plain side from now on; false if there is no such fault or the feature is off.
+pub fn choose(name: &str) -> bool {
+    #[cfg(feature = "faults")]
+    {
+        NAMES.iter().any(|n| n.0 == name) && CHOSEN.set(name.to_string()).is_ok()
+    }
+    #[cfg(not(feature = "faults"))]
+    {
+        let _ = name;
+        false
+    }
+}
+
+/// Whether the plain side is broken in this way.
+#[inline(always)]
+pub fn broken(name: &str) -> bool {
+    #[cfg(feature = "faults")]
+    {
+        CHOSEN.get().is_some_and(|chosen| chosen == name)
+    }
+    #[cfg(not(feature = "faults"))]
+    {
+        let _ = name;
+        false
+    }
+}

@@ -1,0 +1,416 @@
+//! Makers of chunks, pictures, deltas and whole files, well formed or damaged.
+use crate::plain::Sizes;
+use crate::random::Random;
+
+/// A chunk with its pad.
+pub fn chunk(id: &[u8; 4], contents: &[u8]) -> Vec<u8> {
+    let mut all = id.to_vec();
+    all.extend((contents.len() as u32).to_be_bytes());
+    all.extend_from_slice(contents);
+    if contents.len() % 2 == 1 {
+        all.push(0x77);
+    }
+    all
+}
+
+/// A FORM of parts.
+pub fn form(kind: &[u8; 4], parts: &[Vec<u8>]) -> Vec<u8> {
+    let mut contents = kind.to_vec();
+    contents.extend(parts.concat());
+    chunk(b"FORM", &contents)
+}
+
+/// BMHD's contents.
+pub fn bmhd(sizes: Sizes, compression: u8) -> Vec<u8> {
+    let mut all = vec![0; 20];
+    all[..2].copy_from_slice(&(sizes.width as u16).to_be_bytes());
+    all[2..4].copy_from_slice(&(sizes.height as u16).to_be_bytes());
+    all[8] = sizes.planes as u8;
+    all[10] = compression;
+    all
+}
+
+/// ANHD's contents.
+pub fn anhd(items: usize, time: u32) -> Vec<u8> {
+    let mut all = vec![0; 40];
+    all[0] = if items == 1 { 5 } else { 7 };
+    all[14..18].copy_from_slice(&time.to_be_bytes());
+    all[23] = u8::from(items == 4);
+    all
+}
+
+/// The rows of a frame in BODY's order.
+fn body_rows(frame: &[u8], sizes: Sizes) -> impl Iterator<Item = &[u8]> {
+    let row = sizes.row();
+    (0..sizes.height * sizes.planes).map(move |k| {
+        let at = (k % sizes.planes) * sizes.plane() + (k / sizes.planes) * row;
+        &frame[at..at + row]
+    })
+}
+
+/// A plain BODY's contents.
+pub fn plain_body(frame: &[u8], sizes: Sizes) -> Vec<u8> {
+    body_rows(frame, sizes).flatten().copied().collect()
+}
+
+/// A packed BODY's contents as a packer would write it.
+pub fn packed_body(frame: &[u8], sizes: Sizes) -> Vec<u8> {
+    let mut out = Vec::new();
+    body_rows(frame, sizes).for_each(|row| pack_row(row, &mut out));
+    out
+}
+
+fn pack_row(row: &[u8], out: &mut Vec<u8>) {
+    let mut at = 0;
+    while at < row.len() {
+        let run = row[at..].iter().take(128).take_while(|&&x| x == row[at]).count();
+        if run >= 3 || run == row.len() - at && run > 1 {
+            out.extend([(257 - run) as u8, row[at]]);
+            at += run;
+        } else {
+            let rest = &row[at..row.len().min(at + 128)];
+            let literal = rest.windows(3).position(|w| w[0] == w[1] && w[1] == w[2]).unwrap_or(rest.len());
+            out.push((literal - 1) as u8);
+            out.extend_from_slice(&rest[..literal]);
+            at += literal;
+        }
+    }
+}
+
+/// A packed BODY's contents with runs cut anywhere and bytes 128 between.
+pub fn ragged_body(random: &mut Random, frame: &[u8], sizes: Sizes) -> Vec<u8> {
+    let mut out = Vec::new();
+    for row in body_rows(frame, sizes) {
+        let mut at = 0;
+        while at < row.len() {
+            if random.once_in(8) {
+                out.push(128);
+            }
+            let run = row[at..].iter().take(128).take_while(|&&x| x == row[at]).count();
+            let count = random.from_to(1, (row.len() - at).min(128));
+            if run >= 2 && count <= run && count > 1 {
+                out.extend([(257 - count) as u8, row[at]]);
+            } else {
+                out.push((count - 1) as u8);
+                out.extend_from_slice(&row[at..at + count]);
+            }
+            at += count;
+        }
+    }
+    out
+}
+
+/// Any well-formed delta of items of 1, 2 or 4 bytes.
+pub fn random_delta(random: &mut Random, sizes: Sizes, items: usize) -> Vec<u8> {
+    let mut out = vec![0; 64];
+    let values = *random.pick(&[1, 2, 3, 256]);
+    let calm = random.from_to(1, 12);
+    let mut latest = None;
+    for plane in 0..sizes.planes {
+        if random.once_in(4) {
+            set_pointer(&mut out, plane + 8, random.below(200) as u32);
+            continue;
+        }
+        if let (true, Some((ops, data))) = (random.once_in(6), latest) {
+            set_pointer(&mut out, plane, ops);
+            set_pointer(&mut out, plane + 8, data);
+            continue;
+        }
+        let (ops, data) = random_lists(random, sizes, items, values, calm);
+        if random.once_in(3) {
+            let junk = random.below(5);
+            out.extend(random.bytes(junk));
+        }
+        let at = out.len() as u32;
+        let places = if random.once_in(2) { (at, at + ops.len() as u32) } else { (at + data.len() as u32, at) };
+        let parts = if places.0 == at { [ops, data] } else { [data, ops] };
+        out.extend(parts.concat());
+        set_pointer(&mut out, plane, places.0);
+        if items > 1 {
+            set_pointer(&mut out, plane + 8, places.1);
+        }
+        latest = Some(places);
+    }
+    if random.once_in(3) {
+        let junk = random.below(5);
+        out.extend(random.bytes(junk));
+    }
+    out
+}
+
+fn set_pointer(delta: &mut [u8], pointer: usize, place: u32) {
+    delta[4 * pointer..4 * pointer + 4].copy_from_slice(&place.to_be_bytes());
+}
+
+/// The op list and the data list of a plane; the data list is empty for items of one byte.
+fn random_lists(random: &mut Random, sizes: Sizes, items: usize, values: usize, calm: usize) -> (Vec<u8>, Vec<u8>) {
+    let (mut ops, mut data) = (Vec::new(), Vec::new());
+    for _ in 0..sizes.row() / items {
+        let start = ops.len();
+        ops.push(0);
+        let (mut y, mut count) = (0, 0);
+        while y < sizes.height && count < 255 && !random.once_in(calm) {
+            let left = sizes.height - y;
+            let most = [127, 255, 127][count % 3].min(left);
+            let rows = if random.once_in(4) { most } else { random.from_to(1, most) };
+            let kind = random.below(3);
+            let rows = if kind == 1 { rows } else { rows.min(127) };
+            match kind {
+                0 => ops.push(rows as u8),
+                1 => ops.extend([0, rows as u8]),
+                _ => ops.push(128 + rows as u8),
+            }
+            let given = [0, 1, rows][kind] * items;
+            let list = if items == 1 { &mut ops } else { &mut data };
+            list.extend((0..given).map(|_| random.below(values) as u8));
+            y += rows;
+            count += 1;
+        }
+        ops[start] = count as u8;
+    }
+    (ops, data)
+}
+
+/// The delta of items of 2 or 4 bytes that turns the old frame into the new one, for method 7.
+pub fn method_7(old_frame: &[u8], new_frame: &[u8], sizes: Sizes, items: usize) -> Vec<u8> {
+    let mut out = vec![0; 64];
+    let row = sizes.row();
+    let planes = old_frame.chunks_exact(sizes.plane()).zip(new_frame.chunks_exact(sizes.plane()));
+    for (plane, (old, new)) in planes.enumerate() {
+        let (mut ops, mut data) = (Vec::new(), Vec::new());
+        for x in (0..row).step_by(items) {
+            let column = |plane| -> Vec<&[u8]> { <[u8]>::chunks_exact(plane, row).map(|line| &line[x..x + items]).collect() };
+            if !method_7_column(&column(old), &column(new), &mut ops, &mut data) {
+                return method_7_whole(new_frame, sizes, items);
+            }
+        }
+        place_lists(&mut out, plane, &ops, &data);
+    }
+    out
+}
+
+/// Writes a column as Skips, Sames and Uniqs; false if it would need too many ops.
+fn method_7_column(old: &[&[u8]], new: &[&[u8]], ops: &mut Vec<u8>, data: &mut Vec<u8>) -> bool {
+    let start = ops.len();
+    ops.push(0);
+    let (mut y, mut count) = (0, 0);
+    while let Some(gap) = (y..old.len()).position(|y| old[y] != new[y]) {
+        let skips = (0..gap).step_by(127).map(|from| (gap - from).min(127) as u8);
+        count += skips.len() + 1;
+        ops.extend(skips);
+        y += gap;
+        let rows = (y..old.len()).take(127).take_while(|&y| old[y] != new[y]).count();
+        let changed = &new[y..y + rows];
+        if rows > 1 && changed.iter().all(|item| *item == changed[0]) {
+            ops.extend([0, rows as u8]);
+            data.extend_from_slice(changed[0]);
+        } else {
+            ops.push(128 + rows as u8);
+            data.extend(changed.concat());
+        }
+        y += rows;
+    }
+    ops[start] = count as u8;
+    count <= 255
+}
+
+/// The delta of method 7 that gives every row.
+fn method_7_whole(new: &[u8], sizes: Sizes, items: usize) -> Vec<u8> {
+    let mut out = vec![0; 64];
+    let row = sizes.row();
+    for (plane, frame) in new.chunks_exact(sizes.plane()).enumerate() {
+        let (mut ops, mut data) = (Vec::new(), Vec::new());
+        for x in (0..row).step_by(items) {
+            ops.push(sizes.height.div_ceil(127) as u8);
+            ops.extend((0..sizes.height).step_by(127).map(|y| 128 + (sizes.height - y).min(127) as u8));
+            frame.chunks_exact(row).for_each(|line| data.extend_from_slice(&line[x..x + items]));
+        }
+        place_lists(&mut out, plane, &ops, &data);
+    }
+    out
+}
+
+fn place_lists(out: &mut Vec<u8>, plane: usize, ops: &[u8], data: &[u8]) {
+    let at = out.len() as u32;
+    set_pointer(out, plane, at);
+    set_pointer(out, plane + 8, at + ops.len() as u32);
+    out.extend_from_slice(ops);
+    out.extend_from_slice(data);
+}
+
+/// Spoils bytes in one of many ways.
+pub fn damage(random: &mut Random, bytes: &mut Vec<u8>) {
+    if bytes.is_empty() {
+        bytes.push(random.byte());
+        return;
+    }
+    let at = random.below(bytes.len());
+    match random.below(8) {
+        0 => bytes[at] ^= 1 << random.below(8),
+        1 | 2 => bytes[at] = *random.pick(&[0, 1, 2, 63, 64, 126, 127, 128, 129, 254, 255]),
+        3 => bytes.truncate(at),
+        4 => bytes.truncate(bytes.len() - 1),
+        5 => bytes.insert(at, random.byte()),
+        6 => drop(bytes.remove(at)),
+        _ => bytes.push(random.byte()),
+    }
+}
+
+/// Spoils a delta, its pointers more often than the rest.
+pub fn damage_delta(random: &mut Random, delta: &mut Vec<u8>) {
+    if random.once_in(3) {
+        let place = *random.pick(&[0, 1, 63, 64, 65, delta.len() - 1, delta.len(), delta.len() + 1, 0xffff_ffff]);
+        let pointer = random.below(16);
+        set_pointer(delta, pointer, place as u32);
+    } else {
+        damage(random, delta);
+    }
+}
+
+/// What is to be wrong in a file.
+#[derive(Clone, Copy, PartialEq, Eq, Debug)]
+pub enum Harm {
+    None,
+    Delta,
+    AnimHeader,
+    PictureHeader,
+    Body,
+    Missing,
+    Bytes,
+}
+
+pub const HARMS: [Harm; 7] = [Harm::None, Harm::Delta, Harm::AnimHeader, Harm::PictureHeader, Harm::Body, Harm::Missing, Harm::Bytes];
+
+/// A file of some frames, with other chunks in between, well formed but for the harm.
+pub fn film(random: &mut Random, sizes: Sizes, frames: usize, harm: Harm) -> Vec<u8> {
+    let mut parts = vec![];
+    let harmed = random.from_to(2, frames.max(2));
+    parts.extend(other_chunk(random));
+    parts.push(first_frame(random, sizes, harm));
+    for frame in 2..=frames {
+        parts.extend(other_chunk(random));
+        parts.push(later_frame(random, sizes, if frame == harmed { harm } else { Harm::None }));
+    }
+    parts.extend(other_chunk(random));
+    let mut file = form(b"ANIM", &parts);
+    if random.once_in(4) {
+        let behind = random.below(12);
+        file.extend(random.bytes(behind));
+    }
+    if harm == Harm::Bytes {
+        for _ in 0..random.from_to(1, 3) {
+            damage(random, &mut file);
+        }
+    }
+    file
+}
+
+/// Sometimes a chunk that is to be passed over.
+fn other_chunk(random: &mut Random) -> Option<Vec<u8>> {
+    let length = random.below(9);
+    let contents = random.bytes(length);
+    match random.below(12) {
+        0 => Some(chunk(b"ANNO", &contents)),
+        1 => Some(chunk(b"LIST", &contents)),
+        2 => Some(form(b"8SVX", &[contents])),
+        3 => Some(chunk(b"ILBM", &contents)),
+        _ => None,
+    }
+}
+
+fn first_frame(random: &mut Random, sizes: Sizes, harm: Harm) -> Vec<u8> {
+    let values = *random.pick(&[1, 2, 256]);
+    let frame: Vec<u8> = (0..sizes.frame()).map(|_| random.below(values) as u8).collect();
+    let packed = random.once_in(2);
+    let mut header = bmhd(sizes, u8::from(packed));
+    header[9] = *random.pick(&[0, 0, 2, 3, 255]);
+    if harm == Harm::PictureHeader {
+        match random.below(4) {
+            0 => damage(random, &mut header),
+            1 => header[random.below(4)] = random.byte(),
+            2 => header[random.from_to(8, 10)] = random.below(10) as u8,
+            _ => header[9] = 1,
+        }
+    }
+    let mut body = if packed { ragged_body(random, &frame, sizes) } else { plain_body(&frame, sizes) };
+    if harm == Harm::Body {
+        damage(random, &mut body);
+    } else if random.once_in(4) {
+        body.push(random.byte());
+    }
+    let mut parts = vec![chunk(b"BMHD", &header), chunk(b"BODY", &body)];
+    if harm == Harm::Missing && random.once_in(3) {
+        parts.remove(random.below(2));
+    }
+    mix(random, &mut parts);
+    form(b"ILBM", &parts)
+}
+
+fn later_frame(random: &mut Random, sizes: Sizes, harm: Harm) -> Vec<u8> {
+    let longs = sizes.row().is_multiple_of(4) || harm == Harm::AnimHeader && random.once_in(3);
+    let items = *random.pick(if longs { &[1, 2, 4] } else { &[1, 2, 1] });
+    let time = random.number() as u32 >> random.below(32);
+    let mut header = anhd(items, time);
+    header[18] = *random.pick(&[0, 2]);
+    if harm == Harm::AnimHeader {
+        match random.below(4) {
+            0 => header.truncate(random.below(41)),
+            1 => header[0] = random.below(9) as u8,
+            2 => header[18] = random.below(4) as u8,
+            _ => header[random.from_to(20, 23)] = random.byte() >> random.below(8),
+        }
+    } else if random.once_in(5) {
+        header.push(9);
+    }
+    let mut delta = random_delta(random, sizes, items);
+    if harm == Harm::Delta {
+        damage_delta(random, &mut delta);
+    }
+    let mut parts = vec![chunk(b"ANHD", &header), chunk(b"DLTA", &delta)];
+    if harm == Harm::Missing {
+        parts.remove(random.below(2));
+    }
+    mix(random, &mut parts);
+    form(b"ILBM", &parts)
+}
+
+/// Puts other chunks in, a second one of an id behind all, and sometimes changes the order.
+fn mix(random: &mut Random, parts: &mut Vec<Vec<u8>>) {
+    if random.once_in(3) && parts.len() > 1 {
+        parts.swap(0, 1);
+    }
+    if random.once_in(4) {
+        let at = random.below(parts.len() + 1);
+        let length = random.below(4);
+        let id = *random.pick(&[b"CMAP", b"FORM", b"ANNO"]);
+        parts.insert(at, chunk(id, &random.bytes(length)));
+    }
+    if random.once_in(6) {
+        let id = *random.pick(&[b"BODY", b"DLTA", b"ANHD", b"BMHD"]);
+        parts.push(chunk(id, &random.bytes(3)));
+    }
+}
+
+/// Sizes of small pictures.
+pub fn small_sizes(random: &mut Random) -> Sizes {
+    Sizes { width: random.from_to(1, 70), height: random.from_to(1, 12), planes: random.from_to(1, 8).min(random.from_to(1, 8)) }
+}
+
+/// Sizes of pictures, most of them small.
+pub fn any_sizes(random: &mut Random) -> Sizes {
+    match random.below(40) {
+        0..=2 => tall_sizes(random),
+        3 => wide_sizes(random),
+        _ => small_sizes(random),
+    }
+}
+
+/// Sizes of wide pictures, whose records have numbers of two and three bytes.
+pub fn wide_sizes(random: &mut Random) -> Sizes {
+    Sizes { width: random.from_to(300, 1024), height: random.from_to(20, 200), planes: random.from_to(1, 4) }
+}
+
+/// Sizes of tall and narrow pictures.
+pub fn tall_sizes(random: &mut Random) -> Sizes {
+    Sizes { width: *random.pick(&[1, 16, 17, 40]), height: random.from_to(100, 1024), planes: random.from_to(1, 2) }
+}

@@ -1,0 +1,9 @@
+//! The proved library held against a plain Rust program that was written from the same papers.
+pub mod checks;
+pub mod cover;
+pub mod faults;
+pub mod files;
+pub mod library;
+pub mod pair;
+pub mod plain;
+pub mod random;

@@ -1,0 +1,250 @@
+//! Document 01 in plain Rust, written from the papers and not from the proved library.
+//!
+//! A refused call changes nothing that it was lent, but for `step_on`'s work buffer under `NoRoom`.
+mod delta;
+mod iff;
+mod list;
+mod picture;
+mod record;
+mod writer;
+
+pub use list::list;
+pub use writer::write_delta;
+
+use crate::faults::broken;
+use delta::Header;
+use Refusal::*;
+
+pub const MAX_SIDE: u64 = 1_024;
+pub const MAX_PLANES: u64 = 8;
+pub const MAX_FRAME: u64 = 1_000_000;
+pub const MAX_FILE: u64 = 2_147_483_647;
+/// The first place where a chunk can stand in FORM ANIM.
+pub const FIRST_PLACE: u64 = 12;
+
+/// The refusals of document 01 with their numbers.
+#[derive(Clone, Copy, Debug, PartialEq, Eq)]
+pub enum Refusal {
+    OutsideLimits = 11,
+    BufferLength = 12,
+    FileTooLong = 13,
+    NoSuchRow = 14,
+    ChunkPastParent = 21,
+    NotFormAnim = 22,
+    NoPicture = 23,
+    BadHeader = 24,
+    BadBody = 25,
+    NoDelta = 31,
+    ShortAnimHeader = 32,
+    UnknownMethod = 33,
+    UnknownInterleave = 34,
+    UnknownOptions = 35,
+    OddLongColumns = 36,
+    BadPointer = 41,
+    DeltaTooShort = 42,
+    OpPastLastRow = 43,
+    ZeroCount = 44,
+    NoRoom = 51,
+    LastFrame = 53,
+    BadRecord = 61,
+    OtherRecord = 62,
+}
+
+impl Refusal {
+    pub fn number(self) -> u64 {
+        self as u64
+    }
+}
+
+/// A value, or the first refusal.
+pub type Answer<T> = Result<T, Refusal>;
+
+/// The refusal unless the condition holds.
+fn need(holds: bool, refusal: Refusal) -> Answer<()> {
+    if holds {
+        Ok(())
+    } else {
+        Err(refusal)
+    }
+}
+
+/// A picture's sizes within the limits.
+#[derive(Clone, Copy, Debug, PartialEq, Eq)]
+pub struct Sizes {
+    pub width: usize,
+    pub height: usize,
+    pub planes: usize,
+}
+
+impl Sizes {
+    pub fn new(width: u64, height: u64, planes: u64) -> Option<Sizes> {
+        let widest = if broken("wide-by-one") { MAX_SIDE + 1 } else { MAX_SIDE };
+        let within = (1..=widest).contains(&width) && (1..=MAX_SIDE).contains(&height) && (1..=MAX_PLANES).contains(&planes);
+        within.then_some(Sizes { width: width as usize, height: height as usize, planes: planes as usize })
+    }
+
+    /// Bytes per row.
+    pub fn row(self) -> usize {
+        self.width.div_ceil(16) * 2
+    }
+
+    /// Bytes per plane.
+    pub fn plane(self) -> usize {
+        self.height * self.row()
+    }
+
+    /// Bytes per frame.
+    pub fn frame(self) -> usize {
+        self.planes * self.plane()
+    }
+}
+
+/// Where a player stands.
+#[derive(Clone, Copy, Debug, Default, PartialEq, Eq)]
+pub struct State {
+    pub width: u64,
+    pub height: u64,
+    pub planes: u64,
+    pub frame: u64,
+    pub next: u64,
+    pub end: u64,
+}
+
+impl State {
+    /// The sizes of a state that is within the limits.
+    fn sizes(&self) -> Answer<Sizes> {
+        let sizes = Sizes::new(self.width, self.height, self.planes).ok_or(OutsideLimits)?;
+        need((1..=MAX_FRAME).contains(&self.frame), OutsideLimits)?;
+        need(FIRST_PLACE <= self.next && self.next <= self.end && self.end <= MAX_FILE, OutsideLimits)?;
+        Ok(sizes)
+    }
+
+    /// Odd frames are shown in A.
+    pub fn shows_a(&self) -> bool {
+        self.frame % 2 == 1
+    }
+}
+
+/// What a step on reports of the new frame.
+#[derive(Clone, Copy, Debug, PartialEq, Eq)]
+pub struct Report {
+    pub method: u64,
+    pub time: u64,
+    pub changed: u64,
+    pub record: u64,
+}
+
+/// Opens a file: A and B get its first picture.
+pub fn open(file: &[u8], a: &mut [u8], b: &mut [u8]) -> Answer<State> {
+    let first = picture::find(file)?;
+    let sizes = first.sizes;
+    need(a.len() == sizes.frame() && b.len() == sizes.frame(), BufferLength)?;
+    first.unpack(a)?;
+    b.copy_from_slice(a);
+    Ok(State {
+        width: sizes.width as u64,
+        height: sizes.height as u64,
+        planes: sizes.planes as u64,
+        frame: 1,
+        next: first.next as u64,
+        end: first.end as u64,
+    })
+}
+
+/// The length of the frames of a file, for which opening asks.
+pub fn frame_length(file: &[u8]) -> Answer<usize> {
+    picture::find(file).map(|first| first.sizes.frame())
+}
+
+/// Steps on to the next frame; `None` is End.
+pub fn step_on(file: &[u8], state: &mut State, a: &mut [u8], b: &mut [u8], work: &mut [u8], rec: &mut [u8]) -> Answer<Option<Report>> {
+    if broken("lengths-before-limits") {
+        let row = state.width.div_ceil(16).wrapping_mul(2);
+        let length = row.wrapping_mul(state.height).wrapping_mul(state.planes);
+        need(a.len() as u64 == length && b.len() == a.len() && work.len() == a.len(), BufferLength)?;
+    }
+    let sizes = state.sizes()?;
+    need(state.end <= file.len() as u64, OutsideLimits)?;
+    let length = sizes.frame();
+    need(a.len() == length && b.len() == length && work.len() == length, BufferLength)?;
+    need(state.frame < MAX_FRAME || broken("last-frame-after-end"), LastFrame)?;
+
+    let Some(form) = iff::next_frame(&file[..state.end as usize], state.next as usize)? else {
+        return Ok(None);
+    };
+    if broken("last-frame-after-end") {
+        need(state.frame < MAX_FRAME, LastFrame)?;
+    }
+    let [anhd, dlta] = iff::find(form.contents, [b"ANHD", b"DLTA"])?;
+    let (anhd, dlta) = anhd.zip(dlta).ok_or(NoDelta)?;
+    let header = Header::read(anhd, sizes)?;
+
+    let hidden = if state.shows_a() { b } else { a };
+    if broken("drawn-before-checked") {
+        work.copy_from_slice(hidden);
+        delta::draw(dlta, sizes, header.items, work)?;
+    }
+    if !(broken("first-delta-only") && state.frame > 1) {
+        delta::check(dlta, sizes, header.items)?;
+        if broken("full-record-hides-frame") {
+            let mut drawn = hidden.to_vec();
+            delta::draw(dlta, sizes, header.items, &mut drawn)?;
+            record::write(hidden, &drawn, state.frame + 1, state.next, rec)?;
+        }
+        work.copy_from_slice(hidden);
+        delta::draw(dlta, sizes, header.items, work)?;
+    }
+    let written = record::write(hidden, work, state.frame + 1, state.next, rec)?;
+    hidden.copy_from_slice(work);
+    state.frame += 1;
+    state.next = form.next as u64;
+    Ok(Some(Report { method: header.method, time: header.time, changed: written.changed, record: written.length }))
+}
+
+/// Steps back with the record of the step that led here.
+pub fn step_back(rec: &[u8], state: &mut State, a: &mut [u8], b: &mut [u8]) -> Answer<()> {
+    let length = state.sizes()?.frame();
+    need(a.len() == length && b.len() == length, BufferLength)?;
+    let shown = if state.shows_a() { a } else { b };
+    if broken("other-before-bad") {
+        need(rec.first() == Some(&(state.frame as u8)), OtherRecord)?;
+    }
+    let past = record::read(rec, shown)?;
+    need(past.frame >= 2 && past.frame == state.frame, OtherRecord)?;
+    let last = if broken("place-at-next") { state.next } else { state.next - 1 };
+    need((FIRST_PLACE..=last).contains(&past.place), OtherRecord)?;
+    if !broken("back-counts-only") {
+        past.put_back(shown);
+    }
+    state.frame -= 1;
+    state.next = past.place;
+    Ok(())
+}
+
+/// The place of a row of a plane in A and in B, of whose lengths it is told.
+pub fn row_place(state: &State, a: usize, b: usize, plane: u64, row: u64) -> Answer<usize> {
+    let sizes = state.sizes()?;
+    need(a == sizes.frame() && b == sizes.frame(), BufferLength)?;
+    need(plane < state.planes && row < state.height, NoSuchRow)?;
+    Ok((plane as usize * sizes.height + row as usize) * sizes.row())
+}
+
+/// A row of a plane of the shown picture.
+pub fn row<'a>(state: &State, a: &'a [u8], b: &'a [u8], plane: u64, row: u64) -> Answer<&'a [u8]> {
+    let at = row_place(state, a.len(), b.len(), plane, row)?;
+    let shown = if state.shows_a() { a } else { b };
+    Ok(&shown[at..at + state.sizes()?.row()])
+}
+
+/// Two bytes as a big-endian number.
+fn be16(bytes: &[u8]) -> u64 {
+    u64::from(u16::from_be_bytes([bytes[0], bytes[1]]))
+}
+
+/// Four bytes as a big-endian number.
+fn be32(bytes: &[u8]) -> u64 {
+    u64::from(u32::from_be_bytes([bytes[0], bytes[1], bytes[2], bytes[3]]))
+}
+
+#[cfg(test)]
+mod tests;

@@ -1,0 +1,156 @@
+//! ANHD and the deltas of methods 5 and 7.
+use super::{be32, need, Answer, Refusal::*, Sizes};
+use crate::faults::broken;
+
+/// What the items of a delta are.
+#[derive(Clone, Copy, Debug, PartialEq, Eq)]
+pub enum Items {
+    /// Method 5: bytes that follow their ops.
+    Bytes,
+    /// Method 7, short: two bytes each, in a data list.
+    Shorts,
+    /// Method 7, long: four bytes each, in a data list.
+    Longs,
+}
+
+/// What ANHD says of a frame.
+pub struct Header {
+    pub method: u64,
+    pub time: u64,
+    pub items: Items,
+}
+
+impl Header {
+    pub fn read(anhd: &[u8], sizes: Sizes) -> Answer<Header> {
+        if broken("method-before-length") {
+            need(anhd.first().is_none_or(|&method| method == 5 || method == 7), UnknownMethod)?;
+        }
+        need(anhd.len() >= 40, ShortAnimHeader)?;
+        need(anhd.len() == 40 || !broken("anhd-exactly"), ShortAnimHeader)?;
+        let (method, interleave, bits) = (anhd[0], anhd[18], be32(&anhd[20..]));
+        need(method == 5 || method == 7, UnknownMethod)?;
+        need(matches!(interleave, 0 | 2) || interleave == 1 && broken("interleave-1"), UnknownInterleave)?;
+        need(bits == 0 || method == 7 && bits == 1, UnknownOptions)?;
+        let items = match (method, bits) {
+            (5, _) => Items::Bytes,
+            (_, 0) => Items::Shorts,
+            _ => Items::Longs,
+        };
+        need(items != Items::Longs || sizes.row().is_multiple_of(4), OddLongColumns)?;
+        Ok(Header { method: u64::from(method), time: be32(&anhd[14..]), items })
+    }
+}
+
+/// Walks the whole delta and finds its first fault.
+pub fn check(dlta: &[u8], sizes: Sizes, items: Items) -> Answer<()> {
+    match items {
+        Items::Bytes => walk::<1>(dlta, sizes, |_| ()),
+        Items::Shorts => walk::<2>(dlta, sizes, |_| ()),
+        Items::Longs => walk::<4>(dlta, sizes, |_| ()),
+    }
+}
+
+/// Draws the delta into a frame up to its first fault.
+pub fn draw(dlta: &[u8], sizes: Sizes, items: Items, frame: &mut [u8]) -> Answer<()> {
+    match items {
+        Items::Bytes => draw_items::<1>(dlta, sizes, frame),
+        Items::Shorts => draw_items::<2>(dlta, sizes, frame),
+        Items::Longs => draw_items::<4>(dlta, sizes, frame),
+    }
+}
+
+/// Items for successive rows of a column, the first of them at a place of the frame.
+enum Put<'a> {
+    Uniq { at: usize, items: &'a [u8] },
+    Same { at: usize, rows: usize, item: &'a [u8] },
+}
+
+fn draw_items<const W: usize>(dlta: &[u8], sizes: Sizes, frame: &mut [u8]) -> Answer<()> {
+    let down = if broken("one-byte-down") { 1 } else { sizes.row() };
+    walk::<W>(dlta, sizes, |put| match put {
+        Put::Uniq { mut at, items } => {
+            for item in items.chunks_exact(W) {
+                frame[at..at + W].copy_from_slice(item);
+                at += down;
+            }
+        }
+        Put::Same { mut at, rows, item } => {
+            let item: [u8; W] = item.try_into().expect("one item");
+            for _ in 0..rows {
+                frame[at..at + W].copy_from_slice(&item);
+                at += down;
+            }
+        }
+    })
+}
+
+/// Walks every list of a delta of items of W bytes.
+fn walk<'a, const W: usize>(dlta: &'a [u8], sizes: Sizes, mut put: impl FnMut(Put<'a>)) -> Answer<()> {
+    need(dlta.len() >= 64, BadPointer)?;
+    for plane in 0..sizes.planes {
+        if be32(&dlta[4 * plane..]) == 0 {
+            continue;
+        }
+        let ops = list_at(dlta, plane)?;
+        let data = if W == 1 { &[] } else { list_at(dlta, plane + 8)? };
+        walk_plane::<W>(ops, data, sizes, plane * sizes.plane(), &mut put)?;
+    }
+    Ok(())
+}
+
+/// What stands from a pointer's place on.
+fn list_at(dlta: &[u8], pointer: usize) -> Answer<&[u8]> {
+    let at = be32(&dlta[4 * pointer..]) as usize;
+    let zero_passes = broken("pointer-below-64") || pointer >= 8 && broken("data-pointer-0");
+    let least = if zero_passes { 0 } else { 64 };
+    need((least..=dlta.len()).contains(&at), BadPointer)?;
+    need(at < dlta.len() || !broken("pointer-at-end"), BadPointer)?;
+    Ok(&dlta[at..])
+}
+
+/// Walks the list of a plane that begins at a place of the frame.
+fn walk_plane<'a, const W: usize>(mut ops: &'a [u8], mut data: &'a [u8], sizes: Sizes, at: usize, put: &mut impl FnMut(Put<'a>)) -> Answer<()> {
+    let row = sizes.row();
+    let all_data = data;
+    for column in 0..row / W {
+        if broken("data-starts-anew") {
+            data = all_data;
+        }
+        let mut y = 0;
+        for _ in 0..take_byte(&mut ops)? {
+            let op = usize::from(take_byte(&mut ops)?);
+            let rows = match op {
+                0 => usize::from(take_byte(&mut ops)?),
+                1..=127 => op,
+                _ => op - 128,
+            };
+            need(rows > 0, ZeroCount)?;
+            let passes = y + rows > sizes.height;
+            need(!passes || (1..=127).contains(&op) && broken("skip-past-last-row"), OpPastLastRow)?;
+            let at = at + y * row + column * W;
+            y += rows;
+            let list = if W == 1 { &mut ops } else { &mut data };
+            match op {
+                0 => put(Put::Same { at, rows, item: take(list, W)? }),
+                1..=127 => (),
+                _ => put(Put::Uniq { at, items: take(list, rows * W)? }),
+            }
+        }
+    }
+    Ok(())
+}
+
+/// Takes a byte off the front.
+fn take_byte(list: &mut &[u8]) -> Answer<u8> {
+    let (&first, rest) = list.split_first().ok_or(DeltaTooShort)?;
+    *list = rest;
+    Ok(first)
+}
+
+/// Takes some bytes off the front.
+fn take<'a>(list: &mut &'a [u8], count: usize) -> Answer<&'a [u8]> {
+    need(count <= list.len(), DeltaTooShort)?;
+    let (first, rest) = list.split_at(count);
+    *list = rest;
+    Ok(first)
+}

@@ -1,0 +1,66 @@
+//! Chunks of IFF.
+use super::{be32, need, Answer, Refusal::*};
+use crate::faults::broken;
+
+/// A chunk in a parent, and where the one after it would stand.
+pub struct Chunk<'a> {
+    pub id: &'a [u8],
+    pub contents: &'a [u8],
+    pub next: usize,
+}
+
+/// The chunk at a place; header, contents and pad lie inside the parent.
+fn chunk_at(parent: &[u8], at: usize) -> Answer<Chunk<'_>> {
+    let rest = &parent[at..];
+    need(rest.len() >= 8, ChunkPastParent)?;
+    let (header, rest) = rest.split_at(8);
+    let length = be32(&header[4..]) as usize;
+    let pad = if broken("pad-not-passed") { 0 } else { length % 2 };
+    need(length + pad <= rest.len(), ChunkPastParent)?;
+    Ok(Chunk { id: &header[..4], contents: &rest[..length], next: at + 8 + length + pad })
+}
+
+/// Where FORM ANIM ends.
+pub fn anim_end(file: &[u8]) -> Answer<usize> {
+    need(file.len() >= 12, ChunkPastParent)?;
+    need(&file[..4] == b"FORM" && &file[8..12] == b"ANIM", NotFormAnim)?;
+    let length = be32(&file[4..]) as usize;
+    need(length >= 4 && length + 8 <= file.len(), ChunkPastParent)?;
+    need(length % 2 == 0 || length + 8 < file.len() || !broken("anim-pad-asked"), ChunkPastParent)?;
+    Ok(length + 8)
+}
+
+/// The first FORM ILBM from a place on, its type left away.
+pub fn next_frame(parent: &[u8], mut at: usize) -> Answer<Option<Chunk<'_>>> {
+    while at < parent.len() {
+        let chunk = chunk_at(parent, at)?;
+        if chunk.id == b"FORM" && !(broken("short-form-passed") && chunk.contents.len() < 4) {
+            need(chunk.contents.len() >= 4, ChunkPastParent)?;
+            let (kind, contents) = chunk.contents.split_at(4);
+            if kind == b"ILBM" {
+                return Ok(Some(Chunk { contents, ..chunk }));
+            }
+        }
+        at = chunk.next;
+    }
+    Ok(None)
+}
+
+/// The contents of the first chunk of each id, with the whole parent walked.
+pub fn find<'a, const N: usize>(parent: &'a [u8], ids: [&[u8; 4]; N]) -> Answer<[Option<&'a [u8]>; N]> {
+    let mut found = [None; N];
+    let mut at = 0;
+    while at < parent.len() {
+        if broken("frame-not-walked") && found.iter().all(Option::is_some) {
+            break;
+        }
+        let chunk = chunk_at(parent, at)?;
+        for (slot, id) in found.iter_mut().zip(ids) {
+            if chunk.id == id && (slot.is_none() || broken("last-chunk-counts")) {
+                *slot = Some(chunk.contents);
+            }
+        }
+        at = chunk.next;
+    }
+    Ok(found)
+}

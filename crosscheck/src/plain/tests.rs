@@ -1,0 +1,86 @@
+//! The bench examples of document 01 that are about parts, and the outside listings.
+use super::delta::{check, draw, Items};
+use super::*;
+use std::path::Path;
+
+const SMALL: Sizes = Sizes { width: 16, height: 2, planes: 1 };
+
+/// A delta with its first list at 64.
+fn delta_of(list: &[u8]) -> Vec<u8> {
+    let mut dlta = vec![0; 64];
+    dlta[3] = 64;
+    dlta.extend_from_slice(list);
+    dlta
+}
+
+fn drawn(list: &[u8]) -> Answer<Vec<u8>> {
+    let mut frame = vec![0; 4];
+    check(&delta_of(list), SMALL, Items::Bytes)?;
+    draw(&delta_of(list), SMALL, Items::Bytes, &mut frame)?;
+    Ok(frame)
+}
+
+#[test]
+fn lists_of_method_5() {
+    assert_eq!(drawn(&[1, 0x82, 0xaa, 0xbb, 0]), Ok(vec![0xaa, 0, 0xbb, 0]));
+    assert_eq!(drawn(&[1, 0, 2, 0xcc, 0]), Ok(vec![0xcc, 0, 0xcc, 0]));
+    assert_eq!(drawn(&[2, 1, 0x81, 0xdd, 0]), Ok(vec![0, 0, 0xdd, 0]));
+    assert_eq!(drawn(&[1, 2, 0]), Ok(vec![0; 4]));
+    assert_eq!(drawn(&[1, 3, 0]), Err(OpPastLastRow));
+    assert_eq!(drawn(&[1, 0x82, 0xaa, 0xbb]), Err(DeltaTooShort));
+    assert_eq!(drawn(&[]), Err(DeltaTooShort));
+}
+
+#[test]
+fn pointer_into_the_pointers() {
+    let mut dlta = delta_of(&[0, 0]);
+    dlta[3] = 63;
+    assert_eq!(check(&dlta, SMALL, Items::Bytes), Err(BadPointer));
+}
+
+#[test]
+fn data_of_method_7() {
+    let mut dlta = delta_of(&[1, 0x82, 0xaa, 0x11, 0xbb, 0x22]);
+    dlta[35] = 66;
+    let mut frame = vec![0; 4];
+    assert_eq!(draw(&dlta, SMALL, Items::Shorts, &mut frame), Ok(()));
+    assert_eq!(frame, [0xaa, 0x11, 0xbb, 0x22]);
+}
+
+#[test]
+fn record_of_a_step() {
+    let (old, new) = ([0; 4], [0xaa, 0, 0xbb, 0]);
+    let mut out = [0xee; 10];
+    let written = record::write(&old, &new, 2, 64, &mut out).unwrap();
+    assert_eq!((written.changed, written.length), (2, 9));
+    assert_eq!(out, [2, 0x40, 2, 0, 1, 0, 1, 1, 0, 0xee]);
+    let past = record::read(&out[..9], &new).unwrap();
+    let mut back = new;
+    past.put_back(&mut back);
+    assert_eq!(back, old);
+    assert!(record::read(&[0x80, 0, 64, 0], &new).is_err());
+}
+
+#[test]
+fn written_deltas() {
+    let mut out = vec![0; 100];
+    assert_eq!(write_delta(&[0; 4], &[0xaa, 0, 0xbb, 0], &mut out, 16, 2, 1), Ok(69));
+    assert_eq!(&out[..69], delta_of(&[1, 0x82, 0xaa, 0xbb, 0]));
+    assert_eq!(write_delta(&[7; 4], &[7; 4], &mut out, 16, 2, 1), Ok(64));
+    assert_eq!(&out[..64], [0; 64]);
+}
+
+#[test]
+fn outside_listings() {
+    let folder = Path::new(env!("CARGO_MANIFEST_DIR")).join("vectors");
+    let mut count = 0;
+    for entry in std::fs::read_dir(folder).unwrap() {
+        let path = entry.unwrap().path();
+        if path.extension().is_some_and(|e| e == "anim") {
+            let wanted = std::fs::read_to_string(path.with_extension("txt")).unwrap();
+            assert_eq!(list(&std::fs::read(&path).unwrap()), wanted, "{}", path.display());
+            count += 1;
+        }
+    }
+    assert_eq!(count, 58);
+}

@@ -1,0 +1,300 @@
+/*
+ * anim.h: a proved reader of Amiga animations (IFF FORM ANIM files), for C and C++.
+ *
+ * It reads files whose first picture is an ILBM BODY, plain or packed by ByteRun1, and whose later
+ * frames are deltas of method 5 (byte vertical) or 7 (short or long vertical). It plays them forward
+ * and, with the records that it writes, back again, and it writes method 5 deltas.
+ *
+ *     rt staticlib anim
+ *     cc -I include viewer.c target/staticlib/libanim.a -o viewer
+ *
+ * crosscheck/c/play.c is a whole program: it plays a file to its end and back again.
+ *
+ * What holds for every function here
+ *
+ *   - It takes any bytes, any lengths and any numbers. Nothing has to be checked beforehand.
+ *   - It ends, does nothing undefined, allocates nothing and keeps nothing between calls. It reads and
+ *     writes only what it is lent, and only during the call.
+ *   - Each buffer is a pointer and its length in bytes. A pointer must not be null, not even with a
+ *     length of 0, and it must lead to that many bytes that may be read (and written, if it isn't
+ *     const). A buffer that is written must not overlap another one of the same call. Buffers need
+ *     no alignment.
+ *   - Calls on buffers that don't overlap may run at the same time in several threads.
+ *   - Of several things that are wrong, the first in the order given here is answered.
+ *   - A refused call changes nothing, with two exceptions: anim_open writes six zeros to the state,
+ *     and a step on that is refused with ANIM_NO_ROOM leaves the frame in the work buffer.
+ *
+ * Frames and buffers
+ *
+ *   A row of a plane is B = 2 * ((width + 15) / 16) bytes, the leftmost pixel in the top bit of the
+ *   first byte. A frame is planes * height * B bytes: plane 0 whole, then plane 1, rows from the top.
+ *   320 x 200 in 5 planes: B is 40, a frame 5 * 200 * 40 = 40000 bytes. The longest frame, 1024 x
+ *   1024 in 8 planes, is 1048576 bytes.
+ *
+ *   A player has two picture buffers, A and B, each exactly a frame long. Odd frames are shown in A,
+ *   even ones in B; the other one is hidden and holds the frame before (frame 1 at frame 1). The work
+ *   buffer is a third of that length. Between calls the caller may read everything, and may write the
+ *   work buffer, the report and any record buffer. Whoever writes A, B or the state in between gets
+ *   pictures built on what was written: still nothing undefined, but no longer the file's frames.
+ */
+#ifndef ANIM_H
+#define ANIM_H
+
+#include <stddef.h>
+#include <stdint.h>
+
+#ifdef __cplusplus
+extern "C" {
+#endif
+
+/* Limits. */
+#define ANIM_MAX_WIDTH 1024
+#define ANIM_MAX_HEIGHT 1024
+#define ANIM_MAX_PLANES 8
+#define ANIM_MAX_FRAME 1000000
+#define ANIM_MAX_FILE 2147483647
+
+/* Answers that aren't refusals. */
+#define ANIM_OK 0  /* opened, taken or written */
+#define ANIM_END 1 /* stepping on: no frame is left, nothing changed */
+
+/* Refusals. */
+#define ANIM_OUTSIDE_LIMITS 11     /* a state or size outside the limits; a state, report or length of a wrong length */
+#define ANIM_BUFFER_LENGTH 12      /* a picture or work buffer that isn't exactly a frame long */
+#define ANIM_FILE_TOO_LONG 13      /* a file of more than 2147483647 bytes */
+#define ANIM_NO_SUCH_ROW 14        /* no such plane or row */
+#define ANIM_CHUNK_PAST_PARENT 21  /* under 12 bytes; a chunk passes its parent; FORM ANIM or a FORM directly in it under 4 bytes */
+#define ANIM_NOT_FORM_ANIM 22      /* not a FORM ANIM */
+#define ANIM_NO_PICTURE 23         /* no FORM ILBM, or its first lacks BMHD or BODY */
+#define ANIM_BAD_HEADER 24         /* BMHD not 20 bytes, sizes outside the limits, masking 1, compression above 1 */
+#define ANIM_BAD_BODY 25           /* BODY too short, or a run past its row */
+#define ANIM_NO_DELTA 31           /* a frame without ANHD or DLTA */
+#define ANIM_SHORT_ANIM_HEADER 32  /* ANHD under 40 bytes */
+#define ANIM_UNKNOWN_METHOD 33     /* a method that is neither 5 nor 7 */
+#define ANIM_UNKNOWN_INTERLEAVE 34 /* an interleave that is neither 0 nor 2 */
+#define ANIM_UNKNOWN_OPTIONS 35    /* option bits: any for method 5, bits 1 to 31 for method 7 */
+#define ANIM_ODD_LONG_COLUMNS 36   /* method 7 with long data, and B isn't a multiple of 4 */
+#define ANIM_BAD_POINTER 41        /* DLTA under 64 bytes, or a pointer outside 64 to its length */
+#define ANIM_DELTA_TOO_SHORT 42    /* an op count, op, count byte or item past DLTA's end */
+#define ANIM_OP_PAST_LAST_ROW 43   /* an op past the last row */
+#define ANIM_ZERO_COUNT 44         /* a Uniq or Same of count 0 */
+#define ANIM_NO_ROOM 51            /* a record or delta longer than its buffer */
+#define ANIM_LAST_FRAME 53         /* stepping on from frame 1000000 */
+#define ANIM_BAD_RECORD 61         /* a malformed record, bytes left over, or an old byte equal to the one it replaces */
+#define ANIM_OTHER_RECORD 62       /* a record of another frame, or of a place that isn't before the state's */
+
+/*
+ * Where a player stands. anim_open fills it; hand it to the other calls as anim_open or the last step
+ * left it. It may be copied, kept and put back together with A and B.
+ *
+ * It crosses as its 48 bytes, each number with its low byte first, as on x86-64.
+ */
+typedef struct anim_state {
+    uint64_t width;  /* pixels, 1 to 1024 */
+    uint64_t height; /* pixels, 1 to 1024 */
+    uint64_t planes; /* 1 to 8 */
+    uint64_t frame;  /* the shown frame, 1 to 1000000; odd ones are shown in A */
+    uint64_t next;   /* where the file is read on, at least 12 */
+    uint64_t end;    /* where FORM ANIM ends, from next to 2147483647 */
+} anim_state;
+
+/* What a step on tells of the frame it reached; it crosses as its 32 bytes. */
+typedef struct anim_report {
+    uint64_t method;  /* 5 or 7 */
+    uint64_t time;    /* ANHD's relative time, in sixtieths of a second */
+    uint64_t changed; /* how many bytes of the hidden buffer changed */
+    uint64_t record;  /* how many bytes of the record buffer are this step's record */
+} anim_report;
+
+/* Bytes of a row of a plane. Sizes within the limits fit in every type of 32 bits. */
+#define ANIM_ROW_BYTES(width) (((width) + 15) / 16 * 2)
+
+/* Bytes of a frame. 320 x 200 x 5: 40000. */
+#define ANIM_FRAME_BYTES(width, height, planes) (ANIM_ROW_BYTES(width) * (height) * (planes))
+
+/*
+ * A record buffer's length that is enough for every step, for frames of so many bytes.
+ * 320 x 200 x 5: 40000 + 20000 + 17 = 60017.
+ *
+ * A record is three numbers of at most five bytes each, and for each run of changed bytes two numbers
+ * and the run's old bytes. Two runs have at least one unchanged byte between them, so the worst is
+ * every second byte changed: a run then costs 3 bytes (a gap of 1, a count of 1 and an old byte) and
+ * takes 2 bytes of the frame. Longer gaps and runs cost less: a number of two bytes stands for at
+ * least 128 bytes of the frame, one of three for at least 16384, and no frame needs more than three.
+ * Only the first run has no gap, and costs up to 2 bytes more. So 15 + 2 bytes and 3/2 of the frame
+ * are enough. A shorter buffer is no harm: a step that has no room is refused and changes nothing
+ * but the work buffer.
+ */
+#define ANIM_RECORD_ROOM(frame_bytes) ((frame_bytes) + (frame_bytes) / 2 + 17)
+
+/*
+ * A delta buffer's length that is enough for every two pictures.
+ * 320 x 200 x 5: 64 + 200 * (200 + 100 + 2) = 60464, for 40 columns in each of 5 planes.
+ *
+ * A delta is 64 bytes of pointers and a list for each column of a plane: a count byte and the ops. A
+ * Skip costs a byte and goes down at least one row. Sames cost fewer bytes than they have rows. A
+ * Uniq costs a byte more than it has rows, and unless it has 127 rows or is the last op, one row or
+ * more of another op stands between it and the next: at most (height + 1) / 2 Uniqs.
+ */
+#define ANIM_DELTA_ROOM(width, height, planes) \
+    (64 + ANIM_ROW_BYTES(width) * (planes) * ((height) + (height) / 2 + 2))
+
+/*
+ * Opens a file: A and B get its first picture, and the state gets frame 1.
+ *
+ * file       the whole file; it is read and never changed. FORM ANIM starts at its first byte, and
+ *            bytes after the FORM's end aren't read.
+ * a, b       each exactly a frame long. The sizes stand in the contents of the first FORM ILBM's BMHD:
+ *            width at 0 and height at 2, two bytes each, high byte first, and planes at 8. A wrong
+ *            guess does no harm, it is refused with 12.
+ * state      the 48 bytes of an anim_state.
+ *
+ * Answers ANIM_OK, or the first of these refusals:
+ *   11  the state isn't 48 bytes long; then the state isn't written either
+ *   13  the file is longer than 2147483647 bytes
+ *   21  the file is shorter than 12 bytes
+ *   22  it doesn't begin with FORM, or its type isn't ANIM
+ *   21  FORM ANIM's length is below 4 or passes the file
+ *   21  a chunk before the end of the first FORM ILBM passes its parent, its pad included, or a FORM
+ *       directly in FORM ANIM is shorter than 4
+ *   23  there is no FORM ILBM
+ *   21  a chunk in the first FORM ILBM passes it; that frame is walked whole
+ *   23  it lacks BMHD or BODY; the first chunk of each id counts
+ *   24  BMHD isn't 20 bytes long, has a width or height outside 1 to 1024 or planes outside 1 to 8,
+ *       masking 1, or a compression above 1
+ *   12  A or B isn't a frame long
+ *   25  BODY is too short, or a packed run passes its row
+ *
+ * Opened, A and B both hold frame 1. Refused, A and B are as they were and the state is six zeros,
+ * which every other call refuses with 11.
+ */
+uint64_t anim_open(const uint8_t *file, size_t file_length,
+                   uint8_t *a, size_t a_length,
+                   uint8_t *b, size_t b_length,
+                   uint8_t *state, size_t state_length);
+
+/*
+ * Steps on to the next frame.
+ *
+ * file       the file that was opened, whole and unchanged.
+ * state      the 48 bytes of the anim_state.
+ * a, b       the two picture buffers, each exactly a frame long.
+ * work       exactly a frame long, of any content. The new frame is built here.
+ * record     of any length; ANIM_RECORD_ROOM of a frame is always enough. Keep the first
+ *            report.record bytes for as long as the step may be taken back.
+ * report     the 32 bytes of an anim_report.
+ *
+ * Answers ANIM_OK if the step is taken, ANIM_END if no frame is left, or the first of these refusals:
+ *   11  the state isn't 48 bytes long, or the report isn't 32
+ *   11  the state is outside the limits (width, height, planes, frame), or not 12 <= next <= end <=
+ *       2147483647, or the end place is past the file's length
+ *   12  A, B or the work buffer isn't a frame long
+ *   53  the state is at frame 1000000, a frame left or not
+ *   21  a chunk from the next place to the end of the next FORM ILBM, or to the end place if there is
+ *       none, passes its parent, or a FORM directly in FORM ANIM is shorter than 4
+ *       (here ANIM_END is answered, if there is no FORM ILBM)
+ *   21  a chunk in the frame passes it; the frame is walked whole
+ *   31  the frame lacks ANHD or DLTA; the first chunk of each id counts
+ *   32  ANHD is shorter than 40 bytes
+ *   33  the method is neither 5 nor 7
+ *   34  the interleave is neither 0 nor 2
+ *   35  option bits that the method doesn't have
+ *   36  method 7 with long data, and B isn't a multiple of 4
+ *   41  DLTA is shorter than 64 bytes
+ *   then plane by plane
+ *   41  a pointer that is read doesn't lead to 64 .. DLTA's length
+ *   42, 43, 44  the first fault of the plane's list: for each op its count byte (42), a count of 0
+ *       (44), the last row (43), its items (42)
+ *   51  the record is longer than its buffer
+ *
+ * Taken: the hidden buffer and the work buffer hold the new frame, the shown buffer is as it was, the
+ * state is at the next frame and past its FORM, the report tells of it, and the record's bytes stand
+ * at the front of the record buffer, whose other bytes stay. The hidden buffer is now the shown one.
+ * End or refused: all is as it was, but that 51 leaves the new frame in the work buffer.
+ */
+uint64_t anim_step_on(const uint8_t *file, size_t file_length,
+                      uint8_t *state, size_t state_length,
+                      uint8_t *a, size_t a_length,
+                      uint8_t *b, size_t b_length,
+                      uint8_t *work, size_t work_length,
+                      uint8_t *record, size_t record_length,
+                      uint8_t *report, size_t report_length);
+
+/*
+ * Takes the latest step on back.
+ *
+ * record     the record of the step that led to the shown frame, exactly as long as its report said.
+ * state      the 48 bytes of the anim_state.
+ * a, b       the two picture buffers, each exactly a frame long.
+ *
+ * The file isn't needed. Steps are taken back latest first, so keep the records of steps on as a stack.
+ *
+ * Answers ANIM_OK if the step is taken back, or the first of these refusals:
+ *   11  the state isn't 48 bytes long
+ *   11  the state is outside the limits, or not 12 <= next <= end <= 2147483647
+ *   12  A or B isn't a frame long
+ *   61  the record is malformed for a frame of this length, has bytes left over, or has an old byte
+ *       that equals the one it would replace in the shown picture
+ *   62  the record's frame is below 2 or not the state's, or its place isn't in 12 .. next - 1
+ *
+ * Taken: the shown buffer holds the frame that it held before the step on, the other one is as it was
+ * and is now the shown one, and the state is at the frame before, as it was then. Refused: all is as
+ * it was. At frame 1 the answer is never ANIM_OK.
+ */
+uint64_t anim_step_back(const uint8_t *record, size_t record_length,
+                        uint8_t *state, size_t state_length,
+                        uint8_t *a, size_t a_length,
+                        uint8_t *b, size_t b_length);
+
+/*
+ * Where a row of a plane of the shown picture stands: (plane * height + row) * B, in A if the frame
+ * is odd and in B if it is even. The row is B bytes long. Planes and rows count from 0.
+ *
+ * Answers the place, or 0 if it is refused. Row 0 of plane 0 stands at 0 too: anim_row_refusal tells
+ * the two apart. Nothing is changed.
+ */
+uint64_t anim_row_place(const uint8_t *state, size_t state_length,
+                        const uint8_t *a, size_t a_length,
+                        const uint8_t *b, size_t b_length,
+                        uint64_t plane, uint64_t row);
+
+/*
+ * Whether such a row is there. Answers ANIM_OK, or the first of these refusals:
+ *   11  the state isn't 48 bytes long
+ *   11  the state is outside the limits, or not 12 <= next <= end <= 2147483647
+ *   12  A or B isn't a frame long
+ *   14  the plane isn't below the state's planes, or the row not below its height
+ * Nothing is changed.
+ */
+uint64_t anim_row_refusal(const uint8_t *state, size_t state_length,
+                          const uint8_t *a, size_t a_length,
+                          const uint8_t *b, size_t b_length,
+                          uint64_t plane, uint64_t row);
+
+/*
+ * Writes the contents of a DLTA of method 5 that turns the old picture into the new one.
+ *
+ * old_frame, new_frame   each exactly a frame long.
+ * out        of any length; ANIM_DELTA_ROOM of the sizes is always enough.
+ * length     8 bytes: a uint64_t that gets how many bytes of out are the delta.
+ *
+ * Answers ANIM_OK if it is written, or the first of these refusals:
+ *   11  length isn't 8 bytes long
+ *   11  a width or height outside 1 to 1024, or planes outside 1 to 8
+ *   12  the old or the new picture isn't a frame long
+ *   51  the delta is longer than out
+ *
+ * Written: the delta stands at the front of out, whose other bytes stay. Refused: all is as it was.
+ * In a player that shows frame n, the old picture of frame n + 1 is the hidden one.
+ */
+uint64_t anim_write_delta(const uint8_t *old_frame, size_t old_length,
+                          const uint8_t *new_frame, size_t new_length,
+                          uint8_t *out, size_t out_length,
+                          uint8_t *length, size_t length_length,
+                          uint64_t width, uint64_t height, uint64_t planes);
+
+#ifdef __cplusplus
+}
+#endif
+
+#endif
