@@ -4,3 +4,4 @@ pub mod Listing
 pub mod ListLaws
 pub mod FileLaws
 pub mod Sample
+pub mod RoomLaws

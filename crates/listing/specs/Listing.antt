@@ -52,9 +52,8 @@ shows file size room c (ok F) =
     (record { world = record { a = F .first; b = F .first; state = opened (F .sizes) (F .start) (F .end) }; work = c .work; rec = c .rec; text = c .text ++ pictureLine (F .sizes) })
 shows file size room c (fault n) = says c (refusedLine n)
 
--- the length of the record buffer: a record of a frame of 16,384 bytes has three numbers of at most 5 bytes and at most 8,192 runs,
--- each with two numbers below 16,384, of at most 2 bytes each, and with its old bytes, 16,384 in all; a run of all 16,384 bytes is
--- the only one. So 49,167 bytes are enough
+-- the length of the record buffer: a record has at most twice the frame's bytes and 16 more (`record-short`), 32,784 for the longest
+-- frame, so that no longer buffer makes a difference (`room-enough`)
 abbrev pub ROOM : ℕ
 ROOM = 65_536
 
