@@ -4,13 +4,16 @@ use native.Mathlib.Omega.{arith}
 use mathlib.Core.Bool.{Bool, true, false}
 use mathlib.Core.List.{List, []}
 use mathlib.Core.Option.{Option, none, some}
-use mathlib.Core.Path.{_≡_, refl}
+use mathlib.Core.Path.{_≡_, refl, sym, ap, _∙_}
 use lib.Dec.{leb}
 use lib.ListN.{length, take}
 use Rattle.laws.specs.Result.{Res, Res.ok, Res.fault, _>>=_, pick, answer}
-use Rattle.opening.specs.Open.{Film, opening, zeros, stateAfter, pictureAfter}
+use Rattle.opening.specs.declared.OpenedFile.{OpenedFile}
+use Rattle.opening.specs.Open.{Film, opening, zeros, stateAfter, pictureAfter, openingOf, MeetsOpen}
 use Rattle.record.specs.Record.{Past}
-use Rattle.player.specs.Step.{World, Answer, Answer.refused, Answer.ended, Answer.tookOn, shownOf, hiddenOf, ready, Made, advance, Outcome, After, settle, onHidden, stepOn, retreat, settleBack, onShown, stepBack}
+use Rattle.player.specs.declared.SteppedOn.{SteppedOn}
+use Rattle.player.specs.declared.SteppedBack.{SteppedBack}
+use Rattle.player.specs.Step.{onOf, backOf, MeetsOn, MeetsBack, World, Answer, Answer.refused, Answer.ended, Answer.tookOn, shownOf, hiddenOf, ready, Made, advance, Outcome, After, settle, onHidden, stepOn, retreat, settleBack, onShown, stepBack}
 use Rattle.player.specs.OutcomeLaws.{on-kept, on-put, back-kept, back-put}
 
 -- what a call left as it came: what it hands on, and the record buffer, into which nothing was written
@@ -56,3 +59,21 @@ refused-open file a b n p e = go (opening file a b) e
     go : (r : Res Film) → answer r ≡ fault n → (pictureAfter p r ≡ p) × (stateAfter r ≡ zeros)
     go (fault k) q = (refl, refl)
     go (ok F) q = let z : _≡_ {A = ℕ} 0 1 = cc in absurd (omega arith)
+
+-- the same of calls that met their contracts: the buffers and the state afterwards are those from before
+pub demand-1-on : (file : List ℕ) (w : World) (work rec : List ℕ) (r : SteppedOn) (a b work′ rec′ : List ℕ) → MeetsOn file w work rec r a b work′ rec′ → (n : ℕ) → onOf (r .answer) ≡ refused n
+    → (a ≡ w .a) × (b ≡ w .b) × (r .state ≡ w .state) × (rec′ ≡ rec)
+demand-1-on file w work rec r a b work′ rec′ m n e =
+    let u = refused-on file w (length work) (length rec) n (sym (m .answer) ∙ e) in
+    (m .left ∙ ap (λ (x : World). x .a) (u .world), m .right ∙ ap (λ (x : World). x .b) (u .world), m .state ∙ ap (λ (x : World). x .state) (u .world), m .written ∙ rw (u .bytes))
+
+pub demand-1-back : (w : World) (bytes : List ℕ) (r : SteppedBack) (a b : List ℕ) → MeetsBack w bytes r a b → (n : ℕ) → backOf (r .answer) ≡ refused n
+    → (a ≡ w .a) × (b ≡ w .b) × (r .state ≡ w .state)
+demand-1-back w bytes r a b m n e =
+    let u = refused-back w bytes n (sym (m .answer) ∙ e) in
+    (m .left ∙ ap (λ (x : World). x .a) (u .world), m .right ∙ ap (λ (x : World). x .b) (u .world), m .state ∙ ap (λ (x : World). x .state) (u .world))
+
+pub demand-1-open : (file a b : List ℕ) (r : OpenedFile) (a′ b′ : List ℕ) → MeetsOpen file a b r a′ b′ → (n : ℕ) → openingOf (r .answer) ≡ fault n → (a′ ≡ a) × (b′ ≡ b) × (r .state ≡ zeros)
+demand-1-open file a b r a′ b′ m n e =
+    let k = sym (m .answer) ∙ e in
+    (m .left ∙ refused-open file (length a) (length b) n a k .0, m .right ∙ refused-open file (length a) (length b) n b k .0, m .state ∙ refused-open file (length a) (length b) n a k .1)

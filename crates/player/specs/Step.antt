@@ -76,18 +76,11 @@ pub record Made : Type 0 where
   pub report : Report
   pub bytes : List ℕ
 
+abbrev pub reportOf : State → Frame → List ℕ → List ℕ → Report
+reportOf s x hidden f = record { method = x .header .method; time = x .header .time; changed = changes (runsOf hidden f); length = length (recordBytes (suc (s .frame)) (s .next) hidden f) }
+
 unfoldable pub makes : State → Frame → List ℕ → List ℕ → Made
-makes s x hidden f = record {
-  picture = f;
-  next = x .next;
-  report = record {
-    method = x .header .method;
-    time = x .header .time;
-    changed = changes (runsOf hidden f);
-    length = length (recordBytes (suc (s .frame)) (s .next) hidden f);
-  };
-  bytes = recordBytes (suc (s .frame)) (s .next) hidden f;
-}
+makes s x hidden f = record { picture = f; next = x .next; report = reportOf s x hidden f; bytes = recordBytes (suc (s .frame)) (s .next) hidden f }
 
 abbrev pub make : State → List ℕ → List ℕ → Option Frame → Res (Option Made)
 make s shown hidden none = ok none
@@ -156,13 +149,7 @@ retreat w bytes =
 
 unfoldable pub settleBack : State → List ℕ → Res Past → Outcome
 settleBack s shown (fault n) = stays s shown (refused n)
-settleBack s shown (ok p) = record {
-  answer = tookBack;
-  state = record { sizes = s .sizes; frame = s .frame - 1; next = p .place; end = s .end };
-  picture = p .picture;
-  bytes = [];
-  work = none;
-}
+settleBack s shown (ok p) = record { answer = tookBack; state = record { sizes = s .sizes; frame = s .frame - 1; next = p .place; end = s .end }; picture = p .picture; bytes = []; work = none }
 
 unfoldable pub stepBack : World → List ℕ → After
 stepBack w bytes = onShown w (settleBack (w .state) (shownOf w) (retreat w bytes))
