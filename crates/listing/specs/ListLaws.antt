@@ -18,7 +18,7 @@ use Rattle.frame.specs.FrameLaws.{frame-rises}
 use Rattle.player.specs.declared.SteppedOn.{SteppedOn}
 use Rattle.player.specs.Step.{World, Report, Answer, Answer.refused, Answer.ended, Answer.tookOn, After, stepOn, onOf, LeavesOn, shownOf, hiddenOf, ready, change, Made, makes, make, advance, settle, Outcome}
 use Rattle.player.specs.OutcomeLaws.{on-put}
-use Rattle.player.specs.StepLaws.{ready-passed}
+use Rattle.player.specs.ReadyLaws.{ready-passed}
 use Rattle.listing.specs.Lines.{pictureLine, frameLine, endLine, refusedLine}
 use Rattle.listing.specs.TextLaws.{Adds, adds-then, adds-front}
 use Rattle.listing.specs.Listing.{Scene, says, leaves, lineOn, listStep, frames, Lists}
