@@ -4,3 +4,4 @@ pub mod Body
 pub mod BodyLaws
 pub mod Walk
 pub mod WalkLaws
+pub mod PlainLaws

@@ -1,6 +1,6 @@
 // The first picture of a file: the contents of its BODY, plain or packed by ByteRun1.
 ghost use mathlib.Core.Path.{_≡_};
-ghost use Prim.Native.Nat.{_+_, _≤_};
+ghost use Prim.Native.Nat.{_+_, _*_, _≤_};
 ghost use lib.ListN.{length, take, drop, replicate};
 ghost use lib.Seq.{sets};
 ghost use Rattle.laws.specs.Result.{pick, orKeep, answer};
@@ -198,9 +198,12 @@ fn take_row(
 
 // Walks k rows of BODY; they are all there if the answer is true.
 fn check_rows(frame: &mut [u8], s: &[u8], row: usize, count: usize, packed: bool) -> bool
-    requires { ⌜ row ≤ length (now frame) ⌝ }
+    requires { ⌜ (row ≤ length (now frame)) × (count * row ≤ 1048576) ⌝ }
     ensures { λ r. ⌜ (checkOf r ≡ answer (rowsFrom packed (now (s .entry)) row count 0)) × (now (frame .exit) ≡ now (frame .entry)) ⌝ }
 {
+    if !packed {
+        return count * row <= s.len();
+    }
     let mut at = 0;
     let mut left = count;
     while 0 < left {

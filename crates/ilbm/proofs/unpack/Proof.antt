@@ -2,6 +2,7 @@ use native.Mathlib.Omega.{arith}
 use Rattle.ilbm.specs.WalkLaws.{check-failed, check-passed}
 use Rattle.ilbm.specs.Body.{body, picture}
 use lib.ListN.{length}
+use Rattle.ilbm.specs.PlainLaws.{rows-most}
 use Rattle.ilbm.specs.WalkLaws.{spot-fits}
 -- `ilbm::unpack`: the refusals in their order, each with the frame as it was; then the rows that were checked are drawn.
 use native.Mathlib.Nat.{mul-le-mul-right}
@@ -44,7 +45,7 @@ mul-check-rows : tie.Need-mul-check-rows
 mul-check-rows c = let z = sound (c .before .before .before) in omega (arith, mul-le-mul-right (c .before .before .before .before .before .before .before .before .before .before .args .sizes .planes) (z .height-most), z .planes-most)
 
 check-rows-requires : tie.Need-check-rows-requires
-check-rows-requires c κs = let z = sound (c .before .before .before) in omega (arith, c .before .before .row-bytes .ensures, spot-fits _ _ 0 0 z (z .height-least) (z .planes-least))
+check-rows-requires c κs = let z = sound (c .before .before .before) in (omega (arith, c .before .before .row-bytes .ensures, spot-fits _ _ 0 0 z (z .height-least) (z .planes-least)), rows-most z (c .before .before .row-bytes .ensures))
 
 same-length : tie.Need-same-length
 same-length c = search needs
