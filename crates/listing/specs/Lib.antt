@@ -5,3 +5,5 @@ pub mod ListLaws
 pub mod FileLaws
 pub mod Sample
 pub mod RoomLaws
+pub mod ShortLaws
+pub mod LowLaws
