@@ -5,5 +5,3 @@ pub mod ListLaws
 pub mod FileLaws
 pub mod Sample
 pub mod RoomLaws
-pub mod ShortLaws
-pub mod LowLaws

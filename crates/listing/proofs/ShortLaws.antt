@@ -1,31 +1,31 @@
--- How long the lines are, and how much of the file each frame takes: a listing has less than 65,536 bytes.
-use Prim.Native.Nat.{ℕ, zero, suc, _+_, _*_, _/_, _%_, _^_, _<_, _≤_}
+-- How long the lines of a listing are, and how much of the file each frame takes.
+use Prim.Native.Nat.{ℕ, zero, suc, _+_, _/_, _%_, _^_, _<_, _≤_}
 use native.Mathlib.Nat.{div-lt-iff-lt-mul, pow-suc}
 use native.Mathlib.Omega.{arith}
 use native.Mathlib.Decide.{decLt}
-use mathlib.Core.List.{List, [], _∷_, _++_}
+use mathlib.Core.List.{List, [], _∷_}
 use mathlib.Core.Option.{Option, none, some}
-use mathlib.Core.Path.{_≡_, refl, sym, ap, _∙_}
+use mathlib.Core.Path.{ap, _∙_}
 use mathlib.Core.Bool.{_||_}
 use lib.Dec.{leb, eqb, lit<}
-use lib.ListN.{length, getD, take, drop, length-append, length-take, length-drop, List·getD-eq-default}
+use lib.ListN.{length, getD, take, drop, length-append, length-take, List·getD-eq-default}
 use lib.Seq.{getD-take}
 use borrow.Author.Tests.{leb-true}
 use Rattle.laws.specs.Bytes.{be32, Bytes, be32-bound, bytes-drop}
 use Rattle.laws.specs.Result.{Res, Res.ok, Res.fault, _>>=_, orRefuse}
-use Rattle.laws.specs.ResultLaws.{Each, Each.each, Each.no-value, each-any, each-bind, each-need, each-some, All, All.all-some, All.all-none, all-value}
+use Rattle.laws.specs.ResultLaws.{Each, Each.each, Each.no-value, each-bind, each-need, All, All.all-some, All.all-none, all-value}
 use Rattle.state.specs.declared.Sizes.{Sizes}
 use Rattle.state.specs.StateLaws.{Sound}
 use Rattle.iff.specs.Chunk.{bytesOf}
 use Rattle.iff.specs.Form.{Frame as Form, chunksOf}
 use Rattle.iff.specs.FormLaws.{Follows, frame-follows}
-use Rattle.iff.specs.Pair.{Pair, findBoth, BothLie, both-lie}
+use Rattle.iff.specs.Pair.{Pair, BothLie, both-lie}
 use Rattle.anhd.specs.Anhd.{bitsOk, columnsOk, itemsOf, frameHeader}
 use Rattle.anhd.specs.declared.FrameHeader.{FrameHeader}
 use Rattle.anhd.specs.declared.Items.{Items}
 use Rattle.delta.specs.Delta.{shapeOf, readPicture, readDelta}
 use Rattle.frame.specs.Frame.{ANHD, DLTA, Frame, frameIn, frameOr, frameAt}
-use Rattle.runs.specs.Runs.{Run, runsOf}
+use Rattle.runs.specs.Runs.{Run}
 use Rattle.record.specs.RunList.{changes, runBytes, runsBytes}
 use Rattle.record.specs.RunLaws.{run-length}
 use Rattle.player.specs.Step.{Report}
@@ -53,7 +53,7 @@ delta-long z i d = each-bind (each-need (leb 64 (length d)) 41 _ λ h. all-long 
     all-long (ok a) h = each h
     all-long (fault n) h = no-value
 
-bytes-take : (n : ℕ) (s : List ℕ) → Bytes s → Bytes (take n s)
+pub bytes-take : (n : ℕ) (s : List ℕ) → Bytes s → Bytes (take n s)
 bytes-take n s h i = go (decLt i n)
   where
     go : Dec (i < n) → getD (take n s) i 0 < 256

@@ -3,12 +3,10 @@ use Prim.Native.Nat.{ℕ, zero, suc, _+_, _-_, _*_, _/_, _<_}
 use mathlib.Core.Bool.{Bool, true, false, _&&_, _||_, not}
 use mathlib.Core.List.{List, []}
 use mathlib.Core.Option.{Option, none, some}
-use mathlib.Core.Path.{_≡_, refl}
 use lib.Dec.{leb, ltb, eqb, lit<}
-use lib.ListN.{length, getD, take, drop}
-use Rattle.laws.specs.Bytes.{be32, be16}
+use lib.ListN.{length, getD, take}
+use Rattle.laws.specs.Bytes.{be32}
 use Rattle.laws.specs.Result.{Res, Res.ok, Res.fault, _>>=_, need, orRefuse, pick}
-use Rattle.laws.specs.Loop.{Step, Step.next, Step.done}
 use Rattle.laws.specs.LoopLaws.{Comes, Comes.comes-next, Comes.comes-done, comes-pick, runs-holds}
 use Rattle.state.specs.declared.Sizes.{Sizes}
 use Rattle.state.specs.declared.State.{State}
