@@ -1,7 +1,7 @@
 // Lists the ANIM file on standard input: its picture's sizes, a line for each frame, and how it ends.
 use listing::list;
 
-// The file's buffer has a byte more than the longest file that is listed.
+// The file's buffer has a byte more than the longest file that is listed; the text's buffer holds every listing whole (`listing-short`).
 fn main() {
     let mut file = [0u8; 65537];
     let mut a = [0u8; 16384];

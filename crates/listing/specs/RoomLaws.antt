@@ -114,12 +114,15 @@ at-once-most (r ∷ rs) = go (r .gap)
     go zero = omega arith
     go (suc g) = omega arith
 
+pub runs-short : (old new : List ℕ) → length (runsBytes (runsOf old new)) ≤ 2 * length old + 1
+runs-short old new = omega (arith, runs-most (runsOf old new), runs-of-most old new, at-once-most (runsOf old new))
+
 pub record-short : (frame place : ℕ) (old new : List ℕ) → length (recordBytes frame place old new) ≤ 2 * length old + 16
 unfolding recordBytes listBytes writeNumber
 record-short frame place old new =
     let rs : List Run = runsOf old new in
     let l : length (writeNumber frame ++ writeNumber place ++ (writeNumber (length rs) ++ runsBytes rs)) ≡ length (writeNumber frame) + length (writeNumber place) + (length (writeNumber (length rs)) + length (runsBytes rs)) = simp length-append in
-    omega (arith, l, groups-short 4 frame, groups-short 4 place, groups-short 4 (length rs), runs-most rs, runs-of-most old new, at-once-most rs)
+    omega (arith, l, groups-short 4 frame, groups-short 4 place, groups-short 4 (length rs), runs-short old new)
 
 -- the records of the frames that can be made fit
 makes-short : (s : State) (shown hidden : List ℕ) → length hidden ≤ 16_384 → (o : Option Frame) → Each (All (λ (m : Made). length (m .bytes) ≤ ROOM)) (make s shown hidden o)

@@ -1,0 +1,3 @@
+pub mod ShortLaws
+pub mod LowLaws
+pub mod Whole

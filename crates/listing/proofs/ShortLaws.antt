@@ -1,0 +1,127 @@
+-- How long the lines of a listing are, and how much of the file each frame takes.
+use Prim.Native.Nat.{ℕ, zero, suc, _+_, _/_, _%_, _^_, _<_, _≤_}
+use native.Mathlib.Nat.{div-lt-iff-lt-mul, pow-suc}
+use native.Mathlib.Omega.{arith}
+use native.Mathlib.Decide.{decLt}
+use mathlib.Core.List.{List, [], _∷_}
+use mathlib.Core.Option.{Option, none, some}
+use mathlib.Core.Path.{ap, _∙_}
+use mathlib.Core.Bool.{_||_}
+use lib.Dec.{leb, eqb, lit<}
+use lib.ListN.{length, getD, take, drop, length-append, length-take, List·getD-eq-default}
+use lib.Seq.{getD-take}
+use borrow.Author.Tests.{leb-true}
+use Rattle.laws.specs.Bytes.{be32, Bytes, be32-bound, bytes-drop}
+use Rattle.laws.specs.Result.{Res, Res.ok, Res.fault, _>>=_, orRefuse}
+use Rattle.laws.specs.ResultLaws.{Each, Each.each, Each.no-value, each-bind, each-need, All, All.all-some, All.all-none, all-value}
+use Rattle.state.specs.declared.Sizes.{Sizes}
+use Rattle.state.specs.StateLaws.{Sound}
+use Rattle.iff.specs.Chunk.{bytesOf}
+use Rattle.iff.specs.Form.{Frame as Form, chunksOf}
+use Rattle.iff.specs.FormLaws.{Follows, frame-follows}
+use Rattle.iff.specs.Pair.{Pair, BothLie, both-lie}
+use Rattle.anhd.specs.Anhd.{bitsOk, columnsOk, itemsOf, frameHeader}
+use Rattle.anhd.specs.declared.FrameHeader.{FrameHeader}
+use Rattle.anhd.specs.declared.Items.{Items}
+use Rattle.delta.specs.Delta.{shapeOf, readPicture, readDelta}
+use Rattle.frame.specs.Frame.{ANHD, DLTA, Frame, frameIn, frameOr, frameAt}
+use Rattle.runs.specs.Runs.{Run}
+use Rattle.record.specs.RunList.{changes, runBytes, runsBytes}
+use Rattle.record.specs.RunLaws.{run-length}
+use Rattle.player.specs.Step.{Report}
+use Rattle.listing.specs.Lines.{decimal, frameLine, refusedLine, endLine, pictureLine}
+use Rattle.listing.specs.TextLaws.{decimal-digit, decimal-more}
+
+-- a number below 10 to the k has at most k digits
+tenth : (k n : ℕ) → n < 10 ^ suc (suc k) → n / 10 < 10 ^ suc k
+tenth k n h = div-lt-iff-lt-mul (lit< tt) .1 (rw (← (pow-suc 10 (suc k))) h)
+
+pub decimal-length : (k n : ℕ) → n < 10 ^ suc k → length (decimal n) ≤ suc k
+decimal-length zero n h = let l : n < 10 = h in omega (arith, ap length (decimal-digit n l))
+decimal-length (suc k) n h = go (decLt n 10) (decimal-length k (n / 10) (tenth k n h))
+  where
+    go : Dec (n < 10) → length (decimal (n / 10)) ≤ suc k → length (decimal n) ≤ suc (suc k)
+    go (yes l) i = omega (arith, ap length (decimal-digit n l))
+    go (no l) i = let m : 10 ≤ n = omega arith in omega (arith, ap length (decimal-more n m) ∙ length-append (decimal (n / 10)) ((48 + n % 10) ∷ []))
+
+-- the delta of a frame that is taken has its 16 pointers
+pub delta-long : (z : Sizes) (i : Items) (d : List ℕ) → Each (λ _. 64 ≤ length d) (readDelta (shapeOf z i) d)
+unfolding readDelta readPicture
+delta-long z i d = each-bind (each-need (leb 64 (length d)) 41 _ λ h. all-long _ (leb-true 64 (length d) h)) λ c k. each k
+  where
+    all-long : {A : Type 0} (r : Res A) → 64 ≤ length d → Each (λ _. 64 ≤ length d) r
+    all-long (ok a) h = each h
+    all-long (fault n) h = no-value
+
+pub bytes-take : (n : ℕ) (s : List ℕ) → Bytes s → Bytes (take n s)
+bytes-take n s h i = go (decLt i n)
+  where
+    go : Dec (i < n) → getD (take n s) i 0 < 256
+    go (yes l) = rw (getD-take n s i 0 l) (h i)
+    go (no l) = let m : length (take n s) ≤ i = omega (arith, length-take n s) in rw (List·getD-eq-default (take n s) 0 {n = i} m) (omega arith)
+
+-- what a later frame says, and how much of FORM ANIM it takes
+pub record Holds (at : ℕ) (x : Frame) : Type 0 where
+  pub method : x .header .method < 256
+  pub time : x .header .time < 4_294_967_296
+  pub takes : at + 20 + length (x .dlta) ≤ x .next
+
+header-holds : (B : ℕ) (s : List ℕ) → Bytes s → Each (λ (h : FrameHeader). (h .method < 256) × (h .time < 4_294_967_296)) (frameHeader B s)
+unfolding frameHeader
+header-holds B s h =
+    each-need (leb 40 (length s)) 32 _ λ _. each-need (eqb (getD s 0 0) 5 || eqb (getD s 0 0) 7) 33 _ λ _. each-need (eqb (getD s 18 0) 0 || eqb (getD s 18 0) 2) 34 _ λ _.
+    each-need (bitsOk (getD s 0 0) (be32 s 20)) 35 _ λ _. each-need (columnsOk (itemsOf (getD s 0 0) (be32 s 20)) B) 36 _ λ _.
+    each (h 0, be32-bound s 14 h)
+
+pub frame-holds : (s : List ℕ) (B at : ℕ) → Bytes s → Each (All (Holds at)) (frameAt s B at)
+unfolding frameAt frameIn
+frame-holds s B at h = each-bind (frame-follows s at) form
+  where
+    pair : (x : Form) → Follows s at x → (q : Option Pair) → All (BothLie (chunksOf s x)) q
+        → Each (Holds at) (orRefuse 31 q >>= λ p. frameHeader B (bytesOf (chunksOf s x) (p .first)) >>= λ e. ok (record { next = x .next; header = e; dlta = bytesOf (chunksOf s x) (p .second) }))
+    pair x f none l = no-value
+    pair x f (some p) l =
+        let b = all-value l in
+        each-bind (header-holds B (bytesOf (chunksOf s x) (p .first)) (bytes-take (p .first .size) _ (bytes-drop (p .first .start) _ (bytes-take (x .size) _ (bytes-drop (x .start) s h))))) λ e k.
+        let t : at + 20 + length (bytesOf (chunksOf s x) (p .second)) ≤ x .next =
+        omega (arith, length-take (p .second .size) (drop (p .second .start) (chunksOf s x)), length-take (x .size) (drop (x .start) s), b .second .starts, b .second .ends, f .starts, f .holds) in
+        each (record { method = k .0; time = k .1; takes = t })
+
+    form : (o : Option Form) → All (Follows s at) o → Each (All (Holds at)) (frameOr s B o)
+    form none l = each all-none
+    form (some x) l = each-bind (each-bind (both-lie ANHD DLTA (chunksOf s x)) (pair x (all-value l))) λ y k. each (all-some k)
+
+-- what is reported of a step is small enough to be told in so many digits
+pub record Tells (r : Report) : Type 0 where
+  pub method : r .method < 1000
+  pub time : r .time < 10_000_000_000
+  pub changed : r .changed < 100_000
+  pub length : r .length < 100_000
+
+pub changes-short : (rs : List Run) → changes rs ≤ length (runsBytes rs)
+unfolding changes runsBytes
+changes-short [] = omega arith
+changes-short (r ∷ rs) = omega (arith, length-append (runBytes r) (runsBytes rs), run-length r, changes-short rs)
+
+-- a frame's line has at most 68 bytes
+pub frame-line-short : (n : ℕ) (r : Report) → n < 10_000_000 → Tells r → length (frameLine n r) ≤ 68
+unfolding frameLine
+frame-line-short n r h k =
+    simp length-append (omega (arith, decimal-length 6 n h, decimal-length 2 (r .method) (k .method), decimal-length 9 (r .time) (k .time), decimal-length 4 (r .changed) (k .changed), decimal-length 4 (r .length) (k .length)))
+
+-- the other lines
+pub end-line-short : (n : ℕ) → n < 10_000_000 → length (endLine n) ≤ 68
+unfolding endLine
+end-line-short n h = simp length-append (omega (arith, decimal-length 6 n h))
+
+pub refused-line-short : (n : ℕ) → n < 100 → length (refusedLine n) ≤ 68
+unfolding refusedLine
+refused-line-short n h = simp length-append (omega (arith, decimal-length 1 n h))
+
+pub picture-line-short : (z : Sizes) (n : ℕ) → Sound z n → length (pictureLine z) ≤ 68
+unfolding pictureLine
+picture-line-short z n k =
+    let w : z .width < 10_000 = omega (arith, k .width-most) in
+    let h : z .height < 10_000 = omega (arith, k .height-most) in
+    let p : z .planes < 10 = omega (arith, k .planes-most) in
+    simp length-append (omega (arith, decimal-length 3 (z .width) w, decimal-length 3 (z .height) h, decimal-length 0 (z .planes) p))
