@@ -1,6 +1,7 @@
 //! The checks: groups of calls that are made on both sides.
 pub mod calls;
 pub mod damaged;
+pub mod fences;
 pub mod large;
 pub mod limits;
 pub mod listings;

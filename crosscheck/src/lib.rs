@@ -2,6 +2,7 @@
 pub mod checks;
 pub mod cover;
 pub mod faults;
+pub mod fence;
 pub mod files;
 pub mod library;
 pub mod pair;

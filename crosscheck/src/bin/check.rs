@@ -1,7 +1,7 @@
 //! Makes calls on both sides until they differ or the time is over.
 //!
 //!     check [--seed N] [--seconds N] [--broken NAME] [--names]
-use crosscheck::checks::{calls, damaged, large, limits, listings, orders, records, writer, Check};
+use crosscheck::checks::{calls, damaged, fences, large, limits, listings, orders, records, writer, Check};
 use crosscheck::faults;
 use crosscheck::pair::{Checked, Pair};
 use crosscheck::random::Random;
@@ -29,6 +29,7 @@ const ONCE: &[Group] = &[
     ("every bit of a file changed", damaged::flipped),
     ("one long list of calls", calls::long_list),
     ("the largest pictures", large::run),
+    ("buffers between fences", fences::run),
 ];
 
 /// Made in turn until the time is over.

@@ -26,7 +26,7 @@ pub fn anim_end(file: &[u8]) -> Answer<usize> {
     need(&file[..4] == b"FORM" && &file[8..12] == b"ANIM", NotFormAnim)?;
     let length = be32(&file[4..]) as usize;
     need(length >= 4 && length + 8 <= file.len(), ChunkPastParent)?;
-    need(length % 2 == 0 || length + 8 < file.len() || !broken("anim-pad-asked"), ChunkPastParent)?;
+    need(length.is_multiple_of(2) || length + 8 < file.len() || !broken("anim-pad-asked"), ChunkPastParent)?;
     Ok(length + 8)
 }
 
