@@ -1,14 +1,15 @@
 -- Laws of later frames: their places rise, and a part of a part is a part.
-use Prim.Native.Nat.{ℕ, zero, suc, _+_, _-_, _<_, _≤_}
+use Prim.Native.Nat.{ℕ, _+_, _-_, _<_, _≤_}
 use native.Mathlib.Nat.{add-sub-cancel-left}
 use native.Mathlib.Omega.{arith}
-use mathlib.Core.List.{List, [], _∷_}
+use mathlib.Core.List.{List, []}
 use mathlib.Core.Option.{Option, none, some}
 use mathlib.Core.Path.{_≡_, refl}
 use lib.ListN.{length, take, drop, length-take}
-use lib.Seq.{drop-drop, take-take}
+use lib.Seq.{drop-drop}
 use borrow.Author.Tests.{le-leb}
 use Rattle.laws.specs.Result.{Res.ok, Res.fault, orRefuse}
+use Rattle.laws.specs.Store.{part-of-part}
 use Rattle.laws.specs.ResultLaws.{Each, Each.each, All, All.all-some, All.all-none, all-value, each-any, each-bind, each-some}
 use Rattle.iff.specs.Chunk.{Part, bytesOf, contentsOf}
 use Rattle.iff.specs.ChunkLaws.{Lies}
@@ -41,18 +42,12 @@ pub frame-rises : (s : List ℕ) (B at : ℕ) (x : Frame) → frameAt s B at ≡
 unfolding frameAt
 frame-rises s B at x e = each-some e (each-bind (frame-follows s at) λ o h. or-rises s B at o h)
 
-take-drop-take : (n b m : ℕ) (l : List ℕ) → b + n ≤ m → take n (drop b (take m l)) ≡ take n (drop b l)
-take-drop-take n zero m l h = take-take n m l (omega arith)
-take-drop-take n (suc b) zero l h = absurd (omega arith)
-take-drop-take n (suc b) (suc m) [] h = refl
-take-drop-take n (suc b) (suc m) (y ∷ l) h = take-drop-take n b m l (omega arith)
-
 -- a part of a FORM's chunks is a part of FORM ANIM
 part-of-chunks : (s : List ℕ) (x : Form) (p : Part) → x .start + x .size ≤ length s → Lies (chunksOf s x) p
     → contentsOf s (ok (some (record { start = x .start + p .start; size = p .size }))) ≡ bytesOf (chunksOf s x) p
 part-of-chunks s x p h l =
     let n : p .start + p .size ≤ x .size = omega (arith, l .ends, length-take (x .size) (drop (x .start) s)) in
-    rw (le-leb (x .start + p .start + p .size) (length s) (omega arith), take-drop-take (p .size) (p .start) (x .size) (drop (x .start) s) n, drop-drop (p .start) (x .start) s) refl
+    rw (le-leb (x .start + p .start + p .size) (length s) (omega arith), part-of-part (p .start) (p .size) (x .size) (drop (x .start) s) n, drop-drop (p .start) (x .start) s) refl
 
 -- what the frame in the FORM whose chunks are n bytes from a on comes to
 module _ (s : List ℕ) (B a n next : ℕ) where

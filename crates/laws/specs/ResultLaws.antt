@@ -80,3 +80,7 @@ answer-ok (fault n) f = refl
 pub answered : {A : Type 0} (r : Res A) → ok tt ≡ answer r → (a : A) × (r ≡ ok a)
 answered (ok a) e = (a, refl)
 answered (fault n) e = let z : _≡_ {A = ℕ} 0 1 = cc in absurd (omega arith)
+
+pub answer-refused : {A : Type 0} (r : Res A) {n : ℕ} → answer r ≡ fault n → r ≡ fault n
+answer-refused (ok a) e = let z : _≡_ {A = ℕ} 0 1 = cc in absurd (omega arith)
+answer-refused (fault m) {n} e = let q : m ≡ n = cc in rw q

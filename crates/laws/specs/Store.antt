@@ -8,7 +8,7 @@ use mathlib.Core.Path.{_≡_, refl, sym, ap, _∙_}
 use mathlib.Core.Logic.{_⊎_, inl, inr}
 use mathlib.Core.List.{List, [], _∷_, _++_, append-nil, append-assoc}
 use lib.ListN.{length, getD, set, take, drop, replicate, drop-of-length-le, length-set, length-drop, length-replicate}
-use lib.Seq.{take-all, length-take-le, drop-length, drop-drop, sets, sets-eq, getD-set-same, getD-set-other}
+use lib.Seq.{take-take, take-all, length-take-le, drop-length, drop-drop, sets, sets-eq, getD-set-same, getD-set-other}
 use borrow.Author.Fill.{fill-more}
 
 -- s laid over the front of d, as far as both go
@@ -100,3 +100,10 @@ lent-fill f a n v y h e =
     let m : length (take n (drop a f)) ≡ n = length-take-le n (drop a f) (simp length-drop (omega arith)) in
     let w : y ≡ replicate n v = e ∙ rw (i, m) refl in
     rw w (sets-part a (a + n) f (replicate n v) (omega arith) h (length-replicate n v ∙ sym i))
+
+-- a part of a part is a part of the whole
+pub part-of-part : (s n e : ℕ) (f : List ℕ) → s + n ≤ e → take n (drop s (take e f)) ≡ take n (drop s f)
+part-of-part zero n e f h = take-take n e f (omega arith)
+part-of-part (suc s) n zero f h = absurd (omega arith)
+part-of-part (suc s) n (suc e) [] h = refl
+part-of-part (suc s) n (suc e) (x ∷ f) h = part-of-part s n e f (omega arith)

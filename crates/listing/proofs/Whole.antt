@@ -28,7 +28,7 @@ use Rattle.opening.specs.Open.{Film, bmhdAt, bodyAt, firstSize, firstOf, openin
 use Rattle.opening.specs.OpenLaws.{places-lie}
 use Rattle.player.specs.Step.{World, Answer.refused, Answer.tookOn, isOdd, shownOf, hiddenOf, ready, change, Made, makes, make, advance, Outcome, After, settle, stepOn}
 use Rattle.player.specs.OutcomeLaws.{on-put}
-use Rattle.player.specs.StepLaws.{ready-passed}
+use Rattle.player.specs.ReadyLaws.{ready-passed}
 use Rattle.listing.specs.Lines.{frameLine, endLine, refusedLine, pictureLine, tooLarge}
 use Rattle.listing.specs.Listing.{Scene, says, leaves, lineOn, listStep, frames, shows, ROOM, front, behind, sized, listed, blank, listing}
 use Rattle.listing.specs.RoomLaws.{runs-short, record-short}

@@ -1,16 +1,17 @@
 -- Laws of opening: the order of its refusals, and what is left in the buffers.
-use Prim.Native.Nat.{ℕ, zero, suc, _+_, _-_, _<_, _≤_}
+use Prim.Native.Nat.{ℕ, _+_, _-_, _<_, _≤_}
 use native.Mathlib.Nat.{add-sub-cancel-left}
 use native.Mathlib.Omega.{arith}
-use mathlib.Core.List.{List, [], _∷_}
+use mathlib.Core.List.{List, []}
 use mathlib.Core.Option.{Option, none, some}
 use mathlib.Core.Path.{_≡_, refl, sym}
 use lib.Dec.{leb}
 use lib.ListN.{length, take, drop}
-use lib.Seq.{length-take-le, take-take}
+use lib.Seq.{length-take-le}
 use borrow.Author.Tests.{eq-eqb, ne-eqb, le-leb, lt-leb, leb-true}
 use Rattle.laws.specs.Result.{Res, Res.ok, Res.fault, _>>=_, orRefuse, answer, orKeep}
-use Rattle.laws.specs.ResultLaws.{answered, Each, Each.each, Each.no-value, each-need, each-bind, each-is, All, all-value}
+use Rattle.laws.specs.Store.{part-of-part}
+use Rattle.laws.specs.ResultLaws.{answer-refused, answered, Each, Each.each, Each.no-value, each-need, each-bind, each-is, All, all-value}
 use Rattle.refusal.specs.Number.{numberOf}
 use Rattle.refusal.specs.declared.Refusal.{Refusal}
 use Rattle.state.specs.declared.State.{State}
@@ -91,13 +92,6 @@ pub record Lies (file : List ℕ) (p : Places) : Type 0 where
   pub chunks : p .form .start + p .form .size ≤ p .form .next
   pub parts : BothLie (chunksOf file (p .form)) (p .parts)
 
--- a part of a part is a part of the whole
-inner : (s n e : ℕ) (f : List ℕ) → s + n ≤ e → take n (drop s (take e f)) ≡ take n (drop s f)
-inner zero n e f h = take-take n e f (omega arith)
-inner (suc s) n zero f h = absurd (omega arith)
-inner (suc s) n (suc e) [] h = refl
-inner (suc s) n (suc e) (x ∷ f) h = inner s n e f (omega arith)
-
 pub places-lie : (file : List ℕ) → Each (Lies file) (firstPlaces file)
 unfolding firstPlaces placesIn
 places-lie file =
@@ -110,7 +104,7 @@ places-lie file =
         → (q : Option Pair) → All (BothLie (chunksOf (take end file) x)) q → Each (Lies file) (orRefuse 23 q >>= λ p. ok (record { end = length (take end file); form = x; parts = p }))
     pair end c l n x k none b = no-value
     pair end c l n x k (some p) b =
-        let i : chunksOf (take end file) x ≡ chunksOf file x = inner (x .start) (x .size) end file (omega (arith, k .holds, k .ends)) in
+        let i : chunksOf (take end file) x ≡ chunksOf file x = part-of-part (x .start) (x .size) end file (omega (arith, k .holds, k .ends)) in
         let u : length (take end file) ≤ length file = omega (arith, c .most) in
         let v : 12 ≤ x .next = omega (arith, k .rises) in
         each (record { short = l; ends = u; starts = v; stops = k .ends; chunks = k .holds; parts = rw i at (all-value b) })
@@ -173,10 +167,6 @@ pub opens-at : (file a b : List ℕ) {p : Places} (h d : List ℕ) {r : OpenedFi
     → OpensFirst (p .end) (p .form .next) (firstOf h d (length a) (length b)) a b r a′ b′ → Opens (opening file (length a) (length b)) a b r a′ b′
 unfolding opening
 opens-at file a b h d e i j o = rw e (rw (i, j) at (o .opens file))
-
-answer-refused : {A : Type 0} (r : Res A) {n : ℕ} → answer r ≡ fault n → r ≡ fault n
-answer-refused (ok a) e = let z : _≡_ {A = ℕ} 0 1 = cc in absurd (omega arith)
-answer-refused (fault m) {n} e = let q : m ≡ n = cc in rw q
 
 -- the contents of a BMHD and of a BODY
 module _ (h d : List ℕ) (a b : ℕ) where

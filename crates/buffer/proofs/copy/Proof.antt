@@ -1,5 +1,5 @@
-use native.Mathlib.Omega.{arith}
 -- `buffer::copy`: after i turns the first i bytes of dst are those of src.
+use native.Mathlib.Omega.{arith}
 use Prim.Native.Nat.{_-_, _≤_}
 use mathlib.Core.Path.{_≡_, refl}
 use lib.ListN.{length, length-set}

@@ -1,6 +1,6 @@
+-- `buffer::number16`: the two bytes' bounds give the sum's.
 use Rattle.laws.specs.Bytes.{be16-past}
 use native.Mathlib.Omega.{arith}
--- `buffer::number16`: the two bytes' bounds give the sum's.
 use mathlib.Core.Path.{sym}
 use Rattle.laws.specs.Bytes.{be16}
 use borrow.Author.Needs.{needs}

@@ -1,5 +1,5 @@
-use borrow.Author.Tests.{not-true, not-false}
 -- `ilbm::draw_copy`: the part of the frame that is lent to the copy has the length of what is copied.
+use borrow.Author.Tests.{not-true, not-false}
 use Rattle.laws.specs.Store.{lent-copy}
 use borrow.Author.Needs.{needs}
 use Rattle.ilbm.proofs.draw_copy.Statement.{statement}

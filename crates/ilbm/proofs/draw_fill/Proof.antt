@@ -1,5 +1,5 @@
-use borrow.Author.Tests.{not-true, not-false}
 -- `ilbm::draw_fill`: the part of the frame that is lent is filled whole.
+use borrow.Author.Tests.{not-true, not-false}
 use Rattle.laws.specs.Store.{lent-fill}
 use borrow.Author.Needs.{needs}
 use Rattle.ilbm.proofs.draw_fill.Statement.{statement}

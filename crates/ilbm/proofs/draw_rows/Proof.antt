@@ -1,7 +1,7 @@
+-- `ilbm::draw_rows`: line and plane are those of the row that comes next, and drawing what is left comes to drawing all.
 use native.Mathlib.Omega.{arith}
 use Rattle.ilbm.specs.WalkLaws.{spot-small}
 use Prim.Native.Nat.{_≤_}
--- `ilbm::draw_rows`: line and plane are those of the row that comes next, and drawing what is left comes to drawing all.
 use Prim.Native.Nat.{_+_, _-_, _*_, _<_}
 use mathlib.Core.Path.{_≡_, refl, sym, _∙_}
 use lib.ListN.{length}

@@ -1,10 +1,10 @@
+-- `ilbm::unpack`: the refusals in their order, each with the frame as it was; then the rows that were checked are drawn.
 use native.Mathlib.Omega.{arith}
 use Rattle.ilbm.specs.WalkLaws.{check-failed, check-passed}
 use Rattle.ilbm.specs.Body.{body, picture}
 use lib.ListN.{length}
 use Rattle.ilbm.specs.PlainLaws.{rows-most}
 use Rattle.ilbm.specs.WalkLaws.{spot-fits}
--- `ilbm::unpack`: the refusals in their order, each with the frame as it was; then the rows that were checked are drawn.
 use native.Mathlib.Nat.{mul-le-mul-right}
 use mathlib.Core.Path.{_≡_, refl, sym, ap, subst, _∙_}
 use Rattle.laws.specs.Result.{answer, orKeep}

@@ -1,6 +1,6 @@
+-- `ilbm::unpack_row`: the bytes so far are those of the definition's turns, and they stand in the frame if it is drawn.
 use Rattle.ilbm.specs.WalkLaws.{puts-fault}
 use native.Mathlib.Omega.{arith}
--- `ilbm::unpack_row`: the bytes so far are those of the definition's turns, and they stand in the frame if it is drawn.
 use Prim.Native.Nat.{_-_}
 use mathlib.Core.Path.{_≡_, refl, sym, ap, _∙_}
 use lib.ListN.{length}

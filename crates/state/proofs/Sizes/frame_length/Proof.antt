@@ -1,5 +1,5 @@
-use native.Mathlib.Omega.{arith}
 -- `state::Sizes::frame_length`: three tests, and products whose bounds are those of sizes within the limits.
+use native.Mathlib.Omega.{arith}
 use Rattle.laws.specs.ResultLaws.{told-false, told-true}
 use Rattle.state.specs.State.{frameLength, frameBytes}
 use Rattle.state.specs.StateLaws.{Sound, sound, between}
