@@ -140,13 +140,27 @@ typedef struct anim_report {
     (64 + ANIM_ROW_BYTES(width) * (planes) * ((height) + (height) / 2 + 2))
 
 /*
+ * Asks how long A, B and the work buffer must be for a file.
+ *
+ * file       the whole file; it is read and never changed.
+ * size       the 8 bytes of a uint64_t.
+ *
+ * Answers ANIM_OK, or the first of these refusals:
+ *   11  the size isn't 8 bytes long
+ *   13, 21, 22, 21, 21 or 23, 24  as anim_open, in its order
+ *
+ * Answered, the size is the bytes of a frame, 40000 for 320 x 200 in 5 planes. Refused, it is as it was.
+ */
+uint64_t anim_frame_size(const uint8_t *file, size_t file_length,
+                         uint8_t *size, size_t size_length);
+
+/*
  * Opens a file: A and B get its first picture, and the state gets frame 1.
  *
  * file       the whole file; it is read and never changed. FORM ANIM starts at its first byte, and
  *            bytes after the FORM's end aren't read.
- * a, b       each exactly a frame long. The sizes stand in the contents of the first FORM ILBM's BMHD:
- *            width at 0 and height at 2, two bytes each, high byte first, and planes at 8. A wrong
- *            guess does no harm, it is refused with 12.
+ * a, b       each exactly a frame long, as anim_frame_size answers. A wrong guess does no harm, it is
+ *            refused with 12.
  * state      the 48 bytes of an anim_state.
  *
  * Answers ANIM_OK, or the first of these refusals:

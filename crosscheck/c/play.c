@@ -48,72 +48,18 @@ static void read_file(struct player *p, const char *name) {
     fclose(f);
 }
 
-static size_t number_at(const uint8_t *p, int bytes) {
-    size_t n = 0;
-    while (bytes-- > 0)
-        n = n << 8 | *p++;
-    return n;
-}
-
-/* A part of the file. */
-struct part {
-    const uint8_t *at;
-    size_t length;
-};
-
-/* Takes the first chunk off a parent; 0 if there is no whole one. */
-static int take_chunk(struct part *parent, const uint8_t **id, struct part *contents) {
-    size_t padded;
-    if (parent->length < 8)
-        return 0;
-    *id = parent->at;
-    contents->at = parent->at + 8;
-    contents->length = number_at(parent->at + 4, 4);
-    padded = contents->length + contents->length % 2;
-    if (padded > parent->length - 8)
-        return 0;
-    parent->at += 8 + padded;
-    parent->length -= 8 + padded;
-    return 1;
-}
-
-/* The bytes of a frame as the BMHD in a FORM ILBM has them, 0 if there is none. */
-static size_t frame_in(struct part form) {
-    const uint8_t *id;
-    struct part header;
-    while (take_chunk(&form, &id, &header))
-        if (memcmp(id, "BMHD", 4) == 0 && header.length >= 9)
-            return ANIM_FRAME_BYTES(number_at(header.at, 2), number_at(header.at + 2, 2), header.at[8]);
-    return 0;
-}
-
-/* The bytes of the file's frames, 0 if they can't be found; anim_open checks them. */
-static size_t frame_bytes(const uint8_t *file, size_t length) {
-    struct part anim, form;
-    const uint8_t *id;
-    if (length < 12)
-        return 0;
-    anim.at = file + 12;
-    anim.length = length - 12;
-    while (take_chunk(&anim, &id, &form))
-        if (memcmp(id, "FORM", 4) == 0 && form.length >= 4 && memcmp(form.at, "ILBM", 4) == 0) {
-            form.at += 4;
-            form.length -= 4;
-            return frame_in(form);
-        }
-    return 0;
-}
-
 static uint64_t open_file(struct player *p) {
-    p->frame = frame_bytes(p->file, p->file_length);
-    if (p->frame > ANIM_FRAME_BYTES(ANIM_MAX_WIDTH, ANIM_MAX_HEIGHT, ANIM_MAX_PLANES))
-        p->frame = 0;
+    uint64_t frame = 0;
+    uint64_t answer = anim_frame_size(p->file, p->file_length, BYTES(frame));
+    p->frame = (size_t)frame;
     p->room = ANIM_RECORD_ROOM(p->frame);
     p->a = memory(p->frame);
     p->b = memory(p->frame);
     p->work = memory(p->frame);
     p->record = memory(p->room);
     p->latest = NULL;
+    if (answer != ANIM_OK)
+        return answer;
     return anim_open(p->file, p->file_length, p->a, p->frame, p->b, p->frame, BYTES(p->state));
 }
 

@@ -18,6 +18,17 @@ pub fn numbers(of: &[u64]) -> Vec<u8> {
     of.iter().flat_map(|n| n.to_le_bytes()).collect()
 }
 
+pub fn frame_size(file: &[u8], size: &mut [u8]) -> u64 {
+    if size.len() != 8 {
+        return WRONG_LENGTH;
+    }
+    let asked = plain::frame_length(file);
+    if let Ok(n) = asked {
+        size.copy_from_slice(&numbers(&[n as u64]));
+    }
+    number(asked)
+}
+
 pub fn open(file: &[u8], a: &mut [u8], b: &mut [u8], state: &mut [u8]) -> u64 {
     if state.len() != 48 {
         return WRONG_LENGTH;

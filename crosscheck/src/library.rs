@@ -6,6 +6,7 @@ type Buffer = *mut c_uchar;
 
 #[rustfmt::skip]
 extern "C" {
+    fn anim_frame_size(file: Bytes, file_len: usize, size: Buffer, size_len: usize) -> u64;
     fn anim_open(file: Bytes, file_len: usize, a: Buffer, a_len: usize, b: Buffer, b_len: usize, state: Buffer, state_len: usize) -> u64;
     fn anim_step_on(file: Bytes, file_len: usize, state: Buffer, state_len: usize, a: Buffer, a_len: usize, b: Buffer, b_len: usize,
                     work: Buffer, work_len: usize, record: Buffer, record_len: usize, report: Buffer, report_len: usize) -> u64;
@@ -17,6 +18,10 @@ extern "C" {
 }
 
 // Each call below is safe because a slice's pointer and length name memory that is lent for the call.
+
+pub fn frame_size(file: &[u8], size: &mut [u8]) -> u64 {
+    unsafe { anim_frame_size(file.as_ptr(), file.len(), size.as_mut_ptr(), size.len()) }
+}
 
 pub fn open(file: &[u8], a: &mut [u8], b: &mut [u8], state: &mut [u8]) -> u64 {
     unsafe { anim_open(file.as_ptr(), file.len(), a.as_mut_ptr(), a.len(), b.as_mut_ptr(), b.len(), state.as_mut_ptr(), state.len()) }

@@ -151,7 +151,14 @@ impl Player {
         self.state.set(&cover::state_bytes(state));
     }
 
+    /// Opens the file, and asks for the length of its frames before.
     pub fn open(&mut self, pair: &mut Pair) -> Checked<u64> {
+        for length in [8, 7] {
+            let mut size = Twin::new("size", &vec![0x3c; length]);
+            let x = library::frame_size(self.file.bytes(), size.library());
+            let y = cover::frame_size(self.file.plain_bytes(), size.plain());
+            pair.compare("anim_frame_size", x, y, &[&self.file, &size])?;
+        }
         let x = library::open(self.file.bytes(), self.a.library(), self.b.library(), self.state.library());
         let y = cover::open(self.file.plain_bytes(), self.a.plain(), self.b.plain(), self.state.plain());
         pair.compare("anim_open", x, y, &[&self.file, &self.a, &self.b, &self.state])

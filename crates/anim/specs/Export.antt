@@ -10,7 +10,7 @@ use lib.ListN.{length, drop}
 use Rattle.laws.specs.Result.{Res, Res.ok, Res.fault, pick}
 use Rattle.state.specs.declared.State.{State}
 use Rattle.state.specs.declared.Sizes.{Sizes}
-use Rattle.opening.specs.Open.{Film, opening, stateAfter, pictureAfter}
+use Rattle.opening.specs.Open.{Film, firstSize, opening, stateAfter, pictureAfter}
 use Rattle.player.specs.Step.{World, Answer, Answer.refused, Answer.ended, Answer.tookOn, Answer.tookBack, After, stepOn, stepBack, workAfter}
 use Rattle.shown.specs.Row.{rowPlace}
 use Rattle.writer.specs.Write.{deltaBytes, written, bufferAfter}
@@ -107,3 +107,11 @@ pub record LeavesDeltaC (q : Res ℕ) (bytes out len : List ℕ) (r : ℕ) (out�
 
 abbrev pub WritesC : (z : Sizes) (old new out len : List ℕ) (r : ℕ) (out′ len′ : List ℕ) → Type 0
 WritesC z old new out len r out′ len′ = LeavesDeltaC (sized (eqb (length len) 8) (written z old new (length out))) (deltaBytes z old new) out len r out′ len′
+
+-- asking for the length of a frame
+pub record LeavesSizeC (q : Res ℕ) (len : List ℕ) (r : ℕ) (len′ : List ℕ) : Type 0 where
+  pub answer : r ≡ numberOr q
+  pub lengthOut : len′ ≡ lengthLeft len q
+
+abbrev pub SizesC : (file len : List ℕ) (r : ℕ) (len′ : List ℕ) → Type 0
+SizesC file len r len′ = LeavesSizeC (sized (eqb (length len) 8) (firstSize file)) len r len′

@@ -8,7 +8,7 @@ use Rattle.laws.specs.Result.{Res, Res.ok, Res.fault, answer}
 use Rattle.state.specs.declared.Sizes.{Sizes}
 use Rattle.opening.specs.declared.Opening.{Opening}
 use Rattle.opening.specs.declared.OpenedFile.{OpenedFile}
-use Rattle.opening.specs.Open.{opening, openingOf, MeetsOpen}
+use Rattle.opening.specs.Open.{firstSize, opening, openingOf, MeetsOpen}
 use Rattle.player.specs.declared.On.{On}
 use Rattle.player.specs.declared.SteppedOn.{SteppedOn}
 use Rattle.player.specs.declared.Back.{Back}
@@ -18,7 +18,7 @@ use Rattle.shown.specs.Row.{rowPlace}
 use Rattle.writer.specs.Write.{deltaBytes, written, bufferAfter}
 use Rattle.words.specs.Words.{stateIn, stateWords, lay}
 use Rattle.words.specs.WordLaws.{not-laid}
-use Rattle.anim.specs.Export.{numberOr, OpensC, answerNumber, stateLeft, reportLeft, worldIn, StepsOnC, StepsBackC, rowC, lengthLeft, WritesC}
+use Rattle.anim.specs.Export.{numberOr, OpensC, answerNumber, stateLeft, reportLeft, worldIn, StepsOnC, StepsBackC, rowC, lengthLeft, WritesC, SizesC}
 
 -- opening
 module _ (file a b state : List ℕ) where
@@ -78,3 +78,11 @@ module _ (z : Sizes) (old new out len : List ℕ) where
   pub write-sized : {q : Res ℕ} {r : ℕ} {out′ len′ : List ℕ} → length len ≡ 8 → written z old new (length out) ≡ q → out′ ≡ bufferAfter (deltaBytes z old new) out (written z old new (length out))
       → r ≡ numberOr q → len′ ≡ lengthLeft len q → WritesC z old new out len r out′ len′
   write-sized h e d n l = rw (eq-eqb (length len) 8 h, e) (record { answer = n; deltaOut = rw e at d; lengthOut = l })
+
+-- the length of a frame
+module _ (file len : List ℕ) where
+  pub size-unsized : {r : ℕ} → r ≡ 11 → (length len ≡ 8 → ⊥) → SizesC file len r len
+  size-unsized e h = rw (ne-eqb (length len) 8 h) (record { answer = e; lengthOut = refl })
+
+  pub size-sized : {q : Res ℕ} {r : ℕ} {len′ : List ℕ} → length len ≡ 8 → firstSize file ≡ q → r ≡ numberOr q → len′ ≡ lengthLeft len q → SizesC file len r len′
+  size-sized h e n l = rw (eq-eqb (length len) 8 h, e) (record { answer = n; lengthOut = l })

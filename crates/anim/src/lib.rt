@@ -2,8 +2,9 @@
 ghost use mathlib.Core.Path.{_≡_};
 ghost use lib.ListN.{length};
 ghost use Rattle.shown.specs.Row.{placeOf};
-ghost use Rattle.anim.specs.Export.{OpensC, StepsOnC, StepsBackC, rowC, numberOr, placeOr, WritesC};
+ghost use Rattle.anim.specs.Export.{OpensC, StepsOnC, StepsBackC, rowC, numberOr, placeOr, WritesC, SizesC};
 use opening::Opening;
+use opening::Size;
 use player::Back;
 use player::On;
 use refusal::Refusal;
@@ -17,6 +18,24 @@ fn wrong_length() -> u64
 {
     let why = Refusal::OutsideLimits;
     why.number()
+}
+
+// Asks how long A and B must be for a file.
+#[no_mangle]
+pub extern "C" fn anim_frame_size(file: &[u8], size: &mut [u8]) -> u64
+    ensures { λ r. ⌜ SizesC (now (file .entry)) (now (size .entry)) r (now (size .exit)) ⌝ }
+{
+    if size.len() != 8 {
+        return wrong_length();
+    }
+    let s = opening::frame_size(file);
+    match s {
+        Size::Refused(why) => why.number(),
+        Size::Bytes(n) => {
+            words::write_number(size, n);
+            0
+        }
+    }
 }
 
 // Opens a file: A and B get its first picture, and state the state after it.
