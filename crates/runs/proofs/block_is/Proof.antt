@@ -1,13 +1,13 @@
 -- `runs::block_is`: while the flag stands, the bytes passed so far are as they should be.
-use native.Mathlib.Omega.{arith}
-use borrow.Author.Needs.{needs}
-use Rattle.runs.specs.StretchLaws.{block-more, as-asked}
-use Rattle.runs.specs.Stretch.{stretch}
-use lib.ListN.{length, drop}
-use mathlib.Core.Logic.{⊎-elim}
-use mathlib.Core.Path.{_≡_, _∙_, sym}
-use mathlib.Core.Bool.{true}
 use Prim.Native.Nat.{ℕ, _+_, _-_, _<_, _≤_}
+use mathlib.Core.Bool.{true}
+use mathlib.Core.Path.{_≡_, _∙_, sym}
+use mathlib.Core.Logic.{⊎-elim}
+use lib.ListN.{length, drop}
+use Rattle.runs.specs.Stretch.{stretch}
+use Rattle.runs.specs.StretchLaws.{block-more, as-asked}
+use borrow.Author.Needs.{needs}
+use native.Mathlib.Omega.{arith}
 use Rattle.runs.proofs.block_is.Statement.{statement}
 use Rattle.runs.proofs.block_is.Tie as tie
 

@@ -1,10 +1,10 @@
 -- `runs::skip_blocks`: each turn jumps over the bytes of a block.
-use borrow.Author.Needs.{needs}
-use Rattle.runs.specs.StretchLaws.{scan-starts, scan-jumps}
-use Rattle.runs.specs.Stretch.{Scanned}
-use borrow.Author.Tests.{not-false}
-use lib.ListN.{length}
 use Prim.Native.Nat.{_-_}
+use lib.ListN.{length}
+use borrow.Author.Tests.{not-false}
+use Rattle.runs.specs.Stretch.{Scanned}
+use Rattle.runs.specs.StretchLaws.{scan-starts, scan-jumps}
+use borrow.Author.Needs.{needs}
 use Rattle.runs.proofs.skip_blocks.Statement.{statement}
 use Rattle.runs.proofs.skip_blocks.Tie as tie
 

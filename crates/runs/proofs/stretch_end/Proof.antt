@@ -1,9 +1,9 @@
 -- `runs::stretch_end`: from where the blocks end, each turn is one more byte of the stretch.
-use borrow.Author.Needs.{needs}
-use Rattle.runs.specs.StretchLaws.{as-asked, not-asked, scan-more, scan-stops, scan-ends}
-use Rattle.runs.specs.Stretch.{Scanned}
-use lib.ListN.{length}
 use Prim.Native.Nat.{_-_}
+use lib.ListN.{length}
+use Rattle.runs.specs.Stretch.{Scanned}
+use Rattle.runs.specs.StretchLaws.{as-asked, not-asked, scan-more, scan-stops, scan-ends}
+use borrow.Author.Needs.{needs}
 use Rattle.runs.proofs.stretch_end.Statement.{statement}
 use Rattle.runs.proofs.stretch_end.Tie as tie
 
