@@ -17,8 +17,8 @@ pub enum Written {
     NoRoom,
 }
 
-// The number at a place of s.
-pub fn read(s: &[u8], at: usize) -> Parsed
+// The number at a place of s, group by group.
+fn read_groups(s: &[u8], at: usize) -> Parsed
     ensures { λ r. ⌜ ReadAt (now (s .entry)) at r ⌝ }
 {
     let mut i = at;
@@ -48,6 +48,23 @@ pub fn read(s: &[u8], at: usize) -> Parsed
         left -= 1;
     }
     Parsed::Malformed
+}
+
+// The number at a place of s. Nearly all are of one byte, which is its value.
+pub fn read(s: &[u8], at: usize) -> Parsed
+    ensures { λ r. ⌜ ReadAt (now (s .entry)) at r ⌝ }
+{
+    if s.len() <= at {
+        return Parsed::Malformed;
+    }
+    let first = s[at] as usize;
+    if first < 128 {
+        return Parsed::Number {
+            value: first,
+            next: at + 1,
+        };
+    }
+    read_groups(s, at)
 }
 
 // How many bytes a number takes.

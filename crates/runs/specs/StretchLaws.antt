@@ -2,9 +2,9 @@
 use Prim.Native.Nat.{ℕ, zero, suc, _+_, _<_, _≤_}
 use native.Mathlib.Numerals.{add-one}
 use native.Mathlib.Omega.{arith}
-use mathlib.Core.Bool.{Bool, true, false, not}
+use mathlib.Core.Bool.{Bool, Bool·beq, true, false, not}
 use mathlib.Core.List.{List, [], _∷_}
-use mathlib.Core.Path.{_≡_, refl, _∙_}
+use mathlib.Core.Path.{_≡_, refl, sym, _∙_}
 use lib.Dec.{eqb}
 use lib.ListN.{length, getD, drop, length-drop}
 use lib.Seq.{drop-cons, drop-drop}
@@ -16,6 +16,19 @@ by-test true true p q = p refl
 by-test true false p q = q refl
 by-test false true p q = q refl
 by-test false false p q = p refl
+
+-- what the test of two bytes tells
+pub as-asked : (u t : Bool) → not (Bool·beq u t) ≡ false → u ≡ t
+as-asked true true e = refl
+as-asked true false e = e
+as-asked false true e = sym e
+as-asked false false e = refl
+
+pub not-asked : (u t : Bool) → not (Bool·beq u t) ≡ true → u ≡ not t
+not-asked true true e = sym e
+not-asked true false e = refl
+not-asked false true e = refl
+not-asked false false e = e
 
 -- one byte at the front
 pub stretch-more : (t : Bool) (a b : ℕ) (old new : List ℕ) → eqb a b ≡ t → stretch t (a ∷ old) (b ∷ new) ≡ suc (stretch t old new)
@@ -86,8 +99,8 @@ module _ {t : Bool} {old new : List ℕ} {from i : ℕ} (w : Scanned t old new f
       record { inside = omega (arith, w .inside, stretch-short t (drop i old) (drop i new), length-drop i old); same = omega (arith, w .same, e) }
 
 -- one more byte of a block
-pub block-more : (i at : ℕ) (old new : List ℕ) → length old ≡ length new → at + i < length old → eqb (getD old (at + i) 0) (getD new (at + i) 0) ≡ true
-    → i ≤ stretch true (drop at old) (drop at new) → i + 1 ≤ stretch true (drop at old) (drop at new)
-block-more i at old new l h e k =
-    let m : stretch true (drop at old) (drop at new) ≡ i + stretch true (drop (at + i) old) (drop (at + i) new) = rw (← (drop-drop i at old), ← (drop-drop i at new)) (stretch-split true i (drop at old) (drop at new) k) in
-    omega (arith, m, at-more true (at + i) old new h l e)
+pub block-more : {t : Bool} (i at : ℕ) (old new : List ℕ) → length old ≡ length new → at + i < length old → eqb (getD old (at + i) 0) (getD new (at + i) 0) ≡ t
+    → i ≤ stretch t (drop at old) (drop at new) → i + 1 ≤ stretch t (drop at old) (drop at new)
+block-more {t} i at old new l h e k =
+    let m : stretch t (drop at old) (drop at new) ≡ i + stretch t (drop (at + i) old) (drop (at + i) new) = rw (← (drop-drop i at old), ← (drop-drop i at new)) (stretch-split t i (drop at old) (drop at new) k) in
+    omega (arith, m, at-more t (at + i) old new h l e)

@@ -1,7 +1,7 @@
 // The longest stretches of bytes that changed between two buffers, found one after the other.
 ghost use mathlib.Core.Path.{_≡_};
 ghost use mathlib.Core.Bool.{true, false};
-ghost use Prim.Native.Nat.{_+_, _≤_};
+ghost use Prim.Native.Nat.{_+_, _<_, _≤_};
 ghost use lib.ListN.{length, drop};
 ghost use Rattle.runs.specs.Runs.{differ, nextRun, changeOf};
 ghost use Rattle.runs.specs.Stretch.{stretch, Scanned};
@@ -12,33 +12,48 @@ pub enum Change {
     Nothing,
 }
 
-// Whether the 64 bytes at a place are equal. There is no early exit, so that they are compared all at once.
-fn same_block(old: &[u8], new: &[u8], at: usize) -> bool
-    requires { ⌜ (length (now old) ≡ length (now new)) × (at + 64 ≤ length (now old)) ⌝ }
-    ensures { λ r. ⌜ (r ≡ true → 64 ≤ stretch true (drop at (now (old .entry))) (drop at (now (new .entry)))) ⌝ }
+// Whether the bytes of a block are all equal, or all different. There is no early exit, so that they are compared all at once.
+fn block_is(equal: bool, old: &[u8], new: &[u8], at: usize, size: usize) -> bool
+    requires { ⌜ (length (now old) ≡ length (now new)) × (at + size ≤ length (now old)) ⌝ }
+    ensures { λ r. ⌜ (r ≡ true → size ≤ stretch equal (drop at (now (old .entry))) (drop at (now (new .entry)))) ⌝ }
 {
-    let mut same = true;
+    let mut all = true;
     let mut i = 0;
-    while i < 64 {
-        if old[at + i] != new[at + i] {
-            same = false;
+    while i < size {
+        if (old[at + i] == new[at + i]) != equal {
+            all = false;
         }
         i += 1;
     }
-    same
+    all
 }
 
-// A place up to which the bytes from a place on are equal, found by blocks.
-fn skip_blocks(old: &[u8], new: &[u8], from: usize) -> usize
-    requires { ⌜ (length (now old) ≡ length (now new)) × (from ≤ length (now old)) ⌝ }
-    ensures { λ r. ⌜ Scanned true (now (old .entry)) (now (new .entry)) from r ⌝ }
+// A place up to which the bytes from a place on are all equal, or all different, found by blocks.
+fn skip_blocks(equal: bool, old: &[u8], new: &[u8], from: usize, size: usize) -> usize
+    requires { ⌜ (length (now old) ≡ length (now new)) × (from ≤ length (now old)) × (0 < size) ⌝ }
+    ensures { λ r. ⌜ Scanned equal (now (old .entry)) (now (new .entry)) from r ⌝ }
 {
     let mut i = from;
-    while 64 <= old.len() - i {
-        if !same_block(old, new, i) {
+    while size <= old.len() - i {
+        if !block_is(equal, old, new, i, size) {
             return i;
         }
-        i += 64;
+        i += size;
+    }
+    i
+}
+
+// The first place from a place on where the bytes aren't equal, or aren't different, or the end.
+fn stretch_end(equal: bool, old: &[u8], new: &[u8], from: usize) -> usize
+    requires { ⌜ (length (now old) ≡ length (now new)) × (from ≤ length (now old)) ⌝ }
+    ensures { λ r. ⌜ r ≡ from + stretch equal (drop from (now (old .entry))) (drop from (now (new .entry))) ⌝ }
+{
+    let mut i = skip_blocks(equal, old, new, from, 8);
+    while i < old.len() {
+        if (old[i] == new[i]) != equal {
+            return i;
+        }
+        i += 1;
     }
     i
 }
@@ -48,14 +63,8 @@ fn first_difference(old: &[u8], new: &[u8], from: usize) -> usize
     requires { ⌜ (length (now old) ≡ length (now new)) × (from ≤ length (now old)) ⌝ }
     ensures { λ r. ⌜ r ≡ from + stretch true (drop from (now (old .entry))) (drop from (now (new .entry))) ⌝ }
 {
-    let mut i = skip_blocks(old, new, from);
-    while i < old.len() {
-        if old[i] != new[i] {
-            return i;
-        }
-        i += 1;
-    }
-    i
+    let near = skip_blocks(true, old, new, from, 64);
+    stretch_end(true, old, new, near)
 }
 
 // The first place from a place on where the bytes are equal, or the end.
@@ -63,14 +72,7 @@ fn run_end(old: &[u8], new: &[u8], from: usize) -> usize
     requires { ⌜ (length (now old) ≡ length (now new)) × (from ≤ length (now old)) ⌝ }
     ensures { λ r. ⌜ r ≡ from + stretch false (drop from (now (old .entry))) (drop from (now (new .entry))) ⌝ }
 {
-    let mut i = from;
-    while i < old.len() {
-        if old[i] == new[i] {
-            return i;
-        }
-        i += 1;
-    }
-    i
+    stretch_end(false, old, new, from)
 }
 
 // The next run of changed bytes from a place on. There is none between buffers of two lengths.

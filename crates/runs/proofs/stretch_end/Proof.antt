@@ -1,19 +1,17 @@
--- `runs::first_difference`: from where the blocks end, each turn is one more byte of the stretch.
+-- `runs::stretch_end`: from where the blocks end, each turn is one more byte of the stretch.
 use Prim.Native.Nat.{_-_}
-use mathlib.Core.Bool.{true}
 use lib.ListN.{length}
-use borrow.Author.Tests.{eq-eqb, ne-eqb}
 use Rattle.runs.specs.Stretch.{Scanned}
-use Rattle.runs.specs.StretchLaws.{scan-more, scan-stops, scan-ends}
+use Rattle.runs.specs.StretchLaws.{as-asked, not-asked, scan-more, scan-stops, scan-ends}
 use borrow.Author.Needs.{needs}
-use Rattle.runs.proofs.first_difference.Statement.{statement}
-use Rattle.runs.proofs.first_difference.Tie as tie
+use Rattle.runs.proofs.stretch_end.Statement.{statement}
+use Rattle.runs.proofs.stretch_end.Tie as tie
 
 abbrev Inv-loop : tie.InvT-loop
-Inv-loop old new from i₀ i = Scanned true old new from i
+Inv-loop equal old new from i₀ i = Scanned equal old new from i
 
 abbrev μ-loop : tie.MeasureT-loop
-μ-loop old new from i₀ i = length old - i
+μ-loop equal old new from i₀ i = length old - i
 
 skip-blocks-requires : tie.Need-skip-blocks-requires Inv-loop μ-loop
 skip-blocks-requires c κs = search needs
@@ -28,7 +26,7 @@ shared-slice-read-if1-2 : tie.Need-shared-slice-read-if1-2 Inv-loop μ-loop
 shared-slice-read-if1-2 c = search needs
 
 returns : tie.Need-returns Inv-loop μ-loop
-returns c = scan-stops (c .before .before .before .before .loop .inv) (c .before .before .before .before .before .before .before .before .pre .0) (c .before .before .before .loop-test .taken) (ne-eqb _ _ (c .if1 .taken))
+returns c = scan-stops (c .before .before .before .before .loop .inv) (c .before .before .before .before .before .before .before .before .pre .0) (c .before .before .before .loop-test .taken) (not-asked _ _ (c .if1 .taken))
 
 add-i : tie.Need-add-i Inv-loop μ-loop
 add-i c = search needs
@@ -37,13 +35,13 @@ loop-less : tie.Need-loop-less Inv-loop μ-loop
 loop-less c = search needs
 
 loop-again : tie.Need-loop-again Inv-loop μ-loop
-loop-again c = scan-more (c .before .before .before .before .loop .inv) (c .before .before .before .before .before .before .before .before .pre .0) (c .before .before .before .loop-test .taken) (eq-eqb _ _ (c .if1 .left))
+loop-again c = scan-more (c .before .before .before .before .loop .inv) (c .before .before .before .before .before .before .before .before .pre .0) (c .before .before .before .loop-test .taken) (as-asked _ _ (c .if1 .left))
 
 returns-2 : tie.Need-returns-2 Inv-loop μ-loop
 returns-2 c = scan-ends (c .before .loop .inv) (c .before .before .before .before .before .pre .0) (c .loop-test .left)
 
-pub first-difference-spec : {M : Type 1} → statement M
-first-difference-spec =
+pub stretch-end-spec : {M : Type 1} → statement M
+stretch-end-spec =
     tie.close
     (tie.spec
     Inv-loop

@@ -1,22 +1,21 @@
--- `runs::same_block`: while the flag stands, the bytes passed so far are equal.
+-- `runs::block_is`: while the flag stands, the bytes passed so far are as they should be.
 use Prim.Native.Nat.{ℕ, _+_, _-_, _<_, _≤_}
 use mathlib.Core.Bool.{true}
 use mathlib.Core.Path.{_≡_, _∙_, sym}
 use mathlib.Core.Logic.{⊎-elim}
 use lib.ListN.{length, drop}
-use borrow.Author.Tests.{eq-eqb}
 use Rattle.runs.specs.Stretch.{stretch}
-use Rattle.runs.specs.StretchLaws.{block-more}
+use Rattle.runs.specs.StretchLaws.{block-more, as-asked}
 use borrow.Author.Needs.{needs}
 use native.Mathlib.Omega.{arith}
-use Rattle.runs.proofs.same_block.Statement.{statement}
-use Rattle.runs.proofs.same_block.Tie as tie
+use Rattle.runs.proofs.block_is.Statement.{statement}
+use Rattle.runs.proofs.block_is.Tie as tie
 
 abbrev Inv-loop : tie.InvT-loop
-Inv-loop old new at same₀ i₀ same i = (i ≤ 64) × (same ≡ true → i ≤ stretch true (drop at old) (drop at new))
+Inv-loop equal old new at size all₀ i₀ all i = (i ≤ size) × (all ≡ true → i ≤ stretch equal (drop at old) (drop at new))
 
 abbrev μ-loop : tie.MeasureT-loop
-μ-loop old new at same₀ i₀ same i = 64 - i
+μ-loop equal old new at size all₀ i₀ all i = size - i
 
 loop-holds : tie.Need-loop-holds Inv-loop μ-loop
 loop-holds c = (omega arith, λ e. omega arith)
@@ -40,21 +39,20 @@ loop-less : tie.Need-loop-less Inv-loop μ-loop
 loop-less c = search needs
 
 loop-again : tie.Need-loop-again Inv-loop μ-loop
-loop-again c =
-    let b = c .before .before .before .before in
+loop-again c = let b = c .before .before .before .before in
     let h : b .before .args .at + b .loop .i < length (b .before .args .old .now) = omega arith in (
       omega arith,
       λ e. ⊎-elim
           (λ w. let z : _≡_ {A = ℕ} 0 1 = cc (w .1) in absurd (omega arith))
-          (λ w. block-more _ _ _ _ (b .before .pre .0) h (eq-eqb _ _ (w .0 .left)) (b .loop .inv .1 (sym (w .1) ∙ e)))
+          (λ w. block-more _ _ _ _ (b .before .pre .0) h (as-asked _ _ (w .0 .left)) (b .loop .inv .1 (sym (w .1) ∙ e)))
           (c .if1 .came),
     )
 
 returns : tie.Need-returns Inv-loop μ-loop
 returns c = λ e. omega (arith, c .before .loop .inv .1 e)
 
-pub same-block-spec : {M : Type 1} → statement M
-same-block-spec =
+pub block-is-spec : {M : Type 1} → statement M
+block-is-spec =
     tie.close
     (tie.spec
     Inv-loop
