@@ -7,3 +7,4 @@ pub mod CutLaws
 pub mod PlanLaws
 pub mod Place
 pub mod PlaceLaws
+pub mod LengthLaws
