@@ -1,5 +1,5 @@
 -- How long a delta can be: its lists, from how long a column can be.
-use Prim.Native.Nat.{ℕ, zero, suc, _+_, _*_, _/_, _≤_, _<_}
+use Prim.Native.Nat.{ℕ, zero, suc, _+_, _*_, _/_, _≤_}
 use native.Mathlib.Nat.{mul-le-mul}
 use native.Mathlib.Omega.{arith}
 use mathlib.Core.Bool.{Bool, true, false}
@@ -52,3 +52,7 @@ module _ (old new : List ℕ) (row height : ℕ) where
 -- room for the longest is enough
 pub longest-fits : (old new : List ℕ) (row height planes room : ℕ) → 64 + planes * (row * longest height) ≤ room → false ≡ ltb room (64 + length (listsBytes old new row height planes 0))
 longest-fits old new row height planes room h = sym (le-ltb room (64 + length (listsBytes old new row height planes 0)) (omega (arith, h, lists-short old new row height planes 0)))
+
+-- every place of a delta is a small number
+pub lists-few : (old new : List ℕ) (row height planes : ℕ) → row ≤ 128 → height ≤ 1024 → planes ≤ 8 → length (listsBytes old new row height planes 0) ≤ 1574912
+lists-few old new row height planes w t d = omega (arith, lists-short old new row height planes 0, lists-small w t d)

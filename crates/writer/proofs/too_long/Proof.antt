@@ -1,6 +1,5 @@
 -- `writer::too_long`: room for the longest delta is room for every one; otherwise the lists are measured.
 use Rattle.writer.specs.LengthLaws.{plane-small, lists-small, longest-fits}
-use mathlib.Core.Path.{ap}
 use native.Mathlib.Omega.{arith}
 use borrow.Author.Needs.{needs}
 use Rattle.writer.proofs.too_long.Statement.{statement}
