@@ -136,11 +136,14 @@ unfolding Apart
 ops-size n [] h = unfold opsOf opsBytes in omega arith
 ops-size n (r ∷ rs) h = omega (arith, h .1, run-size r rs, later-size (n - (r .gap + length (r .old))) rs (h .2))
 
--- a column
+-- a column's ops, and the column
+pub ops-short : (old new : List ℕ) → 2 * length (opsBytes (opsOf (runsOf new old))) ≤ 3 * length new + 1
+ops-short old new = ops-size (length new) (runsOf new old) (apart-runs new old)
+
 pub column-short : (old new : List ℕ) → length (columnBytes old new) ≤ length new + length new / 2 + 2
 unfolding columnBytes columnOps
 column-short old new = go (leb (length (opsOf (runsOf new old))) 255) refl
   where
     go : (t : Bool) → leb (length (opsOf (runsOf new old))) 255 ≡ t → length (columnBytes old new) ≤ length new + length new / 2 + 2
-    go true e = rw (e, columnBytes, columnOps) (omega (arith, ops-size (length new) (runsOf new old) (apart-runs new old)))
+    go true e = rw (e, columnBytes, columnOps) (omega (arith, ops-short old new))
     go false e = rw (e, columnBytes, columnOps) (unfold cut in omega (arith, uniq-bytes new, uniq-count new))

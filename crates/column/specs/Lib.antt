@@ -8,3 +8,4 @@ pub mod PlanLaws
 pub mod Place
 pub mod PlaceLaws
 pub mod LengthLaws
+pub mod FillLaws
