@@ -7,3 +7,5 @@ pub mod CutLaws
 pub mod PlanLaws
 pub mod Place
 pub mod PlaceLaws
+pub mod LengthLaws
+pub mod FillLaws

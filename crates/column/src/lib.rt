@@ -7,13 +7,15 @@ ghost use lib.ListN.{length, drop};
 ghost use Rattle.laws.specs.Put.{Put};
 ghost use Rattle.runs.specs.Runs.{runsOf};
 ghost use Rattle.column.specs.Column.{Op, cut, opsOf, opBytes, opsBytes, columnBytes};
-ghost use Rattle.column.specs.Piece.{pieceOps, Planned};
+ghost use Rattle.column.specs.Piece.{pieceOps, Measured};
 ghost use Rattle.column.specs.Place.{columnLength, sizeOf, Short, placed, placedOf, bufferAfter};
+ghost use Rattle.column.specs.FillLaws.{Prepared};
 use crate::piece::Kind;
 use crate::piece::Piece;
-use crate::piece::Plan;
+use crate::piece::Totals;
 use crate::piece::measure;
 use crate::piece::next_piece;
+use crate::piece::piece_totals;
 use buffer::copy;
 use refusal::Refusal;
 
@@ -124,31 +126,57 @@ fn write_piece(out: &mut [u8], at: usize, new: &[u8], row: usize, piece: Piece) 
     }
 }
 
-// Writes the ops of a column.
-fn write_ops(out: &mut [u8], at: usize, old: &[u8], new: &[u8]) -> usize
-    requires { ⌜ (length (now old) ≡ length (now new)) × (at + length (opsBytes (opsOf (runsOf (now new) (now old)))) ≤ length (now out)) ⌝ }
-    ensures { λ r. ⌜ Put (now (out .entry)) at (opsBytes (opsOf (runsOf (now (new .entry)) (now (old .entry))))) (now (out .exit)) r ⌝ }
+// Writes the ops of a column to the front of room, and counts them.
+fn write_ops(room: &mut [u8], old: &[u8], new: &[u8]) -> Totals
+    requires { ⌜ (length (now old) ≡ length (now new)) × (length (now new) ≤ 1024) × (1536 ≤ length (now room)) ⌝ }
+    ensures { λ r. ⌜ Measured (now (old .entry)) (now (new .entry)) (r .ops) (r .bytes) × Put (now (room .entry)) 0 (opsBytes (opsOf (runsOf (now (new .entry)) (now (old .entry))))) (now (room .exit)) (r .bytes) ⌝ }
 {
-    let mut place = at;
+    let mut ops = 0;
+    let mut place = 0;
     let mut row = 0;
     while row < new.len() {
         let piece = next_piece(old, new, row);
-        place = write_piece(out, place, new, row, piece);
+        let totals = piece_totals(piece);
+        place = write_piece(room, place, new, row, piece);
+        ops += totals.ops;
         row += piece.rows;
     }
-    place
+    Totals { ops, bytes: place }
 }
 
-// Writes a column that was measured: the op count byte and the ops.
-fn write_planned(out: &mut [u8], at: usize, old: &[u8], new: &[u8], plan: Plan) -> usize
-    requires { ⌜ (length (now old) ≡ length (now new)) × Planned (now old) (now new) (plan .whole) (plan .ops) (plan .bytes) × (at + length (columnBytes (now old) (now new)) ≤ length (now out)) ⌝ }
-    ensures { λ r. ⌜ Put (now (out .entry)) at (columnBytes (now (old .entry)) (now (new .entry))) (now (out .exit)) r ⌝ }
+// Writes what follows a column's op count byte to the front of room: its ops, or Uniqs over all rows where those are too many.
+fn prepare(room: &mut [u8], old: &[u8], new: &[u8]) -> Totals
+    requires { ⌜ (length (now old) ≡ length (now new)) × (length (now new) ≤ 1024) × (1536 ≤ length (now room)) ⌝ }
+    ensures { λ r. ⌜ Prepared (now (old .entry)) (now (new .entry)) (now (room .exit)) (r .ops) (r .bytes) ⌝ }
 {
-    out[at] = plan.ops as u8;
-    if plan.whole {
-        return write_uniqs(out, at + 1, new);
+    let totals = write_ops(room, old, new);
+    if totals.ops <= 255 {
+        return totals;
     }
-    write_ops(out, at + 1, old, new)
+    let bytes = write_uniqs(room, 0, new);
+    Totals {
+        ops: bytes - new.len(),
+        bytes,
+    }
+}
+
+// Writes a column of rows that are not too many; room is for its ops.
+fn write_in(out: &mut [u8], at: usize, old: &[u8], new: &[u8], room: &mut [u8]) -> Placed
+    requires { ⌜ (length (now old) ≡ length (now new)) × (length (now new) ≤ 1024) × (1536 ≤ length (now room)) ⌝ }
+    ensures { λ r. ⌜ (placedOf r ≡ placed (now (old .entry)) (now (new .entry)) at (length (now (out .entry)))) × (now (out .exit) ≡ bufferAfter (columnBytes (now (old .entry)) (now (new .entry))) (now (out .entry)) at (placed (now (old .entry)) (now (new .entry)) at (length (now (out .entry))))) ⌝ }
+{
+    let totals = prepare(room, old, new);
+    if out.len() < at {
+        return Placed::Refused(Refusal::NoRoom);
+    }
+    if out.len() - at <= totals.bytes {
+        return Placed::Refused(Refusal::NoRoom);
+    }
+    out[at] = totals.ops as u8;
+    let start = at + 1;
+    let end = start + totals.bytes;
+    copy(&mut out[start..end], &room[..totals.bytes]);
+    Placed::Next(end)
 }
 
 // How many bytes a column is written in: 12 for rows of two lengths and for more than 1,024 rows.
@@ -175,12 +203,6 @@ pub fn write(out: &mut [u8], at: usize, old: &[u8], new: &[u8]) -> Placed
     if 1024 < new.len() {
         return Placed::Refused(Refusal::BufferLength);
     }
-    let plan = measure(old, new);
-    if out.len() < at {
-        return Placed::Refused(Refusal::NoRoom);
-    }
-    if out.len() - at <= plan.bytes {
-        return Placed::Refused(Refusal::NoRoom);
-    }
-    Placed::Next(write_planned(out, at, old, new, plan))
+    let mut room = [0u8; 1536];
+    write_in(out, at, old, new, &mut room)
 }

@@ -19,9 +19,9 @@ pub(crate) struct Piece {
 }
 
 // How many ops there are, and the bytes of those.
-struct Totals {
-    ops: usize,
-    bytes: usize,
+pub(crate) struct Totals {
+    pub(crate) ops: usize,
+    pub(crate) bytes: usize,
 }
 
 // How a column is written: whether as Uniqs over all rows, in how many ops, and the bytes of those.
@@ -117,7 +117,7 @@ pub(crate) fn next_piece(old: &[u8], new: &[u8], from: usize) -> Piece
 }
 
 // How many ops a piece is cut into, and the bytes of those.
-fn piece_totals(piece: Piece) -> Totals
+pub(crate) fn piece_totals(piece: Piece) -> Totals
     requires { ⌜ piece .rows ≤ 1024 ⌝ }
     ensures { λ r. ⌜ (r .ops ≡ opsIn (piece .kind) (piece .rows)) × (r .bytes ≡ bytesIn (piece .kind) (piece .rows)) ⌝ }
 {

@@ -1,5 +1,4 @@
 pub mod OpLaws
 pub mod ColumnLaws
 pub mod PlaneLaws
-pub mod LengthLaws
 pub mod RoundTrip

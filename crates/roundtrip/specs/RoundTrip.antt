@@ -16,12 +16,12 @@ use Rattle.state.specs.declared.Sizes.{Sizes}
 use Rattle.state.specs.State.{rowBytes, frameBytes, frameLength}
 use Rattle.state.specs.StateLaws.{Sound, sizes-sound}
 use Rattle.column.specs.Column.{columnBytes}
+use Rattle.writer.specs.LengthLaws.{lists-few}
 use Rattle.writer.specs.Write.{columnIn, columnsBytes, equal, planeBytes, be32Bytes, pointerOf, pointersBytes, listsBytes, deltaBytes}
 use Rattle.writer.specs.PlaneLaws.{length-be32, pointers-length}
 use Rattle.delta.specs.Delta.{Reading, shapeOf, readColumns, pointer, readPlane, readPlanes, readPicture, readDelta, draw, newFrame, readFrame}
 use Rattle.anhd.specs.declared.Items.the-variants.{Bytes}
 use Rattle.roundtrip.specs.ColumnLaws.{bytewise}
-use Rattle.roundtrip.specs.LengthLaws.{lists-short}
 use Rattle.roundtrip.specs.PlaneLaws.{paint, length-paint, paint-out, paint-in, columnAt-rows, columns-are}
 
 -- a frame that is the new one before a place and the old one from there on
@@ -212,7 +212,7 @@ delta-turns z n old new b lo ln =
     let lp : length P ≡ 4 * z .planes = pointers-length old new row (z .height) (z .planes) 0 64 in
     let lz : length (P ++ Z) ≡ 64 = length-append P Z ∙ omega (arith, length-replicate {A = ℕ} (64 - 4 * z .planes) 0, b .planes-most) in
     let hd : length (P ++ Z ++ R) < 4294967296 =
-    omega (arith, length-append (P ++ Z) R, lists-short old new row (z .height) (z .planes) 0 (b .height-most) (b .row-most), b .planes-most) in
+    omega (arith, length-append (P ++ Z) R, lists-few old new row (z .height) (z .planes) (b .row-most) (b .height-most) (b .planes-most)) in
     let h64 : 64 ≤ length (P ++ Z ++ R) = omega (arith, length-append (P ++ Z) R) in
     let start : Reading = record { opAt = 0; itemAt = 0; line = 0; ops = [] } in
     let made : Made row (z .height) (z .planes) s1 (P ++ Z ++ R) old old new start 0 =

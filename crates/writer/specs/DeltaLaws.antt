@@ -32,6 +32,7 @@ sets-then f at vs ws next e = rw e (sets-append f at vs ws)
 pub record Writing (out₀ old new : List ℕ) (row height planes : ℕ) (out : List ℕ) (pointer place at left : ℕ) : Type 0 where
   pub size : length out ≡ length out₀
   pub fits : place + length (listsBytes old new row height left at) ≤ length out
+  pub ends : place + length (listsBytes old new row height left at) ≡ 64 + length (listsBytes old new row height planes 0)
   pub low : pointer + 4 * left ≤ 64
   pub high : 64 ≤ place
   pub walk : Walking row height planes at left
@@ -40,7 +41,7 @@ pub record Writing (out₀ old new : List ℕ) (row height planes : ℕ) (out : 
 
 pub writing : {out old new : List ℕ} {row height planes : ℕ} → Frames old new row height planes → 64 + length (listsBytes old new row height planes 0) ≤ length out
     → Writing out old new row height planes out 0 64 0 planes
-writing v h = record { size = refl; fits = h; low = omega (arith, v .deep); high = omega arith; walk = walking _ _ _; whole = refl }
+writing v h = record { size = refl; fits = h; ends = refl; low = omega (arith, v .deep); high = omega arith; walk = walking _ _ _; whole = refl }
 
 pub writing-room : {out₀ old new : List ℕ} {row height planes : ℕ} {out : List ℕ} {pointer place at left : ℕ} → Writing out₀ old new row height planes out pointer place at left → 0 < left
     → place + length (planeBytes old new row height at) ≤ length out
@@ -66,6 +67,7 @@ more {out₀} {old} {new} {row} {height} {planes} {out} {pointer} {place} {at} k
     record {
       size = length-sets out₁ pointer (be32Bytes (pick (eqb next place) 0 place)) ∙ p .size ∙ w .size;
       fits = omega (arith, w .fits, p .size, p .place, length-append L R, length-sets out₁ pointer (be32Bytes (pick (eqb next place) 0 place)));
+      ends = omega (arith, w .ends, p .place, length-append L R);
       low = omega (arith, w .low);
       high = omega (arith, w .high, p .place);
       walk = rw m at (walking-more (w .walk) (omega arith));
@@ -83,9 +85,9 @@ writing-more {left = zero} w h p e = absurd (omega arith)
 writing-more {left = suc k} w h p e = let z : suc k - 1 ≡ k = omega arith in rw (e, z) (more k w p)
 
 pub writing-last : {out₀ old new : List ℕ} {row height planes : ℕ} {out : List ℕ} {pointer place at left : ℕ} → Writing out₀ old new row height planes out pointer place at left → left ≤ 0
-    → out ≡ sets (sets out₀ 0 (pointersBytes old new row height planes 0 64)) 64 (listsBytes old new row height planes 0)
+    → (place ≡ 64 + length (listsBytes old new row height planes 0)) × (out ≡ sets (sets out₀ 0 (pointersBytes old new row height planes 0 64)) 64 (listsBytes old new row height planes 0))
 unfolding listsBytes pointersBytes
-writing-last {left = zero} w h = w .whole
+writing-last {left = zero} w h = (omega (arith, w .ends), w .whole)
 writing-last {left = suc k} w h = absurd (omega arith)
 
 -- the pointers, zeros behind them, and the lists

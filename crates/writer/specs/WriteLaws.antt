@@ -1,12 +1,14 @@
 -- Laws of writing a delta: the order of its checks, and what is left in the output buffer.
-use Prim.Native.Nat.{ℕ, _+_, _-_, _*_, _≤_, _<_}
+use Prim.Native.Nat.{ℕ, _+_, _-_, _*_, _≤_}
 use native.Mathlib.Nat.{zero-add}
 use native.Mathlib.Omega.{arith}
+use mathlib.Core.Bool.{Bool, true, false}
 use mathlib.Core.List.{List, _++_}
 use mathlib.Core.Path.{_≡_, sym, ap, _∙_}
+use lib.Dec.{ltb}
 use lib.ListN.{length, replicate, length-append, length-replicate}
 use lib.Seq.{sets, sets-eq}
-use borrow.Author.Tests.{eq-eqb, ne-eqb, le-leb, lt-leb}
+use borrow.Author.Tests.{eq-eqb, ne-eqb, le-leb, lt-leb, ltb-true, ltb-false}
 use Rattle.laws.specs.Result.{Res, Res.ok, Res.fault}
 use Rattle.laws.specs.ResultLaws.{each-is}
 use Rattle.state.specs.declared.Sizes.{Sizes}
@@ -68,19 +70,26 @@ module _ (z : Sizes) (old new out : List ℕ) where
       sound : Sound z n
       sound = each-is e (sizes-sound z)
 
-      module _ {m : ℕ} (l : m ≡ length (listsBytes old new (rowBytes (z .width)) (z .height) (z .planes) 0)) where
-        size : length (deltaBytes z old new) ≡ 64 + m
-        unfolding lists
-        size = delta-length (sound .planes-most) ∙ ap (λ (k : ℕ). 64 + k) (sym l)
+      size : length (deltaBytes z old new) ≡ 64 + length (listsBytes old new (rowBytes (z .width)) (z .height) (z .planes) 0)
+      unfolding lists
+      size = delta-length (sound .planes-most)
 
-        pub no-room : length out < 64 + m → Answers (fault 51) out
+      module _ {t : Bool} (l : t ≡ ltb (length out) (64 + length (listsBytes old new (rowBytes (z .width)) (z .height) (z .planes) 0))) where
+        pub no-room : t ≡ true → Answers (fault 51) out
         unfolding written
-        no-room h = answers-fault (simp (e, eq-eqb (length old) n o, eq-eqb (length new) n w, lt-leb (length (deltaBytes z old new)) (length out) (omega (arith, size))))
+        no-room h =
+            let k = ltb-true (length out) (64 + length (listsBytes old new (rowBytes (z .width)) (z .height) (z .planes) 0)) (sym l ∙ h) in
+            answers-fault (simp (e, eq-eqb (length old) n o, eq-eqb (length new) n w, lt-leb (length (deltaBytes z old new)) (length out) (omega (arith, size, k))))
 
-        pub all-written : 64 + m ≤ length out → {left : List ℕ} → left ≡ sets out 0 (deltaBytes z old new) → Answers (ok (64 + m)) left
+        pub has-room : t ≡ false → 64 + length (listsBytes old new (rowBytes (z .width)) (z .height) (z .planes) 0) ≤ length out
+        has-room h = ltb-false (length out) (64 + length (listsBytes old new (rowBytes (z .width)) (z .height) (z .planes) 0)) (sym l ∙ h)
+
+        pub all-written : t ≡ false → {r : ℕ} {left : List ℕ}
+            → (r ≡ 64 + length (listsBytes old new (rowBytes (z .width)) (z .height) (z .planes) 0)) × (left ≡ sets out 0 (deltaBytes z old new))
+            → Answers (ok r) left
         unfolding written
         all-written h f =
-            let k : length (deltaBytes z old new) ≤ length out = omega (arith, size) in
+            let k : length (deltaBytes z old new) ≤ length out = omega (arith, size, has-room h) in
             let r : written z old new (length out) ≡ ok (length (deltaBytes z old new)) =
             simp (e, eq-eqb (length old) n o, eq-eqb (length new) n w, le-leb (length (deltaBytes z old new)) (length out) k) in
-            (ap (λ (j : ℕ). ok j) (sym size) ∙ sym r, f ∙ sets-eq (deltaBytes z old new) out 0 (omega (arith, k)) ∙ rw (r, zero-add (length (deltaBytes z old new))))
+            (ap (λ (j : ℕ). ok j) (f .0 ∙ sym size) ∙ sym r, f .1 ∙ sets-eq (deltaBytes z old new) out 0 (omega (arith, k)) ∙ rw (r, zero-add (length (deltaBytes z old new))))

@@ -4,7 +4,7 @@ mod plane;
 ghost use mathlib.Core.Path.{_≡_};
 ghost use Prim.Native.Nat.{_+_, _≤_};
 ghost use lib.ListN.{length};
-ghost use lib.Dec.{eqb};
+ghost use lib.Dec.{eqb, ltb};
 ghost use lib.Seq.{sets};
 ghost use Rattle.laws.specs.Result.{pick};
 ghost use Rattle.state.specs.State.{rowBytes};
@@ -40,6 +40,18 @@ fn lists_length(old: &[u8], new: &[u8], row: usize, height: usize, planes: usize
     sum
 }
 
+// Whether the delta is longer than the room for it. If even the longest of these sizes is not, nothing is measured.
+fn too_long(room: usize, old: &[u8], new: &[u8], row: usize, height: usize, planes: usize) -> bool
+    requires { ⌜ Frames (now old) (now new) row height planes ⌝ }
+    ensures { λ r. ⌜ r ≡ ltb room (64 + length (listsBytes (now (old .entry)) (now (new .entry)) row height planes 0)) ⌝ }
+{
+    let longest = 64 + planes * (row * (height + height / 2 + 2));
+    if longest <= room {
+        return false;
+    }
+    room < 64 + lists_length(old, new, row, height, planes)
+}
+
 // Writes a number in four bytes, the highest first.
 fn write_number(out: &mut [u8], at: usize, n: usize)
     requires { ⌜ at + 4 ≤ length (now out) ⌝ }
@@ -63,10 +75,17 @@ fn write_pointer(out: &mut [u8], at: usize, place: usize, next: usize)
     }
 }
 
-// Writes the pointers and the lists of all planes.
-fn write_planes(out: &mut [u8], old: &[u8], new: &[u8], row: usize, height: usize, planes: usize)
+// Writes the pointers and the lists of all planes, and answers the place after them.
+fn write_planes(
+    out: &mut [u8],
+    old: &[u8],
+    new: &[u8],
+    row: usize,
+    height: usize,
+    planes: usize,
+) -> usize
     requires { ⌜ Frames (now old) (now new) row height planes × (64 + length (listsBytes (now old) (now new) row height planes 0) ≤ length (now out)) ⌝ }
-    ensures { λ _. ⌜ now (out .exit) ≡ sets (sets (now (out .entry)) 0 (pointersBytes (now (old .entry)) (now (new .entry)) row height planes 0 64)) 64 (listsBytes (now (old .entry)) (now (new .entry)) row height planes 0) ⌝ }
+    ensures { λ r. ⌜ (r ≡ 64 + length (listsBytes (now (old .entry)) (now (new .entry)) row height planes 0)) × (now (out .exit) ≡ sets (sets (now (out .entry)) 0 (pointersBytes (now (old .entry)) (now (new .entry)) row height planes 0 64)) 64 (listsBytes (now (old .entry)) (now (new .entry)) row height planes 0)) ⌝ }
 {
     let size = height * row;
     let mut pointer = 0;
@@ -81,16 +100,17 @@ fn write_planes(out: &mut [u8], old: &[u8], new: &[u8], row: usize, height: usiz
         at += size;
         left -= 1;
     }
+    place
 }
 
-// Writes a delta where it fits.
-fn write_delta(out: &mut [u8], old: &[u8], new: &[u8], sizes: Sizes)
+// Writes a delta where it fits, and answers its length.
+fn write_delta(out: &mut [u8], old: &[u8], new: &[u8], sizes: Sizes) -> usize
     requires { ⌜ Frames (now old) (now new) (rowBytes (sizes .width)) (sizes .height) (sizes .planes) × (64 + length (listsBytes (now old) (now new) (rowBytes (sizes .width)) (sizes .height) (sizes .planes) 0) ≤ length (now out)) ⌝ }
-    ensures { λ _. ⌜ now (out .exit) ≡ sets (now (out .entry)) 0 (deltaBytes sizes (now (old .entry)) (now (new .entry))) ⌝ }
+    ensures { λ r. ⌜ (r ≡ 64 + length (listsBytes (now (old .entry)) (now (new .entry)) (rowBytes (sizes .width)) (sizes .height) (sizes .planes) 0)) × (now (out .exit) ≡ sets (now (out .entry)) 0 (deltaBytes sizes (now (old .entry)) (now (new .entry)))) ⌝ }
 {
     let start = 4 * sizes.planes;
     fill(&mut out[start..64], 0);
-    write_planes(out, old, new, sizes.row_bytes(), sizes.height, sizes.planes);
+    write_planes(out, old, new, sizes.row_bytes(), sizes.height, sizes.planes)
 }
 
 // Writes the delta that turns the old frame into the new one: 11 for the sizes, 12 for the frames, 51 if it doesn't fit.
@@ -107,12 +127,11 @@ pub fn write(out: &mut [u8], old: &[u8], new: &[u8], sizes: Sizes) -> Delta
             if new.len() != n {
                 return Delta::Refused(Refusal::BufferLength);
             }
-            let length = 64 + lists_length(old, new, sizes.row_bytes(), sizes.height, sizes.planes);
-            if out.len() < length {
+            let row = sizes.row_bytes();
+            if too_long(out.len(), old, new, row, sizes.height, sizes.planes) {
                 return Delta::Refused(Refusal::NoRoom);
             }
-            write_delta(out, old, new, sizes);
-            Delta::Written(length)
+            Delta::Written(write_delta(out, old, new, sizes))
         }
     }
 }

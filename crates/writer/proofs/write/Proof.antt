@@ -1,8 +1,7 @@
--- `writer::write`: the checks in the definition's order, the delta measured, then written.
-use Rattle.laws.specs.ResultLaws.{told}
+-- `writer::write`: the checks in the definition's order, room for the delta, and then the delta.
+use Rattle.writer.specs.WriteLaws.{limits, not-old, not-new, frames-are, no-room, has-room, all-written}
 use Rattle.state.specs.State.{lengthOf}
-use Rattle.writer.specs.WriteLaws.{limits, not-old, not-new, frames-are, no-room, all-written}
-use native.Mathlib.Omega.{arith}
+use Rattle.laws.specs.ResultLaws.{told}
 use borrow.Author.Needs.{needs}
 use Rattle.writer.proofs.write.Statement.{statement}
 use Rattle.writer.proofs.write.Tie as tie
@@ -25,17 +24,14 @@ returns-2 c = not-new _ _ _ _ (told lengthOf (c .before .before .before .before 
 row-bytes-requires : tie.Need-row-bytes-requires
 row-bytes-requires c κs = search needs
 
-lists-length-requires : tie.Need-lists-length-requires
-lists-length-requires c κs = rw (c .row-bytes .ensures) (frames-are _ (told lengthOf (c .before .before .before .before .before .before .frame-length .ensures) (c .before .before .before .before .l2 .given .1)) (c .before .before .if1 .left) (c .before .if2 .left))
-
-add-length : tie.Need-add-length
-add-length c = search needs
+too-long-requires : tie.Need-too-long-requires
+too-long-requires c κs = rw (c .row-bytes .ensures) (frames-are _ (told lengthOf (c .before .before .before .before .before .before .frame-length .ensures) (c .before .before .before .before .l2 .given .1)) (c .before .before .if1 .left) (c .before .if2 .left))
 
 returns-3 : tie.Need-returns-3
-returns-3 c = no-room _ _ _ _ (told lengthOf (c .before .before .before .before .before .before .before .before .frame-length .ensures) (c .before .before .before .before .before .before .l2 .given .1)) (c .before .before .before .before .if1 .left) (c .before .before .before .if2 .left) (rw (c .before .before .row-bytes .ensures) at (c .before .lists-length .ensures .0)) (c .if3 .taken)
+returns-3 c = no-room _ _ _ _ (told lengthOf (c .before .before .before .before .before .before .before .before .frame-length .ensures) (c .before .before .before .before .before .before .l2 .given .1)) (c .before .before .before .before .if1 .left) (c .before .before .before .if2 .left) (rw (c .before .before .row-bytes .ensures) at (c .before .too-long .ensures)) (c .if3 .taken)
 
 write-delta-requires : tie.Need-write-delta-requires
-write-delta-requires c κs = (frames-are _ (told lengthOf (c .before .before .before .before .before .before .before .before .before .frame-length .ensures) (c .before .before .before .before .before .before .before .l2 .given .1)) (c .before .before .before .before .before .if1 .left) (c .before .before .before .before .if2 .left), omega (arith, (rw (c .before .before .before .row-bytes .ensures) at (c .before .before .lists-length .ensures .0)), c .before .if3 .left))
+write-delta-requires c κs = (frames-are _ (told lengthOf (c .before .before .before .before .before .before .before .before .before .frame-length .ensures) (c .before .before .before .before .before .before .before .l2 .given .1)) (c .before .before .before .before .before .if1 .left) (c .before .before .before .before .if2 .left), has-room _ _ _ (c .before .before .before .before .before .before .before .before .before .before .before .before .before .args .out .now) (told lengthOf (c .before .before .before .before .before .before .before .before .before .frame-length .ensures) (c .before .before .before .before .before .before .before .l2 .given .1)) (c .before .before .before .before .before .if1 .left) (c .before .before .before .before .if2 .left) (rw (c .before .before .before .row-bytes .ensures) at (c .before .before .too-long .ensures)) (c .before .if3 .left))
 
 returns-4 : tie.Need-returns-4
 returns-4 c = limits _ _ _ _ (told lengthOf (c .before .before .before .frame-length .ensures) (c .before .l .given .1))
@@ -44,7 +40,7 @@ same-length : tie.Need-same-length
 same-length c = search needs
 
 returns-5 : tie.Need-returns-5
-returns-5 c = all-written _ _ _ _ (told lengthOf (c .before .before .before .before .before .before .before .before .before .before .before .before .frame-length .ensures) (c .before .before .before .before .before .before .before .before .before .before .l2 .given .1)) (c .before .before .before .before .before .before .before .before .if1 .left) (c .before .before .before .before .before .before .before .if2 .left) (rw (c .before .before .before .before .before .before .row-bytes .ensures) at (c .before .before .before .before .before .lists-length .ensures .0)) (c .before .before .before .before .if3 .left) (c .before .before .write-delta .ensures)
+returns-5 c = all-written _ _ _ _ (told lengthOf (c .before .before .before .before .before .before .before .before .before .before .before .before .frame-length .ensures) (c .before .before .before .before .before .before .before .before .before .before .l2 .given .1)) (c .before .before .before .before .before .before .before .before .if1 .left) (c .before .before .before .before .before .before .before .if2 .left) (rw (c .before .before .before .before .before .before .row-bytes .ensures) at (c .before .before .before .before .before .too-long .ensures)) (c .before .before .before .before .if3 .left) (c .before .before .write-delta .ensures)
 
 pub write-spec : {M : Type 1} → statement M
 write-spec =
@@ -56,8 +52,7 @@ write-spec =
     returns
     returns-2
     row-bytes-requires
-    lists-length-requires
-    add-length
+    too-long-requires
     returns-3
     write-delta-requires
     returns-4

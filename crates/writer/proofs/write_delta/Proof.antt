@@ -31,7 +31,7 @@ same-length : tie.Need-same-length
 same-length c = search needs
 
 returns : tie.Need-returns
-returns c = c .before .before .write-planes .ensures ∙ rw (c .before .before .before .row-bytes .ensures) (delta-is _ _ _ _ _ (c .before .before .before .before .before .before .before .before .before .before .before .before .before .pre .0 .deep) (zeros-put _ _ _ (c .before .before .before .before .before .before .before .before .before .before .before .before .before .pre .0 .deep) (omega (arith, c .before .before .before .before .before .before .before .before .before .before .before .before .before .pre .1)) (c .before .before .before .before .before .before .before .fill .ensures)))
+returns c = (rw (c .before .before .before .row-bytes .ensures) at (c .before .before .write-planes .ensures .0), c .before .before .write-planes .ensures .1 ∙ rw (c .before .before .before .row-bytes .ensures) (delta-is _ _ _ _ _ (c .before .before .before .before .before .before .before .before .before .before .before .before .before .pre .0 .deep) (zeros-put _ _ _ (c .before .before .before .before .before .before .before .before .before .before .before .before .before .pre .0 .deep) (omega (arith, c .before .before .before .before .before .before .before .before .before .before .before .before .before .pre .1)) (c .before .before .before .before .before .before .before .fill .ensures))))
 
 pub write-delta-spec : {M : Type 1} → statement M
 write-delta-spec =

@@ -8,47 +8,12 @@ use Rattle.column.specs.Column.{opsBytes}
 use Rattle.column.specs.Count.{Counting, counting, counting-more, counting-last}
 use Rattle.column.specs.Piece.{opsAt, pieceOps, opsIn, bytesIn, NextPiece, Measured}
 use Rattle.column.specs.CutLaws.{none-left, piece-parts, piece-count, piece-size, piece-few}
+use Rattle.column.specs.FillLaws.{Measuring, starts, more, all}
 use Rattle.column.specs.PlanLaws.{planned-few, planned-many}
 use Rattle.column.specs.declared.piece.Kind.{Kind}
 use native.Mathlib.Omega.{arith}
 use Rattle.column.proofs.piece.measure.Statement.{statement}
 use Rattle.column.proofs.piece.measure.Tie as tie
-
--- the loop's invariant
-record Measuring (old new : List ℕ) (row ops bytes : ℕ) : Type 0 where
-  inside : row ≤ length new
-  few : ops ≤ row
-  short : bytes ≤ 3 * row
-  ops-left : ops + length (opsAt old new row) ≡ length (opsAt old new 0)
-  bytes-left : Counting (opsBytes (opsAt old new 0)) bytes (opsBytes (opsAt old new row))
-
-starts : (old new : List ℕ) → Measuring old new 0 0 0
-starts old new = record { inside = omega arith; few = omega arith; short = omega arith; ops-left = omega arith; bytes-left = counting }
-
-module _ {old new : List ℕ} {row ops bytes : ℕ} (m : Measuring old new row ops bytes) where
-  more : {kind : Kind} {rows n b : ℕ} → NextPiece old new row kind rows → n ≡ opsIn kind rows → b ≡ bytesIn kind rows → Measuring old new (row + rows) (ops + n) (bytes + b)
-  more {kind} {rows} p e f =
-      let k : rows ≤ length (drop row new) = simp length-drop (omega (arith, p .inside)) in
-      let few = piece-few kind rows in
-      record {
-        inside = p .inside;
-        few = omega (arith, m .few, few .0, e);
-        short = omega (arith, m .short, few .1, f);
-        ops-left =
-            omega (arith, m .ops-left, e, piece-count kind rows (drop row new) k, ap length (p .ops) ∙ length-append (pieceOps kind rows (drop row new)) (opsAt old new (row + rows)));
-        bytes-left = counting-more (m .bytes-left) (piece-parts p) (f ∙ sym (piece-size kind rows (drop row new) k));
-      }
-
-  all : length new ≤ row → Measured old new ops bytes
-  unfolding runsAt opsBytes
-  all h =
-      let e : opsAt old new row ≡ [] = none-left old new row h in
-      record {
-        count = omega (arith, rw e at (m .ops-left));
-        size = counting-last (m .bytes-left) (rw e);
-        few = omega (arith, m .few, m .inside);
-        short = omega (arith, m .short, m .inside);
-      }
 
 abbrev Inv-loop : tie.InvT-loop
 Inv-loop old new row₀ ops₀ bytes₀ row ops bytes = Measuring old new row ops bytes

@@ -1,0 +1,89 @@
+-- `column::write_in`: the column's bytes are prepared, and put where they fit.
+use native.Mathlib.Omega.{arith}
+use Rattle.column.specs.FillLaws.{prepared-front, prepared-length, put-column}
+use Rattle.column.specs.PlaceLaws.{measured, no-room, is-written}
+use lib.ListN.{length-set}
+use borrow.Author.Needs.{needs}
+use Rattle.column.proofs.write_in.Statement.{statement}
+use Rattle.column.proofs.write_in.Tie as tie
+
+prepare-requires : tie.Need-prepare-requires
+prepare-requires c κs = search needs
+
+same-length : tie.Need-same-length
+same-length c = search needs
+
+returns : tie.Need-returns
+returns c = no-room _ _ _ _ (measured _ _ (c .before .before .before .before .before .before .before .before .before .pre .0) (c .before .before .before .before .before .before .before .before .before .pre .1)) (omega (arith, c .if1 .taken))
+
+sub-if2 : tie.Need-sub-if2
+sub-if2 c = search needs
+
+same-length-2 : tie.Need-same-length-2
+same-length-2 c = search needs
+
+returns-2 : tie.Need-returns-2
+returns-2 c = no-room _ _ _ _ (measured _ _ (c .before .before .before .before .before .before .before .before .before .before .before .pre .0) (c .before .before .before .before .before .before .before .before .before .before .before .pre .1)) (omega (arith, c .if2 .taken, prepared-length (c .before .before .before .before .before .prepare .ensures)))
+
+cast-out : tie.Need-cast-out
+cast-out c = search needs
+
+slice-write-out : tie.Need-slice-write-out
+slice-write-out c = search needs
+
+add-start : tie.Need-add-start
+add-start c = search needs
+
+add-end : tie.Need-add-end
+add-end c = search needs
+
+sub-copy : tie.Need-sub-copy
+sub-copy c = search needs
+
+part-copy-start : tie.Need-part-copy-start
+part-copy-start c = search needs
+
+part-copy-end : tie.Need-part-copy-end
+part-copy-end c = rw length-set (omega (arith, c .before .before .before .before .if1 .left, c .before .before .if2 .left))
+
+slice-reshare-prefix-copy : tie.Need-slice-reshare-prefix-copy
+slice-reshare-prefix-copy c = search needs
+
+slice-aggregate-copy : tie.Need-slice-aggregate-copy
+slice-aggregate-copy c = prepared-front (c .before .before .before .before .before .before .before .before .before .prepare .ensures)
+
+copy-requires : tie.Need-copy-requires
+copy-requires c κs = search needs
+
+same-length-3 : tie.Need-same-length-3
+same-length-3 c = put-column (c .before .before .before .before .before .before .before .before .before .before .before .before .prepare .ensures) (c .before .before .before .before .before .before .before .before .before .before .before .before .before .before .before .before .before .before .args .out .now) (c .before .before .before .before .before .before .before .before .before .before .before .before .before .before .before .before .before .before .args .at) _ (omega (arith, c .before .before .before .before .before .before .before .before .before .if1 .left, c .before .before .before .before .before .before .before .if2 .left)) (c .before .before .copy .ensures) .size
+
+same-length-4 : tie.Need-same-length-4
+same-length-4 c = search needs
+
+returns-3 : tie.Need-returns-3
+returns-3 c = is-written _ _ _ _ (c .before .before .before .before .before .before .before .before .before .before .before .before .before .before .before .before .before .before .pre .0) (c .before .before .before .before .before .before .before .before .before .before .before .before .before .before .before .before .before .before .pre .1) (omega (arith, c .before .before .before .before .before .before .before .before .before .if1 .left, c .before .before .before .before .before .before .before .if2 .left, prepared-length (c .before .before .before .before .before .before .before .before .before .before .before .before .prepare .ensures))) (put-column (c .before .before .before .before .before .before .before .before .before .before .before .before .prepare .ensures) (c .before .before .before .before .before .before .before .before .before .before .before .before .before .before .before .before .before .before .args .out .now) (c .before .before .before .before .before .before .before .before .before .before .before .before .before .before .before .before .before .before .args .at) _ (omega (arith, c .before .before .before .before .before .before .before .before .before .if1 .left, c .before .before .before .before .before .before .before .if2 .left)) (c .before .before .copy .ensures))
+
+pub write-in-spec : {M : Type 1} → statement M
+write-in-spec =
+    tie.close
+    (tie.spec
+    prepare-requires
+    same-length
+    returns
+    sub-if2
+    same-length-2
+    returns-2
+    cast-out
+    slice-write-out
+    add-start
+    add-end
+    sub-copy
+    part-copy-start
+    part-copy-end
+    slice-reshare-prefix-copy
+    slice-aggregate-copy
+    copy-requires
+    same-length-3
+    same-length-4
+    returns-3)
