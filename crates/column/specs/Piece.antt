@@ -1,14 +1,11 @@
 -- The writer's walk down a column: pieces of rows that become ops of one kind, and what each tells of the ops that are left.
 use Prim.Native.Nat.{ℕ, _+_, _-_, _*_, _/_, _≤_, _<_}
-use mathlib.Core.Bool.{Bool}
-use mathlib.Core.List.{List, [], _∷_, _++_}
+use mathlib.Core.List.{List, [], _++_}
 use mathlib.Core.Path.{_≡_}
 use lib.ListN.{length, getD, take, drop, replicate}
-use Rattle.laws.specs.Result.{pick}
-use Rattle.laws.specs.Put.{Parts}
 use Rattle.runs.specs.Runs.{runsOf}
 use Rattle.runs.specs.RunLaws.{runsAt, front, behind, later}
-use Rattle.column.specs.Column.{Op, Op.skip, Op.uniq, Op.same, cut, opsOf, opsBytes, columnBytes}
+use Rattle.column.specs.Column.{Op, Op.skip, Op.uniq, Op.same, cut, opsOf, opsBytes}
 use Rattle.column.specs.ColumnLaws.{NotFirst}
 use Rattle.column.specs.declared.piece.Kind.{Kind}
 use Rattle.column.specs.declared.piece.Kind.the-variants.{Rest, Skip, Same, Uniq}
@@ -75,14 +72,3 @@ pub record Measured (old new : List ℕ) (ops bytes : ℕ) : Type 0 where
   pub size : bytes ≡ length (opsBytes (opsOf (runsOf new old)))
   pub few : ops ≤ length new
   pub short : bytes ≤ 3 * length new
-
--- the ops that a column is written as: Uniqs over all rows, or those of its pieces
-abbrev pub plannedOps : List ℕ → List ℕ → Bool → List Op
-plannedOps old new whole = pick whole (cut (uniq new)) (opsOf (runsOf new old))
-
--- a column is the op count byte and those ops
-pub record Planned (old new : List ℕ) (whole : Bool) (ops bytes : ℕ) : Type 0 where
-  pub parts : Parts (columnBytes old new) (ops ∷ []) (opsBytes (plannedOps old new whole))
-  pub size : bytes ≡ length (opsBytes (plannedOps old new whole))
-  pub few : ops ≤ 255
-  pub short : bytes ≤ 3072

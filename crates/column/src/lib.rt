@@ -189,8 +189,7 @@ pub fn length(old: &[u8], new: &[u8]) -> Size
     if 1024 < new.len() {
         return Size::Refused(Refusal::BufferLength);
     }
-    let plan = measure(old, new);
-    Size::Bytes(1 + plan.bytes)
+    Size::Bytes(1 + measure(old, new))
 }
 
 // Writes a column at a place of out: 12 as above, 51 if it doesn't fit there, and then out stays as it is.

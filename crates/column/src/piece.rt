@@ -1,8 +1,9 @@
 // The walk down a column: the pieces of rows that become ops of one kind, and the ops measured.
 ghost use mathlib.Core.Path.{_≡_};
-ghost use Prim.Native.Nat.{_-_, _<_, _≤_};
+ghost use Prim.Native.Nat.{_+_, _-_, _<_, _≤_};
 ghost use lib.ListN.{length, getD};
-ghost use Rattle.column.specs.Piece.{Unchanged, GroupRows, LooseRows, NextPiece, opsIn, bytesIn, Planned};
+ghost use Rattle.column.specs.Column.{columnBytes};
+ghost use Rattle.column.specs.Piece.{Unchanged, GroupRows, LooseRows, NextPiece, opsIn, bytesIn};
 
 // What becomes of rows of a column: unchanged rows behind the last changed one write nothing.
 pub(crate) enum Kind {
@@ -20,13 +21,6 @@ pub(crate) struct Piece {
 
 // How many ops there are, and the bytes of those.
 pub(crate) struct Totals {
-    pub(crate) ops: usize,
-    pub(crate) bytes: usize,
-}
-
-// How a column is written: whether as Uniqs over all rows, in how many ops, and the bytes of those.
-pub(crate) struct Plan {
-    pub(crate) whole: bool,
     pub(crate) ops: usize,
     pub(crate) bytes: usize,
 }
@@ -146,10 +140,10 @@ pub(crate) fn piece_totals(piece: Piece) -> Totals
     }
 }
 
-// Measures a column: its ops, or the Uniqs over all rows where the ops would be too many.
-pub(crate) fn measure(old: &[u8], new: &[u8]) -> Plan
+// How many bytes follow a column's op count byte: its ops, or the Uniqs over all rows where the ops would be too many.
+pub(crate) fn measure(old: &[u8], new: &[u8]) -> usize
     requires { ⌜ (length (now old) ≡ length (now new)) × (length (now new) ≤ 1024) ⌝ }
-    ensures { λ r. ⌜ Planned (now (old .entry)) (now (new .entry)) (r .whole) (r .ops) (r .bytes) ⌝ }
+    ensures { λ r. ⌜ (length (columnBytes (now (old .entry)) (now (new .entry))) ≡ 1 + r) × (r ≤ 3072) ⌝ }
 {
     let mut row = 0;
     let mut ops = 0;
@@ -162,16 +156,8 @@ pub(crate) fn measure(old: &[u8], new: &[u8]) -> Plan
         row += piece.rows;
     }
     if ops <= 255 {
-        return Plan {
-            whole: false,
-            ops,
-            bytes,
-        };
+        return bytes;
     }
     let uniqs = (new.len() + 126) / 127;
-    Plan {
-        whole: true,
-        ops: uniqs,
-        bytes: uniqs + new.len(),
-    }
+    uniqs + new.len()
 }

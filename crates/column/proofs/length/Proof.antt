@@ -1,7 +1,6 @@
 -- `column::length`: the checks in the definition's order, then one byte more than the ops.
 use mathlib.Core.Path.{sym, ap, _∙_}
 use Rattle.laws.specs.Result.{Res.ok}
-use Rattle.column.specs.PlanLaws.{planned-length}
 use Rattle.column.specs.PlaceLaws.{two-lengths, too-many, measured}
 use native.Mathlib.Omega.{arith}
 use borrow.Author.Needs.{needs}
@@ -17,11 +16,11 @@ returns-2 c = (sym (too-many _ _ (c .before .if1 .left) (c .if2 .taken)), tt)
 measure-requires : tie.Need-measure-requires
 measure-requires c κs = search needs
 
-add-t5 : tie.Need-add-t5
-add-t5 c = omega (arith, c .before .measure .ensures .short)
+add-t3 : tie.Need-add-t3
+add-t3 c = omega (arith, c .measure .ensures .1)
 
 returns-3 : tie.Need-returns-3
-returns-3 c = (sym (measured _ _ (c .before .before .before .if1 .left) (c .before .before .if2 .left) ∙ ap ok (planned-length (c .before .measure .ensures))), omega (arith, c .before .measure .ensures .short))
+returns-3 c = (sym (measured _ _ (c .before .before .if1 .left) (c .before .if2 .left) ∙ ap ok (c .measure .ensures .0)), omega (arith, c .measure .ensures .1))
 
 pub length-spec : {M : Type 1} → statement M
-length-spec = tie.close (tie.spec returns returns-2 measure-requires add-t5 returns-3)
+length-spec = tie.close (tie.spec returns returns-2 measure-requires add-t3 returns-3)

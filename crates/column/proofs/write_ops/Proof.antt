@@ -1,5 +1,4 @@
 -- `column::write_ops`: the pieces are counted and written, and what is left, from here, comes to the whole.
-use borrow.Author.Needs.{needs}
 use Rattle.column.specs.FillLaws.{Filling, filling, filling-room, filling-more, filling-last}
 use lib.ListN.{length}
 use Prim.Native.Nat.{_-_}

@@ -1,16 +1,8 @@
 -- `column::piece::measure`: what is counted and what is left, from here, come to the whole.
-use Prim.Native.Nat.{ℕ, _+_, _-_, _*_, _≤_}
-use mathlib.Core.List.{List, []}
-use mathlib.Core.Path.{_≡_, sym, ap, _∙_}
-use lib.ListN.{length, drop, length-append, length-drop}
-use Rattle.runs.specs.RunLaws.{runsAt}
-use Rattle.column.specs.Column.{opsBytes}
-use Rattle.column.specs.Count.{Counting, counting, counting-more, counting-last}
-use Rattle.column.specs.Piece.{opsAt, pieceOps, opsIn, bytesIn, NextPiece, Measured}
-use Rattle.column.specs.CutLaws.{none-left, piece-parts, piece-count, piece-size, piece-few}
+use Prim.Native.Nat.{_-_}
+use lib.ListN.{length}
 use Rattle.column.specs.FillLaws.{Measuring, starts, more, all}
-use Rattle.column.specs.PlanLaws.{planned-few, planned-many}
-use Rattle.column.specs.declared.piece.Kind.{Kind}
+use Rattle.column.specs.PlanLaws.{length-few, length-many}
 use native.Mathlib.Omega.{arith}
 use Rattle.column.proofs.piece.measure.Statement.{statement}
 use Rattle.column.proofs.piece.measure.Tie as tie
@@ -46,16 +38,16 @@ loop-again : tie.Need-loop-again Inv-loop μ-loop
 loop-again c = more (c .before .before .before .before .before .before .loop .inv) (c .before .before .before .before .next-piece .ensures) (c .before .before .before .piece-totals .ensures .0) (c .before .before .before .piece-totals .ensures .1)
 
 returns : tie.Need-returns Inv-loop μ-loop
-returns c = planned-few (all (c .before .before .loop .inv) (c .before .loop-test .left)) (c .before .before .before .before .before .pre .1) (c .if1 .taken)
+returns c = length-few (all (c .before .before .loop .inv) (c .before .loop-test .left)) (c .before .before .before .before .before .pre .1) (c .if1 .taken)
 
 add-uniqs : tie.Need-add-uniqs Inv-loop μ-loop
 add-uniqs c = omega (arith, c .before .before .before .before .before .pre .1)
 
-add-t13 : tie.Need-add-t13 Inv-loop μ-loop
-add-t13 c = omega (arith, c .before .before .before .before .before .pre .1)
+add-result : tie.Need-add-result Inv-loop μ-loop
+add-result c = omega (arith, c .before .before .before .before .before .pre .1)
 
 returns-2 : tie.Need-returns-2 Inv-loop μ-loop
-returns-2 c = planned-many (all (c .before .before .loop .inv) (c .before .loop-test .left)) (c .before .before .before .before .before .pre .1) (c .if1 .left)
+returns-2 c = length-many (all (c .before .before .loop .inv) (c .before .loop-test .left)) (c .before .before .before .before .before .pre .1) (c .if1 .left)
 
 pub measure-spec : {M : Type 1} → statement M
 measure-spec =
@@ -73,5 +65,5 @@ measure-spec =
     loop-again
     returns
     add-uniqs
-    add-t13
+    add-result
     returns-2)
