@@ -11,7 +11,6 @@ use lib.ListN.{length, drop}
 use lib.Seq.{take-append-seam}
 use Rattle.laws.specs.Result.{Res, Res.ok, Res.fault, answer, pick}
 use Rattle.laws.specs.ResultLaws.{Each, Each.each}
-use Rattle.iff.specs.Form.{Frame as Form}
 use Rattle.state.specs.State.{opened}
 use Rattle.record.specs.Record.{Past, pastOf}
 use Rattle.player.specs.declared.SteppedOn.{SteppedOn}

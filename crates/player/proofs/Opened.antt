@@ -7,7 +7,6 @@ use lib.Dec.{eqb}
 use lib.ListN.{length}
 use Rattle.laws.specs.Result.{Res.ok}
 use Rattle.laws.specs.ResultLaws.{Each, Each.each, each-bind, each-need, each-is}
-use Rattle.iff.specs.Form.{Frame as Form}
 use Rattle.bmhd.specs.HeaderLaws.{header-sizes}
 use Rattle.ilbm.specs.BodyLaws.{body-length}
 use Rattle.state.specs.State.{frameBytes, frameLength, opened}

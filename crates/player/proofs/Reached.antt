@@ -8,7 +8,6 @@ use mathlib.Core.Path.{_≡_, refl, _∙_}
 use lib.ListN.{length, take, length-take}
 use borrow.Author.Tests.{le-leb}
 use Rattle.laws.specs.Result.{Res.ok, answer, pick}
-use Rattle.iff.specs.Form.{Frame as Form}
 use Rattle.state.specs.State.{rowBytes, stateLength}
 use Rattle.frame.specs.Frame.{Frame}
 use Rattle.frame.specs.FrameLaws.{Rises, frame-rises}

@@ -9,7 +9,6 @@ use lib.Dec.{leb, ltb, eqb}
 use lib.ListN.{length, take}
 use borrow.Author.Tests.{le-leb, lt-ltb, eq-eqb, ne-eqb, leb-true}
 use Rattle.laws.specs.Result.{Res.ok, Res.fault, _>>=_, need, answer}
-use Rattle.iff.specs.Form.{Frame as Form}
 use Rattle.state.specs.State.{rowBytes}
 use Rattle.record.specs.Record.{Past, pastOf, restored}
 use Rattle.frame.specs.FrameLaws.{Rises, frame-rises}

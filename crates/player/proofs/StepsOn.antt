@@ -8,7 +8,6 @@ use lib.Dec.{leb, ltb, eqb}
 use lib.ListN.{length, take}
 use borrow.Author.Tests.{le-leb, eq-eqb, ltb-true}
 use Rattle.laws.specs.Result.{Res, Res.ok, Res.fault, _>>=_, need, answer, pick}
-use Rattle.iff.specs.Form.{Frame as Form}
 use Rattle.state.specs.State.{rowBytes}
 use Rattle.frame.specs.Frame.{Frame, frameAt}
 use Rattle.player.specs.Step.{Answer, Answer.refused, Answer.ended, Answer.tookOn, isOdd, shownOf, hiddenOf, ready, change, Made, makes, make, advance, Outcome, settle, onHidden, stepOn}
