@@ -1,12 +1,13 @@
 -- Big-endian numbers in a list of bytes, and what a byte's bound gives of them.
 use Prim.Native.Nat.{ℕ, _+_, _*_, _/_, _%_, _<_, _≤_}
 use native.Mathlib.Nat.{div-add-mod', div-lt-iff-lt-mul, div-div-eq-div-mul, mod-eq-of-lt}
+use native.Mathlib.Decide.{decLt}
 use native.Mathlib.Omega.{arith}
 use mathlib.Core.Path.{_≡_, sym, _∙_}
 use mathlib.Core.List.{List}
 use lib.Dec.{lit<}
-use lib.ListN.{length, getD, drop, List·getD-eq-default}
-use lib.Seq.{getD-drop}
+use lib.ListN.{length, getD, take, drop, length-take, List·getD-eq-default}
+use lib.Seq.{getD-drop, getD-take}
 
 -- two bytes at a place, the higher first; bytes past the end count as 0
 unfoldable pub be16 : List ℕ → ℕ → ℕ
@@ -41,6 +42,13 @@ be32-past s at h =
 -- what is left of bytes is bytes
 pub bytes-drop : (n : ℕ) (s : List ℕ) → Bytes s → Bytes (drop n s)
 bytes-drop n s h i = rw (getD-drop n s i 0) (h (n + i))
+
+pub bytes-take : (n : ℕ) (s : List ℕ) → Bytes s → Bytes (take n s)
+bytes-take n s h i = go (decLt i n)
+  where
+    go : Dec (i < n) → getD (take n s) i 0 < 256
+    go (yes k) = rw (getD-take n s i 0 k) (h i)
+    go (no k) = rw (List·getD-eq-default (take n s) 0 {n = i} (omega (arith, length-take n s))) (omega arith)
 
 -- a number below 2^32 is the sum of its four bytes
 digits : (n a b c r s t u : ℕ) → a * 256 + r ≡ n → b * 256 + s ≡ a → c * 256 + t ≡ b → u ≡ c → u * 16777216 + t * 65536 + s * 256 + r ≡ n

@@ -64,6 +64,15 @@ pub more-written : (k n : ℕ) → 128 ≤ n → writeGroups (suc k) n ≡ (128 
 unfolding writeGroups
 more-written k n h = rw (le-ltb n 128 h, writeGroups)
 
+-- one byte, and at most one more for each 128
+pub groups-short : (k n : ℕ) → length (writeGroups k n) ≤ 1 + n / 128
+groups-short zero n = unfold writeGroups in omega arith
+groups-short (suc k) n = go (decLt n 128) (groups-short k (n / 128))
+  where
+    go : Dec (n < 128) → length (writeGroups k (n / 128)) ≤ 1 + n / 128 / 128 → length (writeGroups (suc k) n) ≤ 1 + n / 128
+    go (yes h) ih = rw (last-written (suc k) n h) (omega arith)
+    go (no h) ih = rw (more-written k n (omega arith)) (omega arith)
+
 -- bytes that are n in shortest form, at most suc k of them
 pub data Encoded : ℕ → ℕ → List ℕ → Type 0 where
   encoded-last : {k n : ℕ} → n < 128 → Encoded k n (n ∷ [])

@@ -5,5 +5,6 @@ pub mod RunLaws
 pub mod PutLaws
 pub mod RecordLaws
 pub mod RoundLaws
+pub mod RoomLaws
 pub mod LengthLaws
 pub mod Examples

@@ -10,13 +10,15 @@ use mathlib.Core.Logic.{_≢_}
 use borrow.Author.Tests.{eq-eqb, ne-eqb, le-leb, lt-leb}
 use Rattle.laws.specs.Result.{Res, Res.ok, Res.fault}
 use Rattle.number.specs.Number.{writeNumber}
-use Rattle.runs.specs.Runs.{runsOf}
+use Rattle.runs.specs.Runs.{runsOf, differing, countOf}
+use Rattle.runs.specs.CountLaws.{runs-counted}
+use Rattle.runs.specs.declared.Counts.{Counts}
 use Rattle.record.specs.RunList.{changes, runsBytes, listBytes}
 use Rattle.record.specs.Record.{recordBytes, Measure, measure, written, bufferAfter}
 use Rattle.laws.specs.Put.{Put}
-use Rattle.record.specs.Walk.{Totalled, Counted}
+use Rattle.record.specs.RoundLaws.{count-runs, changes-runs}
+use Rattle.record.specs.Walk.{Counted}
 use Rattle.laws.specs.Put.{put-then}
-use Rattle.record.specs.declared.Totals.{Totals}
 
 -- a run list, whose runs were counted
 module _ {old new : List ℕ} {runs : ℕ} (c : Counted old new runs) where
@@ -28,13 +30,17 @@ module _ {old new : List ℕ} {runs : ℕ} (c : Counted old new runs) where
   unfolding listBytes
   list-put v w = rw (← (c .is)) (put-then v w)
 
-pub counted : {old new : List ℕ} {t : Totals} → length old ≡ length new → length old ≤ 1_048_576 → Totalled old new t → Counted old new (t .runs)
-counted l s t = record { one-length = l; short = s; is = t .runs; few = t .few }
+pub counted : (old new : List ℕ) {c : Counts} → length old ≡ length new → length old ≤ 1_048_576 → c ≡ countOf old new → Counted old new (c .runs)
+counted old new l s e = let n = runs-counted old new l e in record { one-length = l; short = s; is = n; few = omega (arith, n, count-runs old new) }
 
 module _ (frame place : ℕ) (old new : List ℕ) where
   pub record-length : length (recordBytes frame place old new) ≡ length (writeNumber frame) + length (writeNumber place) + length (listBytes (runsOf old new))
   unfolding recordBytes
   record-length = simp length-append
+
+  pub head-length : {runs : ℕ} → Counted old new runs
+      → length (recordBytes frame place old new) ≡ length (writeNumber frame) + length (writeNumber place) + length (writeNumber runs) + length (runsBytes (runsOf old new))
+  head-length c = omega (arith, record-length, list-length c)
 
   pub record-put : {out out₁ out₂ out₃ : List ℕ} {p q r : ℕ} → Put out 0 (writeNumber frame) out₁ p → Put out₁ p (writeNumber place) out₂ q
       → Put out₂ q (listBytes (runsOf old new)) out₃ r → Put out 0 (recordBytes frame place old new) out₃ r
@@ -63,9 +69,10 @@ module _ (frame place : ℕ) (old new : List ℕ) where
         unfolding written
         no-room h = settled (simp (eq-eqb _ _ l, le-leb _ _ s, lt-leb _ _ h))
 
-        pub is-written : (left : List ℕ) (next size changed : ℕ) → length (recordBytes frame place old new) ≤ length out → size ≡ length (recordBytes frame place old new) → changed ≡ changes (runsOf old new)
-            → Put out 0 (recordBytes frame place old new) left next → Answers out (ok (record { length = size; changed = changed })) left
+        pub is-written : (left : List ℕ) (size changed : ℕ) → length (recordBytes frame place old new) ≤ length out → changed ≡ differing old new
+            → Put out 0 (recordBytes frame place old new) left size → Answers out (ok (record { length = size; changed = changed })) left
         unfolding written measure
-        is-written left next size changed h e f p =
-            let w : written frame place old new (length out) ≡ ok (record { length = size; changed = changed }) = simp (eq-eqb _ _ l, le-leb _ _ s, le-leb _ _ h, e, f) in
+        is-written left size changed h f p =
+            let e : size ≡ length (recordBytes frame place old new) = p .place ∙ zero-add (length (recordBytes frame place old new)) in
+            let w : written frame place old new (length out) ≡ ok (record { length = size; changed = changed }) = simp (eq-eqb _ _ l, le-leb _ _ s, le-leb _ _ h, e, f, changes-runs) in
             (sym w, rw w (p .left ∙ sets-eq (recordBytes frame place old new) out 0 (omega arith) ∙ rw (zero-add (length (recordBytes frame place old new)))))

@@ -10,20 +10,15 @@ use lib.Dec.{eqb}
 use lib.ListN.{length, take, drop, length-append}
 use lib.Seq.{take-append-seam, drop-append-seam}
 use borrow.Author.Tests.{lt-ltb, le-leb, eqb-true, eqb-false}
-use Rattle.laws.specs.Result.{pick, _>>?_, given}
+use Rattle.laws.specs.Result.{_>>?_, given}
 use Rattle.number.specs.NumberLaws.{read-write}
-use Rattle.runs.specs.Runs.{Run, kept, changed, runsOf, differ}
+use Rattle.runs.specs.Runs.{Run, kept, changed, runsOf, differ, differing}
 use Rattle.runs.specs.RunLaws.{runs-kept, runs-changed, changed-joins, changed-begins}
+use Rattle.runs.specs.CountLaws.{count-kept}
 use Rattle.runs.specs.StretchLaws.{by-test}
 use Rattle.runs.specs.DifferLaws.{differ-more}
 use Rattle.record.specs.RunList.{changes, runBytes, runsBytes, listBytes, readRun, readRuns, readList, putBack, runsBack, beforeOf}
 use Rattle.record.specs.Record.{recordBytes, pastOf}
-
--- how many places differ
-unfoldable pub differing : List ℕ → List ℕ → ℕ
-differing [] new = 0
-differing (a ∷ old) [] = 0
-differing (a ∷ old) (b ∷ new) = pick (eqb a b) (differing old new) (suc (differing old new))
 
 -- two buffers byte by byte: what holds of none, and goes on over a kept and over a changed byte, holds of their runs
 module _ (P : List ℕ → List ℕ → List Run → Type 0) (at-end : (new : List ℕ) → P [] new []) (at-end-too : (a : ℕ) (old : List ℕ) → P (a ∷ old) [] [])
@@ -139,16 +134,11 @@ fit-runs =
     (λ a b old new rs e ih. fit-kept (length new) rs ih) (λ a b old new rs e ih. fit-changed a (length new) rs ih)
 
 -- there are no more runs than bytes
-count-kept : (rs : List Run) → length (kept rs) ≡ length rs
-unfolding kept
-count-kept [] = refl
-count-kept (r ∷ rs) = refl
-
 count-changed : (a : ℕ) (rs : List Run) → length (changed a rs) ≤ suc (length rs)
 count-changed a [] = unfold changed in omega arith
 count-changed a (r ∷ rs) = by-test true (eqb (r .gap) 0) (λ g. rw (changed-joins a r rs g) (omega arith)) (λ g. rw (changed-begins a r rs g) (omega arith))
 
-count-runs : (old new : List ℕ) → length (runsOf old new) ≤ length new
+pub count-runs : (old new : List ℕ) → length (runsOf old new) ≤ length new
 count-runs =
     by-runs (λ old new rs. length rs ≤ length new) (λ new. omega arith) (λ a old. omega arith)
     (λ a b old new rs e ih. omega (arith, count-kept rs)) (λ a b old new rs e ih. omega (arith, count-changed a rs))

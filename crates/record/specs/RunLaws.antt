@@ -6,7 +6,7 @@ use lib.ListN.{length, take, drop, length-append}
 use Rattle.number.specs.Number.{writeNumber}
 use Rattle.runs.specs.Runs.{Run, runsOf}
 use Rattle.runs.specs.NextLaws.{RunAhead, ahead-length}
-use Rattle.record.specs.RunList.{changes, runBytes, runsBytes}
+use Rattle.record.specs.RunList.{runBytes, runsBytes}
 
 -- the length of a run
 pub run-length : (r : Run) → length (runBytes r) ≡ length (writeNumber (r .gap)) + length (writeNumber (length (r .old))) + length (r .old)
@@ -15,13 +15,6 @@ run-length r = simp length-append
 
 -- the next run, in the numbers that the runs come to
 module _ {old new : List ℕ} {at gap count : ℕ} (a : RunAhead old new at gap count) where
-  pub ahead-runs : length (runsOf (drop at old) (drop at new)) ≡ suc (length (runsOf (drop (at + (gap + count)) old) (drop (at + (gap + count)) new)))
-  ahead-runs = ap length (a .runs)
-
-  pub ahead-changes : changes (runsOf (drop at old) (drop at new)) ≡ count + changes (runsOf (drop (at + (gap + count)) old) (drop (at + (gap + count)) new))
-  unfolding changes
-  ahead-changes = rw (a .runs, changes, ahead-length a)
-
   pub ahead-bytes : runsBytes (runsOf (drop at old) (drop at new))
       ≡ runBytes (record { gap = gap; old = take count (drop (at + gap) old) }) ++ runsBytes (runsOf (drop (at + (gap + count)) old) (drop (at + (gap + count)) new))
   unfolding runsBytes

@@ -4,26 +4,22 @@ ghost use Prim.Native.Nat.{_+_, _<_, _≤_, _^_};
 ghost use lib.ListN.{length};
 ghost use Rattle.laws.specs.Put.{Put};
 ghost use Rattle.number.specs.Number.{writeNumber};
-ghost use Rattle.runs.specs.Runs.{runsOf};
+ghost use lib.Dec.{leb};
+ghost use Rattle.runs.specs.Runs.{runsOf, countOf};
 ghost use Rattle.record.specs.RunList.{runBytes, runsBytes, listBytes};
 ghost use Rattle.record.specs.Record.{recordBytes, written, bufferAfter, recordedOf};
-ghost use Rattle.record.specs.Walk.{Totalled, Counted};
+ghost use Rattle.record.specs.Walk.{Counted};
 use buffer::copy;
 use refusal::Refusal;
 use runs::Change;
+use runs::Counts;
+use runs::count;
 use runs::next_run;
 
 // A record that was written: its length, and how many bytes changed.
 pub enum Recorded {
     Written { length: usize, changed: usize },
     Refused(Refusal),
-}
-
-// The runs of two pictures: how many, the bytes that they are written in, and the bytes that changed.
-struct Totals {
-    runs: usize,
-    bytes: usize,
-    changed: usize,
 }
 
 // How many bytes a run is written in.
@@ -34,33 +30,35 @@ fn run_length(gap: usize, count: usize) -> usize
     number::length(gap as u32) + number::length(count as u32) + count
 }
 
-// Measures the runs of two pictures of one length.
-fn measure(old: &[u8], new: &[u8]) -> Totals
+// How many bytes the runs of two pictures of one length are written in.
+fn measure(old: &[u8], new: &[u8]) -> usize
     requires { ⌜ (length (now old) ≡ length (now new)) × (length (now old) ≤ 1048576) ⌝ }
-    ensures { λ r. ⌜ Totalled (now (old .entry)) (now (new .entry)) r ⌝ }
+    ensures { λ r. ⌜ r ≡ length (runsBytes (runsOf (now (old .entry)) (now (new .entry)))) ⌝ }
 {
     let mut at = 0;
-    let mut runs = 0;
     let mut bytes = 0;
-    let mut changed = 0;
     loop {
         let c = next_run(old, new, at);
         match c {
-            Change::Nothing => {
-                return Totals {
-                    runs,
-                    bytes,
-                    changed,
-                };
-            }
+            Change::Nothing => return bytes,
             Change::Run { gap, count } => {
                 bytes += run_length(gap, count);
-                changed += count;
-                runs += 1;
                 at += gap + count;
             }
         }
     }
+}
+
+// Whether the runs of two pictures, which were counted, are written in at most room bytes. They are measured only if that is in doubt:
+// a number takes at most one byte, and one more for each 128 that it says.
+fn runs_fit(counts: Counts, old: &[u8], new: &[u8], room: usize) -> bool
+    requires { ⌜ (length (now old) ≡ length (now new)) × (length (now old) ≤ 1048576) × (counts ≡ countOf (now old) (now new)) ⌝ }
+    ensures { λ r. ⌜ r ≡ leb (length (runsBytes (runsOf (now (old .entry)) (now (new .entry))))) room ⌝ }
+{
+    if 2 * counts.runs + counts.changed + old.len() / 128 <= room {
+        return true;
+    }
+    measure(old, new) <= room
 }
 
 // Writes a number at a place of out where it fits, and answers the place after it.
@@ -137,16 +135,18 @@ pub fn write(out: &mut [u8], frame: u32, place: u32, old: &[u8], new: &[u8]) -> 
     if 1048576 < old.len() {
         return Recorded::Refused(Refusal::BufferLength);
     }
-    let totals = measure(old, new);
-    let runs = totals.runs;
-    let list = number::length(runs as u32) + totals.bytes;
-    let length = number::length(frame) + number::length(place) + list;
-    if out.len() < length {
+    let counts = count(old, new);
+    let runs = counts.runs;
+    let head = number::length(frame) + number::length(place) + number::length(runs as u32);
+    if out.len() < head {
         return Recorded::Refused(Refusal::NoRoom);
     }
-    put_record(out, frame, place, runs, old, new);
+    if !runs_fit(counts, old, new, out.len() - head) {
+        return Recorded::Refused(Refusal::NoRoom);
+    }
+    let length = put_record(out, frame, place, runs, old, new);
     Recorded::Written {
         length,
-        changed: totals.changed,
+        changed: counts.changed,
     }
 }

@@ -1,17 +1,17 @@
 -- Laws of old elements that differ from the new ones at their places.
 use Prim.Native.Nat.{ℕ, suc, _+_, _<_, _≤_}
-use native.Mathlib.Decide.{ℕ-discrete as decEq}
+use native.Mathlib.Decide.{decLe}
 use native.Mathlib.Omega.{arith}
 use mathlib.Core.Bool.{true, false}
 use mathlib.Core.List.{List, [], _∷_}
 use mathlib.Core.Logic.{_≢_}
 use mathlib.Core.Path.{_≡_, refl, sym, ap, _∙_}
-use lib.Dec.{eqb}
+use lib.Dec.{leb, eqb}
 use lib.ListN.{length, take}
-use borrow.Author.Tests.{eq-eqb, ne-eqb}
+use borrow.Author.Tests.{le-leb, lt-leb}
 use Rattle.runs.specs.Runs.{differ}
 use Rattle.runs.specs.Stretch.{stretch}
-use Rattle.runs.specs.StretchLaws.{by-test, stretch-more, stretch-stop, stretch-end, stretch-none}
+use Rattle.runs.specs.StretchLaws.{by-test, stretch-more, stretch-stop, stretch-end, stretch-none, stretch-short}
 
 -- one element at the front
 pub differ-more : (a b : ℕ) (old new : List ℕ) → eqb a b ≡ false → differ (a ∷ old) (b ∷ new) ≡ differ old new
@@ -46,9 +46,9 @@ differ-not (a ∷ old) (b ∷ new) l h =
     (λ e. differ-more a b old new e ∙ differ-not old new (omega arith) (λ m. h (stretch-more false a b old (take (length old) new) e ∙ ap suc m)))
     (λ e. differ-stop a b old new e)
 
-pub differ-told : (old new : List ℕ) (r : ℕ) → length old ≤ length new → r ≡ 0 + stretch false old (take (length old) new) → eqb r (length old) ≡ differ old new
-differ-told old new r h e = go (decEq r (length old))
+pub differ-told : (old new : List ℕ) → length old ≤ length new → leb (length old) (stretch false old (take (length old) new)) ≡ differ old new
+differ-told old new h = go (decLe (length old) (stretch false old (take (length old) new)))
   where
-    go : Dec (r ≡ length old) → eqb r (length old) ≡ differ old new
-    go (yes f) = eq-eqb r (length old) f ∙ sym (differ-all old new (omega arith))
-    go (no f) = ne-eqb r (length old) f ∙ sym (differ-not old new h (λ g. f (omega arith)))
+    go : Dec (length old ≤ stretch false old (take (length old) new)) → leb (length old) (stretch false old (take (length old) new)) ≡ differ old new
+    go (yes f) = le-leb _ _ f ∙ sym (differ-all old new (omega (arith, stretch-short false old (take (length old) new))))
+    go (no f) = lt-leb (length old) (stretch false old (take (length old) new)) (omega arith) ∙ sym (differ-not old new h (λ g. f (omega arith)))

@@ -5,3 +5,7 @@ pub mod Stretch
 pub mod StretchLaws
 pub mod NextLaws
 pub mod DifferLaws
+pub mod Count
+pub mod CountLaws
+pub mod Word
+pub mod WordLaws

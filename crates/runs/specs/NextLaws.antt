@@ -36,7 +36,7 @@ no-runs (a ∷ old) (b ∷ new) h = by-test true (eqb a b) (go (no-runs old new)
     go ih e = runs-kept a b old new e ∙ ap kept (ih (omega (arith, stretch-more true a b old new e))) ∙ unfold kept in refl
 
 -- a changed byte in front of what begins with an unchanged one is a run by itself
-changed-kept : (a : ℕ) (rs : List Run) → changed a (kept rs) ≡ record { gap = 0; old = a ∷ [] } ∷ kept rs
+pub changed-kept : (a : ℕ) (rs : List Run) → changed a (kept rs) ≡ record { gap = 0; old = a ∷ [] } ∷ kept rs
 unfolding changed kept
 changed-kept a [] = refl
 changed-kept a (r ∷ rs) = rw (ne-eqb (suc (r .gap)) 0 (λ e. absurd (omega arith)), changed)

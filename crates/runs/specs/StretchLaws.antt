@@ -1,13 +1,15 @@
 -- Laws of stretches: a search for their end, byte by byte and by blocks.
 use Prim.Native.Nat.{ℕ, zero, suc, _+_, _<_, _≤_}
 use native.Mathlib.Numerals.{add-one}
+use native.Mathlib.Decide.{decLe, decLt}
 use native.Mathlib.Omega.{arith}
 use mathlib.Core.Bool.{Bool, Bool·beq, true, false, not}
 use mathlib.Core.List.{List, [], _∷_}
 use mathlib.Core.Path.{_≡_, refl, sym, _∙_}
-use lib.Dec.{eqb}
+use lib.Dec.{leb, eqb}
 use lib.ListN.{length, getD, drop, length-drop}
 use lib.Seq.{drop-cons, drop-drop}
+use borrow.Author.Tests.{le-leb, lt-leb}
 use Rattle.runs.specs.Stretch.{stretch, Scanned}
 
 -- two bytes are as the stretch has them, or not
@@ -68,6 +70,10 @@ stretch-split t (suc k) (a ∷ old) (b ∷ new) h = by-test t (eqb a b) (go (str
         → stretch t (a ∷ old) (b ∷ new) ≡ suc k + stretch t (drop k old) (drop k new)
     go ih e = let m = stretch-more t a b old new e in omega (arith, m, ih (omega arith))
 
+-- the bytes of a stretch before and from a place of a block
+block-split : (t : Bool) (i at : ℕ) (old new : List ℕ) → i ≤ stretch t (drop at old) (drop at new) → stretch t (drop at old) (drop at new) ≡ i + stretch t (drop (at + i) old) (drop (at + i) new)
+block-split t i at old new k = rw (← (drop-drop i at old), ← (drop-drop i at new)) (stretch-split t i (drop at old) (drop at new) k)
+
 -- the byte at a place of two buffers
 module _ (t : Bool) (i : ℕ) (old new : List ℕ) (h : i < length old) (l : length old ≡ length new) where
   front : stretch t (drop i old) (drop i new) ≡ stretch t (getD old i 0 ∷ drop (i + 1) old) (getD new i 0 ∷ drop (i + 1) new)
@@ -95,12 +101,37 @@ module _ {t : Bool} {old new : List ℕ} {from i : ℕ} (w : Scanned t old new f
 
   pub scan-jumps : (k : ℕ) → k ≤ stretch t (drop i old) (drop i new) → Scanned t old new from (i + k)
   scan-jumps k h =
-      let e : stretch t (drop i old) (drop i new) ≡ k + stretch t (drop (i + k) old) (drop (i + k) new) = rw (← (drop-drop k i old), ← (drop-drop k i new)) (stretch-split t k (drop i old) (drop i new) h) in
+      let e = block-split t k i old new h in
       record { inside = omega (arith, w .inside, stretch-short t (drop i old) (drop i new), length-drop i old); same = omega (arith, w .same, e) }
 
--- one more byte of a block
-pub block-more : {t : Bool} (i at : ℕ) (old new : List ℕ) → length old ≡ length new → at + i < length old → eqb (getD old (at + i) 0) (getD new (at + i) 0) ≡ t
-    → i ≤ stretch t (drop at old) (drop at new) → i + 1 ≤ stretch t (drop at old) (drop at new)
-block-more {t} i at old new l h e k =
-    let m : stretch t (drop at old) (drop at new) ≡ i + stretch t (drop (at + i) old) (drop (at + i) new) = rw (← (drop-drop i at old), ← (drop-drop i at new)) (stretch-split t i (drop at old) (drop at new) k) in
-    omega (arith, m, at-more t (at + i) old new h l e)
+-- a search that goes on from where another came to
+pub scan-then : {t : Bool} {old new : List ℕ} {from i k : ℕ} → Scanned t old new from i → Scanned t old new i k → Scanned t old new from k
+scan-then w v = record { inside = v .inside; same = v .same ∙ w .same }
+
+pub scan-is : {t : Bool} {old new : List ℕ} {from i r : ℕ} → Scanned t old new from i → r ≡ i + stretch t (drop i old) (drop i new) → r ≡ from + stretch t (drop from old) (drop from new)
+scan-is w e = e ∙ w .same
+
+-- whether a block goes on, byte by byte
+pub block-starts : (n : ℕ) → true ≡ leb 0 n
+block-starts n = sym (le-leb 0 n (omega arith))
+
+module _ (t : Bool) (i at : ℕ) (old new : List ℕ) (l : length old ≡ length new) (h : at + i < length old) where
+  abbrev whole : ℕ
+  whole = stretch t (drop at old) (drop at new)
+
+  block-stops : eqb (getD old (at + i) 0) (getD new (at + i) 0) ≡ not t → whole ≤ i
+  block-stops e = go (decLt i whole)
+    where
+      go : Dec (i < whole) → whole ≤ i
+      go (yes k) = omega (arith, block-split t i at old new (omega arith), at-stop t (at + i) old new h l e)
+      go (no k) = omega arith
+
+  pub block-on : eqb (getD old (at + i) 0) (getD new (at + i) 0) ≡ t → leb i whole ≡ leb (i + 1) whole
+  block-on e = go (decLe i whole)
+    where
+      go : Dec (i ≤ whole) → leb i whole ≡ leb (i + 1) whole
+      go (yes k) = le-leb i whole k ∙ sym (le-leb (i + 1) whole (omega (arith, block-split t i at old new k, at-more t (at + i) old new h l e)))
+      go (no k) = lt-leb i whole (omega arith) ∙ sym (lt-leb (i + 1) whole (omega arith))
+
+  pub block-off : eqb (getD old (at + i) 0) (getD new (at + i) 0) ≡ not t → false ≡ leb (i + 1) whole
+  block-off e = sym (lt-leb (i + 1) whole (omega (arith, block-stops e)))

@@ -7,52 +7,37 @@ use Rattle.number.specs.Number.{writeNumber}
 use Rattle.laws.specs.ResultLaws.{told}
 use Rattle.runs.specs.Runs.{runsOf, changeOf}
 use Rattle.runs.specs.NextLaws.{RunAhead, ahead-of, none-ahead}
-use Rattle.record.specs.RunList.{runsBytes, changes}
-use Rattle.record.specs.Walk.{Totalled}
-use Rattle.record.specs.RunLaws.{ahead-runs, ahead-bytes-length, ahead-changes}
+use Rattle.record.specs.RunList.{runsBytes}
+use Rattle.record.specs.RunLaws.{ahead-bytes-length}
 use borrow.Author.Needs.{needs}
 use native.Mathlib.Omega.{arith}
 use Rattle.record.proofs.measure.Statement.{statement}
 use Rattle.record.proofs.measure.Tie as tie
 
 -- the loop's invariant
-record Measuring (old new : List ℕ) (at runs bytes changed : ℕ) : Type 0 where
+record Measuring (old new : List ℕ) (at bytes : ℕ) : Type 0 where
   inside : at ≤ length old
-  few : runs ≤ at
   short : bytes ≤ 11 * at
-  some-changed : changed ≤ at
-  runs-left : runs + length (runsOf (drop at old) (drop at new)) ≡ length (runsOf old new)
-  bytes-left : bytes + length (runsBytes (runsOf (drop at old) (drop at new))) ≡ length (runsBytes (runsOf old new))
-  changes-left : changed + changes (runsOf (drop at old) (drop at new)) ≡ changes (runsOf old new)
+  left : bytes + length (runsBytes (runsOf (drop at old) (drop at new))) ≡ length (runsBytes (runsOf old new))
 
-module _ {old new : List ℕ} {at runs bytes changed : ℕ} (m : Measuring old new at runs bytes changed) where
+module _ {old new : List ℕ} {at bytes : ℕ} (m : Measuring old new at bytes) where
   more : {gap count size : ℕ} → RunAhead old new at gap count → (size ≡ length (writeNumber gap) + length (writeNumber count) + count) × (size ≤ 10 + count)
-      → Measuring old new (at + (gap + count)) (runs + 1) (bytes + size) (changed + count)
+      → Measuring old new (at + (gap + count)) (bytes + size)
   more a s = record {
     inside = a .inside;
-    few = omega (arith, m .few, a .filled);
     short = omega (arith, m .short, a .filled, s .1);
-    some-changed = omega (arith, m .some-changed);
-    runs-left = omega (arith, m .runs-left, ahead-runs a);
-    bytes-left = omega (arith, m .bytes-left, ahead-bytes-length a, s .0);
-    changes-left = omega (arith, m .changes-left, ahead-changes a);
+    left = omega (arith, m .left, ahead-bytes-length a, s .0);
   }
 
-  all : runsOf (drop at old) (drop at new) ≡ [] → Totalled old new (record { runs = runs; bytes = bytes; changed = changed })
-  unfolding runsBytes changes
-  all e = record {
-    runs = omega (arith, rw e at (m .runs-left));
-    bytes = omega (arith, rw e at (m .bytes-left));
-    changed = omega (arith, rw e at (m .changes-left));
-    few = omega (arith, m .few, m .inside);
-    short = omega (arith, m .short, m .inside);
-  }
+  all : runsOf (drop at old) (drop at new) ≡ [] → bytes ≡ length (runsBytes (runsOf old new))
+  unfolding runsBytes
+  all e = omega (arith, rw e at (m .left))
 
 abbrev Inv-loop : tie.InvT-loop
-Inv-loop old new at₀ runs₀ bytes₀ changed₀ at runs bytes changed = Measuring old new at runs bytes changed
+Inv-loop old new at₀ bytes₀ at bytes = Measuring old new at bytes
 
 abbrev μ-loop : tie.MeasureT-loop
-μ-loop old new at₀ runs₀ bytes₀ changed₀ at runs bytes changed = length old - at
+μ-loop old new at₀ bytes₀ at bytes = length old - at
 
 ahead : (c : tie.After-known-told Inv-loop μ-loop)
     → RunAhead (c .before .before .before .before .before .before .before .args .old .now) (c .before .before .before .before .before .before .before .args .new .now)
@@ -60,7 +45,7 @@ ahead : (c : tie.After-known-told Inv-loop μ-loop)
 ahead c = ahead-of _ _ _ _ _ (told changeOf (c .before .before .before .next-run .ensures) (c .before .c .given .1))
 
 loop-holds : tie.Need-loop-holds Inv-loop μ-loop
-loop-holds c = record { inside = omega arith; few = omega arith; short = omega arith; some-changed = omega arith; runs-left = omega arith; bytes-left = omega arith; changes-left = omega arith }
+loop-holds c = record { inside = omega arith; short = omega arith; left = omega arith }
 
 next-run-requires : tie.Need-next-run-requires Inv-loop μ-loop
 next-run-requires c κs = search needs
@@ -79,12 +64,6 @@ run-length-requires c κs = omega (arith, ahead c .inside)
 
 add-bytes : tie.Need-add-bytes Inv-loop μ-loop
 add-bytes c = omega (arith, ahead (c .before) .inside)
-
-add-changed : tie.Need-add-changed Inv-loop μ-loop
-add-changed c = omega (arith, ahead (c .before) .inside)
-
-add-runs : tie.Need-add-runs Inv-loop μ-loop
-add-runs c = omega (arith, ahead (c .before) .inside)
 
 add-at : tie.Need-add-at Inv-loop μ-loop
 add-at c = omega (arith, ahead (c .before) .inside)
@@ -111,8 +90,6 @@ measure-spec =
     enum-known-c
     run-length-requires
     add-bytes
-    add-changed
-    add-runs
     add-at
     add-at-2
     loop-less

@@ -1,5 +1,5 @@
 -- `runs::all_differ`: the old bytes and as many new ones differ as far as they go.
-use mathlib.Core.Path.{sym}
+use mathlib.Core.Path.{sym, _∙_}
 use lib.Seq.{length-take-le}
 use native.Mathlib.Omega.{arith}
 use Rattle.runs.specs.DifferLaws.{differ-short, differ-told}
@@ -9,14 +9,14 @@ use Rattle.runs.proofs.all_differ.Tie as tie
 returns : tie.Need-returns
 returns c = differ-short _ _ (c .if1 .taken)
 
-slice-aggregate-run-end : tie.Need-slice-aggregate-run-end
-slice-aggregate-run-end c = sym (length-take-le _ _ (c .before .if1 .left))
+slice-aggregate-block-is : tie.Need-slice-aggregate-block-is
+slice-aggregate-block-is c = sym (length-take-le _ _ (c .before .if1 .left))
 
-run-end-requires : tie.Need-run-end-requires
-run-end-requires c κs = (sym (length-take-le _ _ (c .before .if1 .left)), omega arith)
+block-is-requires : tie.Need-block-is-requires
+block-is-requires c κs = (sym (length-take-le _ _ (c .before .if1 .left)), omega arith)
 
 returns-2 : tie.Need-returns-2
-returns-2 c = differ-told _ _ _ (c .before .before .if1 .left) (c .run-end .ensures)
+returns-2 c = c .block-is .ensures ∙ differ-told _ _ (c .before .before .if1 .left)
 
 pub all-differ-spec : {M : Type 1} → statement M
-all-differ-spec = tie.close (tie.spec returns slice-aggregate-run-end run-end-requires returns-2)
+all-differ-spec = tie.close (tie.spec returns slice-aggregate-block-is block-is-requires returns-2)

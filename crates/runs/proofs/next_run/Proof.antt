@@ -10,14 +10,14 @@ returns c = two-lengths _ _ _ (c .if1 .taken)
 returns-2 : tie.Need-returns-2
 returns-2 c = past-end _ _ _ (c .before .if1 .left) (c .if2 .taken)
 
-first-difference-requires : tie.Need-first-difference-requires
-first-difference-requires c κs = search needs
+stretch-end-requires : tie.Need-stretch-end-requires
+stretch-end-requires c κs = search needs
 
 returns-3 : tie.Need-returns-3
-returns-3 c = nothing-ahead _ _ _ (c .before .before .before .if1 .left) _ (c .before .before .if2 .left) (c .before .first-difference .ensures) (c .if3 .taken)
+returns-3 c = nothing-ahead _ _ _ (c .before .before .before .if1 .left) _ (c .before .before .if2 .left) (c .before .stretch-end .ensures) (c .if3 .taken)
 
-run-end-requires : tie.Need-run-end-requires
-run-end-requires c κs = search needs
+stretch-end-requires-2 : tie.Need-stretch-end-requires-2
+stretch-end-requires-2 c κs = search needs
 
 sub-t6 : tie.Need-sub-t6
 sub-t6 c = search needs
@@ -26,7 +26,7 @@ sub-t7 : tie.Need-sub-t7
 sub-t7 c = search needs
 
 returns-4 : tie.Need-returns-4
-returns-4 c = run-ahead _ _ _ (c .before .before .before .before .if1 .left) _ (c .before .before .before .if2 .left) (c .before .before .first-difference .ensures) _ (c .before .if3 .left) (c .run-end .ensures)
+returns-4 c = run-ahead _ _ _ (c .before .before .before .before .if1 .left) _ (c .before .before .before .if2 .left) (c .before .before .stretch-end .ensures) _ (c .before .if3 .left) (c .stretch-end2 .ensures)
 
 pub next-run-spec : {M : Type 1} → statement M
 next-run-spec =
@@ -34,9 +34,9 @@ next-run-spec =
     (tie.spec
     returns
     returns-2
-    first-difference-requires
+    stretch-end-requires
     returns-3
-    run-end-requires
+    stretch-end-requires-2
     sub-t6
     sub-t7
     returns-4)

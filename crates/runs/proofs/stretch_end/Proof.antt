@@ -1,57 +1,59 @@
--- `runs::stretch_end`: from where the blocks end, each turn is one more byte of the stretch.
-use Prim.Native.Nat.{_-_}
-use lib.ListN.{length}
-use Rattle.runs.specs.Stretch.{Scanned}
-use Rattle.runs.specs.StretchLaws.{as-asked, not-asked, scan-more, scan-stops, scan-ends}
+-- `runs::stretch_end`: eight bytes, then blocks, then words and bytes of the one stretch.
+use native.Mathlib.Omega.{arith}
+use Rattle.runs.specs.StretchLaws.{scan-starts, scan-jumps, scan-then, scan-is}
+use Rattle.runs.specs.WordLaws.{eighth, scan-word}
 use borrow.Author.Needs.{needs}
 use Rattle.runs.proofs.stretch_end.Statement.{statement}
 use Rattle.runs.proofs.stretch_end.Tie as tie
 
-abbrev Inv-loop : tie.InvT-loop
-Inv-loop equal old new from i₀ i = Scanned equal old new from i
+sub-if1 : tie.Need-sub-if1
+sub-if1 c = search needs
 
-abbrev μ-loop : tie.MeasureT-loop
-μ-loop equal old new from i₀ i = length old - i
+byte-end-requires : tie.Need-byte-end-requires
+byte-end-requires c κs = search needs
 
-skip-blocks-requires : tie.Need-skip-blocks-requires Inv-loop μ-loop
+returns : tie.Need-returns
+returns c = search needs
+
+stop-requires : tie.Need-stop-requires
+stop-requires c κs = search needs
+
+cast-result : tie.Need-cast-result
+cast-result c = omega (arith, eighth (c .before .stop .result))
+
+add-result : tie.Need-add-result
+add-result c = omega (arith, eighth (c .before .stop .result))
+
+returns-2 : tie.Need-returns-2
+returns-2 c = scan-word (scan-starts (c .before .before .before .before .before .pre .1)) (c .before .stop .ensures) (omega arith)
+
+add-skip-blocks : tie.Need-add-skip-blocks
+add-skip-blocks c = search needs
+
+skip-blocks-requires : tie.Need-skip-blocks-requires
 skip-blocks-requires c κs = search needs
 
-loop-holds : tie.Need-loop-holds Inv-loop μ-loop
-loop-holds c = c .skip-blocks .ensures
+word-end-requires : tie.Need-word-end-requires
+word-end-requires c κs = search needs
 
-shared-slice-read-if1 : tie.Need-shared-slice-read-if1 Inv-loop μ-loop
-shared-slice-read-if1 c = search needs
-
-shared-slice-read-if1-2 : tie.Need-shared-slice-read-if1-2 Inv-loop μ-loop
-shared-slice-read-if1-2 c = search needs
-
-returns : tie.Need-returns Inv-loop μ-loop
-returns c = scan-stops (c .before .before .before .before .loop .inv) (c .before .before .before .before .before .before .before .before .pre .0) (c .before .before .before .loop-test .taken) (not-asked _ _ (c .if1 .taken))
-
-add-i : tie.Need-add-i Inv-loop μ-loop
-add-i c = search needs
-
-loop-less : tie.Need-loop-less Inv-loop μ-loop
-loop-less c = search needs
-
-loop-again : tie.Need-loop-again Inv-loop μ-loop
-loop-again c = scan-more (c .before .before .before .before .loop .inv) (c .before .before .before .before .before .before .before .before .pre .0) (c .before .before .before .loop-test .taken) (as-asked _ _ (c .if1 .left))
-
-returns-2 : tie.Need-returns-2 Inv-loop μ-loop
-returns-2 c = scan-ends (c .before .loop .inv) (c .before .before .before .before .before .pre .0) (c .loop-test .left)
+returns-3 : tie.Need-returns-3
+returns-3 c =
+    let b = c .before .before .before .before .before .before .before in
+    let w = scan-jumps (scan-starts (b .pre .1)) (b .pre .0) 8 (c .before .before .before .stop .ensures .none (c .before .before .if2 .left)) in
+    scan-is (scan-then w (c .before .skip-blocks .ensures)) (c .word-end .ensures)
 
 pub stretch-end-spec : {M : Type 1} → statement M
 stretch-end-spec =
     tie.close
     (tie.spec
-    Inv-loop
-    μ-loop
-    skip-blocks-requires
-    loop-holds
-    shared-slice-read-if1
-    shared-slice-read-if1-2
+    sub-if1
+    byte-end-requires
     returns
-    add-i
-    loop-less
-    loop-again
-    returns-2)
+    stop-requires
+    cast-result
+    add-result
+    returns-2
+    add-skip-blocks
+    skip-blocks-requires
+    word-end-requires
+    returns-3)

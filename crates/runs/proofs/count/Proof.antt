@@ -1,0 +1,139 @@
+-- `runs::count`: block by block, then the last byte.
+use Prim.Native.Nat.{_+_, _-_, _<_}
+use mathlib.Core.Path.{_≡_}
+use native.Mathlib.Omega.{arith}
+use lib.ListN.{length}
+use Rattle.runs.specs.Count.{Counted}
+use Rattle.runs.specs.CountLaws.{count-two, count-none, count-starts, count-then, all-kept, all-changed}
+use borrow.Author.Needs.{needs}
+use Rattle.runs.proofs.count.Statement.{statement}
+use Rattle.runs.proofs.count.Tie as tie
+
+abbrev Inv-loop : tie.InvT-loop
+Inv-loop old new n runs₀ changed₀ at₀ runs changed at = (at < length old) × Counted old new 0 at runs changed
+
+abbrev μ-loop : tie.MeasureT-loop
+μ-loop old new n runs₀ changed₀ at₀ runs changed at = length old - at
+
+returns : tie.Need-returns Inv-loop μ-loop
+returns c = count-two _ _ (c .if1 .taken)
+
+returns-2 : tie.Need-returns-2 Inv-loop μ-loop
+returns-2 c = count-none _ _ (c .before .if1 .left) (c .if2 .taken)
+
+loop-holds : tie.Need-loop-holds Inv-loop μ-loop
+loop-holds c = (omega arith, count-starts _ _ 0)
+
+sub-loop : tie.Need-sub-loop Inv-loop μ-loop
+sub-loop c = search needs
+
+count-block-requires : tie.Need-count-block-requires Inv-loop μ-loop
+count-block-requires c κs = search needs
+
+cast-runs : tie.Need-cast-runs Inv-loop μ-loop
+cast-runs c = search needs
+
+add-runs : tie.Need-add-runs Inv-loop μ-loop
+add-runs c = omega (arith, c .before .before .before .loop .inv .1 .few-runs, c .before .count-block .ensures .few-runs)
+
+cast-changed : tie.Need-cast-changed Inv-loop μ-loop
+cast-changed c = search needs
+
+add-changed : tie.Need-add-changed Inv-loop μ-loop
+add-changed c = omega (arith, c .before .before .before .before .loop .inv .1 .few-bytes, c .before .before .count-block .ensures .few-bytes)
+
+add-at : tie.Need-add-at Inv-loop μ-loop
+add-at c = search needs
+
+loop-less : tie.Need-loop-less Inv-loop μ-loop
+loop-less c = search needs
+
+loop-again : tie.Need-loop-again Inv-loop μ-loop
+loop-again c = (omega arith, count-then (c .before .before .before .before .loop .inv .1) (c .before .before .count-block .ensures))
+
+sub-count-block : tie.Need-sub-count-block Inv-loop μ-loop
+sub-count-block c = search needs
+
+sub-count-block-2 : tie.Need-sub-count-block-2 Inv-loop μ-loop
+sub-count-block-2 c = search needs
+
+count-block-requires-2 : tie.Need-count-block-requires-2 Inv-loop μ-loop
+count-block-requires-2 c κs = search needs
+
+cast-runs-2 : tie.Need-cast-runs-2 Inv-loop μ-loop
+cast-runs-2 c = search needs
+
+add-runs-2 : tie.Need-add-runs-2 Inv-loop μ-loop
+add-runs-2 c = omega (arith, c .before .before .before .loop .inv .1 .few-runs, c .before .count-block2 .ensures .few-runs)
+
+cast-changed-2 : tie.Need-cast-changed-2 Inv-loop μ-loop
+cast-changed-2 c = search needs
+
+add-changed-2 : tie.Need-add-changed-2 Inv-loop μ-loop
+add-changed-2 c = omega (arith, c .before .before .before .before .loop .inv .1 .few-bytes, c .before .before .count-block2 .ensures .few-bytes)
+
+sub-if3 : tie.Need-sub-if3 Inv-loop μ-loop
+sub-if3 c = search needs
+
+shared-slice-read-if3 : tie.Need-shared-slice-read-if3 Inv-loop μ-loop
+shared-slice-read-if3 c = search needs
+
+sub-if3-2 : tie.Need-sub-if3-2 Inv-loop μ-loop
+sub-if3-2 c = search needs
+
+shared-slice-read-if3-2 : tie.Need-shared-slice-read-if3-2 Inv-loop μ-loop
+shared-slice-read-if3-2 c = search needs
+
+returns-3 : tie.Need-returns-3 Inv-loop μ-loop
+returns-3 c =
+    let b = c .before .before .before .before .before .before .before in
+    let n = length (b .before .before .before .before .before .args .old .now) in
+    let e : b .loop .at + (n - b .loop .at - 1) ≡ n - 1 = omega arith in
+    all-kept (rw e at (count-then (b .loop .inv .1) (c .before .before .before .before .before .count-block2 .ensures))) (b .before .before .if1 .left) (omega arith) (c .if3 .taken)
+
+add-t9 : tie.Need-add-t9 Inv-loop μ-loop
+add-t9 c = omega (arith, c .before .before .before .before .before .before .before .loop .inv .1 .few-runs, c .before .before .before .before .before .count-block2 .ensures .few-runs)
+
+add-t13 : tie.Need-add-t13 Inv-loop μ-loop
+add-t13 c = omega (arith, c .before .before .before .before .before .before .before .loop .inv .1 .few-bytes, c .before .before .before .before .before .count-block2 .ensures .few-bytes)
+
+returns-4 : tie.Need-returns-4 Inv-loop μ-loop
+returns-4 c =
+    let b = c .before .before .before .before .before .before .before in
+    let n = length (b .before .before .before .before .before .args .old .now) in
+    let e : b .loop .at + (n - b .loop .at - 1) ≡ n - 1 = omega arith in
+    all-changed (rw e at (count-then (b .loop .inv .1) (c .before .before .before .before .before .count-block2 .ensures))) (b .before .before .if1 .left) (omega arith) (c .if3 .left)
+
+pub count-spec : {M : Type 1} → statement M
+count-spec =
+    tie.close
+    (tie.spec
+    Inv-loop
+    μ-loop
+    returns
+    returns-2
+    loop-holds
+    sub-loop
+    count-block-requires
+    cast-runs
+    add-runs
+    cast-changed
+    add-changed
+    add-at
+    loop-less
+    loop-again
+    sub-count-block
+    sub-count-block-2
+    count-block-requires-2
+    cast-runs-2
+    add-runs-2
+    cast-changed-2
+    add-changed-2
+    sub-if3
+    shared-slice-read-if3
+    sub-if3-2
+    shared-slice-read-if3-2
+    returns-3
+    add-t9
+    add-t13
+    returns-4)
