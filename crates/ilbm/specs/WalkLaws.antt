@@ -197,9 +197,6 @@ spot-before height planes line plane h k = omega (arith, mul-le-mul-right planes
 spot-past : (height planes line plane k : ℕ) → height ≤ line → k + (line * planes + plane) ≡ height * planes → k ≡ 0
 spot-past height planes line plane k h e = omega (arith, mul-le-mul-right planes h)
 
-pub spot-small : (z : Sizes) (n line plane : ℕ) → Sound z n → line < z .height → plane < z .planes → plane * z .height + line < 8192
-spot-small z n line plane b h k = omega (arith, mul-le-mul-right (z .height) k, mul-le-mul-right (z .height) (b .planes-most), b .height-most)
-
 -- a row lies within the frame
 pub spot-fits : (z : Sizes) (n line plane : ℕ) → Sound z n → line < z .height → plane < z .planes → (plane * z .height + line) * rowBytes (z .width) + rowBytes (z .width) ≤ n
 unfolding frameBytes
@@ -207,41 +204,47 @@ spot-fits z n line plane b h k =
     let a : suc (plane * z .height + line) ≤ z .planes * z .height = omega (arith, mul-le-mul-right (z .height) k) in
     omega (arith, mul-le-mul-right (rowBytes (z .width)) a, b .length)
 
--- a walk that draws: the row that comes next is that of a line and a plane
-pub record Walking (packed : Bool) (z : Sizes) (s f g : List ℕ) (at line plane : ℕ) : Type 0 where
+pub lines-small : (z : Sizes) {n row : ℕ} (k : ℕ) → Sound z n → row ≡ rowBytes (z .width) → k ≤ z .height → k * row ≤ 131072
+lines-small z k b r h = rw r (omega (arith, mul-le-mul-right (rowBytes (z .width)) h, b .plane-most))
+
+-- a walk that draws: the row that comes next is that of a line and a plane, and goes to a place
+pub record Walking (packed : Bool) (z : Sizes) (s f g : List ℕ) (at line plane spot : ℕ) : Type 0 where
   pub inside : plane < z .planes
+  pub place : spot ≡ (plane * z .height + line) * rowBytes (z .width)
   pub left : ℕ
   pub drawing : Drawing packed z s f g at (line * z .planes + plane) left
 
-pub walking-starts : {packed : Bool} {z : Sizes} {s f : List ℕ} → 1 ≤ z .planes → Walking packed z s f f 0 0 0
+pub walking-starts : {packed : Bool} {z : Sizes} {s f : List ℕ} → 1 ≤ z .planes → Walking packed z s f f 0 0 0 0
 walking-starts {packed} {z} {s} {f} h =
     let e : 0 * z .planes + 0 ≡ 0 = omega arith in
-    record { inside = h; left = z .height * z .planes; drawing = rw e drawing-starts }
+    record { inside = h; place = omega arith; left = z .height * z .planes; drawing = rw e drawing-starts }
 
-module _ {packed : Bool} {z : Sizes} {s f g : List ℕ} {at line plane row : ℕ} (w : Walking packed z s f g at line plane) (r : row ≡ rowBytes (z .width)) (l : line < z .height) where
+module _ {packed : Bool} {z : Sizes} {s f g : List ℕ} {at line plane spot row : ℕ} (w : Walking packed z s f g at line plane spot) (r : row ≡ rowBytes (z .width)) (l : line < z .height) where
   some-left : 0 < w .left
   some-left = omega (arith, w .drawing .left, spot-before (z .height) (z .planes) line plane l (w .inside))
 
-  more : {count nx : ℕ} {h : List ℕ} → Behind (rowAt packed s row at) count nx → Drawn true g ((plane * z .height + line) * row) (rowAt packed s row at) h
-      → Drawing packed z s f h nx (line * z .planes + plane + 1) (w .left - 1)
-  more {count} {nx} {h} b d = drawing-more (w .drawing) some-left (rw r at b) (rw (place-at z line plane (w .inside)) (rw r at d))
+  pub walking-fits : {n : ℕ} → Sound z n → spot + row ≤ n
+  walking-fits {n} b = omega (arith, w .place, r, spot-fits z n line plane b l (w .inside))
 
-  pub walking-down : {count nx : ℕ} {h : List ℕ} → plane + 1 ≡ z .planes → Behind (rowAt packed s row at) count nx
-      → Drawn true g ((plane * z .height + line) * row) (rowAt packed s row at) h → Walking packed z s f h nx (line + 1) 0
+  more : {count nx : ℕ} {h : List ℕ} → Behind (rowAt packed s row at) count nx → Drawn true g spot (rowAt packed s row at) h → Drawing packed z s f h nx (line * z .planes + plane + 1) (w .left - 1)
+  more {count} {nx} {h} b d = drawing-more (w .drawing) some-left (rw r at b) (rw (place-at z line plane (w .inside), ← (w .place)) (rw r at d))
+
+  pub walking-down : {count nx : ℕ} {h : List ℕ} → plane + 1 ≡ z .planes → Behind (rowAt packed s row at) count nx → Drawn true g spot (rowAt packed s row at) h
+      → Walking packed z s f h nx (line + 1) 0 ((line + 1) * row)
   walking-down e b d =
       let i : (line + 1) * z .planes + 0 ≡ line * z .planes + plane + 1 = omega arith in
-      record { inside = omega (arith, w .inside); left = w .left - 1; drawing = rw i (more b d) }
+      record { inside = omega (arith, w .inside); place = rw r (omega arith); left = w .left - 1; drawing = rw i (more b d) }
 
-  pub walking-on : {count nx : ℕ} {h : List ℕ} → (plane + 1 ≡ z .planes → ⊥) → Behind (rowAt packed s row at) count nx
-      → Drawn true g ((plane * z .height + line) * row) (rowAt packed s row at) h → Walking packed z s f h nx line (plane + 1)
+  pub walking-on : {count nx : ℕ} {h : List ℕ} → (plane + 1 ≡ z .planes → ⊥) → Behind (rowAt packed s row at) count nx → Drawn true g spot (rowAt packed s row at) h
+      → Walking packed z s f h nx line (plane + 1) (spot + z .height * row)
   walking-on e b d =
       let i : line * z .planes + (plane + 1) ≡ line * z .planes + plane + 1 = omega arith in
-      record { inside = omega (arith, w .inside, e); left = w .left - 1; drawing = rw i (more b d) }
+      record { inside = omega (arith, w .inside, e); place = rw (w .place, r) (omega arith); left = w .left - 1; drawing = rw i (more b d) }
 
   pub walking-stop : {n : ℕ} → rowAt packed s row at ≡ fault n → (h : List ℕ) → DrawnRows packed z s f h
   walking-stop e h = drawing-stop (w .drawing) some-left (rw r at e) h
 
-pub walking-end : {packed : Bool} {z : Sizes} {s f g : List ℕ} {at line plane : ℕ} → Walking packed z s f g at line plane → z .height ≤ line → DrawnRows packed z s f g
+pub walking-end : {packed : Bool} {z : Sizes} {s f g : List ℕ} {at line plane spot : ℕ} → Walking packed z s f g at line plane spot → z .height ≤ line → DrawnRows packed z s f g
 walking-end {z = z} {line = line} {plane = plane} w h = drawing-end (w .drawing) (spot-past (z .height) (z .planes) line plane (w .left) h (w .drawing .left))
 
 -- what the check of all rows tells

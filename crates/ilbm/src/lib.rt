@@ -224,20 +224,23 @@ fn draw_rows(frame: &mut [u8], s: &[u8], sizes: Sizes, packed: bool)
 {
     let row = sizes.row_bytes();
     let height = sizes.height;
+    let down = height * row;
     let mut at = 0;
     let mut line = 0;
     let mut plane = 0;
+    let mut place = 0;
     while line < height {
-        let place = (plane * height + line) * row;
         let t = take_row(frame, place, s, at, row, packed, true);
         match t {
             Took::Faulty => return,
             Took::Bytes { count: _, next } => at = next,
         }
         plane += 1;
+        place += down;
         if plane == sizes.planes {
             plane = 0;
             line += 1;
+            place = line * row;
         }
     }
 }

@@ -1,47 +1,33 @@
--- `ilbm::draw_rows`: line and plane are those of the row that comes next, and drawing what is left comes to drawing all.
+-- `ilbm::draw_rows`: line, plane and place are those of the row that comes next, and drawing what is left comes to drawing all.
+use Prim.Native.Nat.{_+_, _-_, _*_, _≤_}
 use native.Mathlib.Omega.{arith}
-use Rattle.ilbm.specs.WalkLaws.{spot-small}
-use Prim.Native.Nat.{_≤_}
-use Prim.Native.Nat.{_+_, _-_, _*_, _<_}
 use mathlib.Core.Path.{_≡_, refl, sym, _∙_}
 use lib.ListN.{length}
 use Rattle.laws.specs.ResultLaws.{told}
 use Rattle.ilbm.specs.Walk.{tookOf}
-use Rattle.ilbm.specs.WalkLaws.{behind, behind-fault, Walking, walking-starts, walking-down, walking-on, walking-stop, walking-end, spot-before, spot-fits}
+use Rattle.ilbm.specs.WalkLaws.{behind, behind-fault, Walking, walking-starts, lines-small, walking-fits, walking-down, walking-on, walking-stop, walking-end, spot-before}
 use borrow.Author.Needs.{needs}
 use Rattle.ilbm.proofs.draw_rows.Statement.{statement}
 use Rattle.ilbm.proofs.draw_rows.Tie as tie
 
 abbrev Inv-loop : tie.InvT-loop
-Inv-loop frame₀ s sizes packed row height at₀ line₀ plane₀ frame at line plane = (length frame ≡ length frame₀) × Walking packed sizes s frame₀ frame at line plane
+Inv-loop frame₀ s sizes packed row height down at₀ line₀ plane₀ place₀ frame at line plane place =
+    (length frame ≡ length frame₀) × Walking packed sizes s frame₀ frame at line plane place
 
 abbrev μ-loop : tie.MeasureT-loop
-μ-loop frame₀ s sizes packed row height at₀ line₀ plane₀ frame at line plane = sizes .height * sizes .planes - (line * sizes .planes + plane)
-
--- a row's place in rows, and in bytes, where the loop goes on
-small : (c : tie.In-loop Inv-loop μ-loop) → c .before .loop .plane * c .before .before .before .before .before .args .sizes .height + c .before .loop .line < 8192
-small c = spot-small _ _ _ _ (c .before .before .before .before .before .pre) (c .loop-test .taken) (c .before .loop .inv .1 .inside)
-
-fits : (c : tie.In-loop Inv-loop μ-loop) → (c .before .loop .plane * c .before .before .before .before .before .args .sizes .height + c .before .loop .line) * c .before .before .row-bytes .result + c .before .before .row-bytes .result ≤ length (c .before .before .before .before .before .args .frame .now)
-fits c = rw (c .before .before .row-bytes .ensures) (spot-fits _ _ _ _ (c .before .before .before .before .before .pre) (c .loop-test .taken) (c .before .loop .inv .1 .inside))
+μ-loop frame₀ s sizes packed row height down at₀ line₀ plane₀ place₀ frame at line plane place = sizes .height * sizes .planes - (line * sizes .planes + plane)
 
 row-bytes-requires : tie.Need-row-bytes-requires Inv-loop μ-loop
 row-bytes-requires c κs = search needs
 
+mul-down : tie.Need-mul-down Inv-loop μ-loop
+mul-down c = omega (arith, lines-small (c .before .before .before .args .sizes) (c .before .before .before .args .sizes .height) (c .before .before .before .pre) (c .row-bytes .ensures) (omega arith))
+
 loop-holds : tie.Need-loop-holds Inv-loop μ-loop
 loop-holds c = (refl, walking-starts (c .before .before .before .pre .planes-least))
 
-mul-place : tie.Need-mul-place Inv-loop μ-loop
-mul-place c = omega (arith, small c)
-
-add-place : tie.Need-add-place Inv-loop μ-loop
-add-place c = omega (arith, small c)
-
-mul-place-2 : tie.Need-mul-place-2 Inv-loop μ-loop
-mul-place-2 c = omega (arith, fits c)
-
 take-row-requires : tie.Need-take-row-requires Inv-loop μ-loop
-take-row-requires c κs = omega (arith, fits (c .before), c .before .before .loop .inv .0)
+take-row-requires c κs = let l = c .before in omega (arith, walking-fits (l .before .loop .inv .1) (l .before .before .row-bytes .ensures) (l .loop-test .taken) (l .before .before .before .before .before .pre), l .before .loop .inv .0)
 
 enum-told : tie.Need-enum-told Inv-loop μ-loop
 enum-told c = search needs
@@ -59,10 +45,21 @@ enum-known-t : tie.Need-enum-known-t Inv-loop μ-loop
 enum-known-t c = search needs
 
 add-plane : tie.Need-add-plane Inv-loop μ-loop
-add-plane c = omega (arith, c .before .before .before .before .before .before .before .before .loop .inv .1 .inside)
+add-plane c = omega (arith, c .before .before .before .before .before .before .before .before .loop .inv .1 .inside, c .before .before .before .before .before .before .before .before .before .before .before .before .pre .planes-most)
+
+add-place : tie.Need-add-place Inv-loop μ-loop
+add-place c =
+    let l = c .before .before .before .before .before .before .before in
+    let z = l .before .before .before .before .before .args .sizes in
+    omega (arith, walking-fits (l .before .loop .inv .1) (l .before .before .row-bytes .ensures) (l .loop-test .taken) (l .before .before .before .before .before .pre), lines-small z (z .height) (l .before .before .before .before .before .pre) (l .before .before .row-bytes .ensures) (omega arith), l .before .before .before .before .before .pre .length-most)
 
 add-line : tie.Need-add-line Inv-loop μ-loop
 add-line c = omega arith
+
+mul-place : tie.Need-mul-place Inv-loop μ-loop
+mul-place c =
+    let l = c .before .before .before .before .before .before .before .before .before in
+    omega (arith, lines-small (l .before .before .before .before .before .args .sizes) (l .before .loop .line + 1) (l .before .before .before .before .before .pre) (l .before .before .row-bytes .ensures) (omega (arith, l .loop-test .taken)))
 
 loop-less : tie.Need-loop-less Inv-loop μ-loop
 loop-less c =
@@ -103,17 +100,17 @@ draw-rows-spec =
     Inv-loop
     μ-loop
     row-bytes-requires
+    mul-down
     loop-holds
-    mul-place
-    add-place
-    mul-place-2
     take-row-requires
     enum-told
     same-length
     returns
     enum-known-t
     add-plane
+    add-place
     add-line
+    mul-place
     loop-less
     loop-again
     loop-less-2
