@@ -13,7 +13,7 @@ use Rattle.number.specs.Number.{writeNumber}
 use Rattle.runs.specs.Runs.{runsOf, differing, countOf}
 use Rattle.runs.specs.CountLaws.{runs-counted}
 use Rattle.runs.specs.declared.Counts.{Counts}
-use Rattle.record.specs.RunList.{changes, runsBytes, listBytes}
+use Rattle.record.specs.RunList.{runsBytes, listBytes}
 use Rattle.record.specs.Record.{recordBytes, Measure, measure, written, bufferAfter}
 use Rattle.laws.specs.Put.{Put}
 use Rattle.record.specs.RoundLaws.{count-runs, changes-runs}

@@ -1,7 +1,7 @@
 -- Laws of the next run of two pictures: how it is written, and what it adds to the runs behind it.
-use Prim.Native.Nat.{ℕ, suc, _+_}
+use Prim.Native.Nat.{ℕ, _+_}
 use mathlib.Core.List.{List, _++_}
-use mathlib.Core.Path.{_≡_, ap, _∙_}
+use mathlib.Core.Path.{_≡_, _∙_}
 use lib.ListN.{length, take, drop, length-append}
 use Rattle.number.specs.Number.{writeNumber}
 use Rattle.runs.specs.Runs.{Run, runsOf}

@@ -9,3 +9,4 @@ pub mod Count
 pub mod CountLaws
 pub mod Word
 pub mod WordLaws
+pub mod StopLaws

@@ -1,5 +1,5 @@
 -- `ilbm::draw_rows`: line, plane and place are those of the row that comes next, and drawing what is left comes to drawing all.
-use Prim.Native.Nat.{_+_, _-_, _*_, _≤_}
+use Prim.Native.Nat.{_+_, _-_, _*_}
 use native.Mathlib.Omega.{arith}
 use mathlib.Core.Path.{_≡_, refl, sym, _∙_}
 use lib.ListN.{length}

@@ -1,5 +1,5 @@
 -- `runs::block_is`: while the flag stands, the bytes passed so far are as they should be.
-use Prim.Native.Nat.{ℕ, _+_, _-_, _<_, _≤_}
+use Prim.Native.Nat.{_+_, _-_, _<_, _≤_}
 use mathlib.Core.Path.{_≡_, _∙_}
 use mathlib.Core.Logic.{⊎-elim}
 use lib.Dec.{leb}

@@ -1,7 +1,7 @@
 -- `runs::stretch_end`: eight bytes, then blocks, then words and bytes of the one stretch.
 use native.Mathlib.Omega.{arith}
 use Rattle.runs.specs.StretchLaws.{scan-starts, scan-jumps, scan-then, scan-is}
-use Rattle.runs.specs.WordLaws.{eighth, scan-word}
+use Rattle.runs.specs.StopLaws.{eighth, scan-word}
 use borrow.Author.Needs.{needs}
 use Rattle.runs.proofs.stretch_end.Statement.{statement}
 use Rattle.runs.proofs.stretch_end.Tie as tie

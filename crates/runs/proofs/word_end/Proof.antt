@@ -4,7 +4,7 @@ use native.Mathlib.Omega.{arith}
 use lib.ListN.{length}
 use Rattle.runs.specs.Stretch.{Scanned}
 use Rattle.runs.specs.StretchLaws.{scan-starts, scan-jumps, scan-is}
-use Rattle.runs.specs.WordLaws.{eighth, scan-word}
+use Rattle.runs.specs.StopLaws.{eighth, scan-word}
 use borrow.Author.Needs.{needs}
 use Rattle.runs.proofs.word_end.Statement.{statement}
 use Rattle.runs.proofs.word_end.Tie as tie
