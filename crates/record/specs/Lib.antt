@@ -6,5 +6,6 @@ pub mod PutLaws
 pub mod RecordLaws
 pub mod RoundLaws
 pub mod RoomLaws
+pub mod CommitLaws
 pub mod LengthLaws
 pub mod Examples

@@ -3,6 +3,7 @@
 use Prim.Native.Nat.{ℕ}
 use mathlib.Core.List.{List, _++_}
 use mathlib.Core.Option.{Option, some}
+use mathlib.Core.Path.{_≡_}
 use lib.Dec.{leb, ltb, eqb}
 use lib.ListN.{length, drop}
 use Rattle.laws.specs.Result.{Res, Res.ok, Res.fault, _>>=_, need, orRefuse, _>>?_, given}
@@ -37,6 +38,17 @@ written frame place old new room =
 abbrev pub bufferAfter : List ℕ → List ℕ → Res Measure → List ℕ
 bufferAfter bytes out (ok m) = bytes ++ drop (length bytes) out
 bufferAfter bytes out (fault n) = out
+
+-- the hidden picture after it
+abbrev pub pictureAfter : List ℕ → List ℕ → Res Measure → List ℕ
+pictureAfter old new (ok m) = new
+pictureAfter old new (fault n) = old
+
+-- what recording a step answers and leaves in the record buffer and in the hidden one
+pub record Commits (frame place : ℕ) (old new out : List ℕ) (r : Res Measure) (out′ old′ : List ℕ) : Type 0 where
+  pub answer : r ≡ written frame place old new (length out)
+  pub bytes : out′ ≡ bufferAfter (recordBytes frame place old new) out r
+  pub picture : old′ ≡ pictureAfter old new r
 
 -- what a record leads back to
 pub record Past : Type 0 where

@@ -3,18 +3,18 @@ use Prim.Native.Nat.{ℕ, _+_, _<_, _≤_}
 use native.Mathlib.Nat.{zero-add}
 use native.Mathlib.Omega.{arith}
 use mathlib.Core.List.{List}
-use mathlib.Core.Path.{_≡_, sym, _∙_}
+use mathlib.Core.Path.{_≡_, refl, sym, _∙_}
 use lib.ListN.{length, length-append}
 use lib.Seq.{sets-eq}
 use mathlib.Core.Logic.{_≢_}
 use borrow.Author.Tests.{eq-eqb, ne-eqb, le-leb, lt-leb}
-use Rattle.laws.specs.Result.{Res, Res.ok, Res.fault}
+use Rattle.laws.specs.Result.{Res.ok, Res.fault}
 use Rattle.number.specs.Number.{writeNumber}
 use Rattle.runs.specs.Runs.{runsOf, differing, countOf}
 use Rattle.runs.specs.CountLaws.{runs-counted}
 use Rattle.runs.specs.declared.Counts.{Counts}
 use Rattle.record.specs.RunList.{runsBytes, listBytes}
-use Rattle.record.specs.Record.{recordBytes, Measure, measure, written, bufferAfter}
+use Rattle.record.specs.Record.{recordBytes, measure, written, Commits}
 use Rattle.laws.specs.Put.{Put}
 use Rattle.record.specs.RoundLaws.{count-runs, changes-runs}
 use Rattle.record.specs.Walk.{Counted}
@@ -47,32 +47,32 @@ module _ (frame place : ℕ) (old new : List ℕ) where
   unfolding recordBytes
   record-put u v w = put-then (put-then u v) w
 
-  -- what writing answers, and what it leaves in the buffer
-  abbrev pub Answers : List ℕ → Res Measure → List ℕ → Type 0
-  Answers out r left = (r ≡ written frame place old new (length out)) × (left ≡ bufferAfter (recordBytes frame place old new) out (written frame place old new (length out)))
-
+  -- what recording answers, and what it leaves in the two buffers
   module _ (out : List ℕ) where
-    settled : {r : Res Measure} → written frame place old new (length out) ≡ r → Answers out r (bufferAfter (recordBytes frame place old new) out r)
-    settled e = (sym e, rw e)
+    refused : {n : ℕ} → written frame place old new (length out) ≡ fault n → Commits frame place old new out (fault n) out old
+    refused e = record { answer = sym e; bytes = refl; picture = refl }
 
-    pub two-lengths : length old ≢ length new → Answers out (fault 12) out
+    pub two-lengths : length old ≢ length new → Commits frame place old new out (fault 12) out old
     unfolding written
-    two-lengths h = settled (simp (ne-eqb _ _ h))
+    two-lengths h = refused (simp (ne-eqb _ _ h))
 
     module _ (l : length old ≡ length new) where
-      pub too-long : 1_048_576 < length old → Answers out (fault 12) out
+      pub too-long : 1_048_576 < length old → Commits frame place old new out (fault 12) out old
       unfolding written
-      too-long h = settled (simp (eq-eqb _ _ l, lt-leb _ _ h))
+      too-long h = refused (simp (eq-eqb _ _ l, lt-leb _ _ h))
 
       module _ (s : length old ≤ 1_048_576) where
-        pub no-room : length out < length (recordBytes frame place old new) → Answers out (fault 51) out
+        pub no-room : length out < length (recordBytes frame place old new) → Commits frame place old new out (fault 51) out old
         unfolding written
-        no-room h = settled (simp (eq-eqb _ _ l, le-leb _ _ s, lt-leb _ _ h))
+        no-room h = refused (simp (eq-eqb _ _ l, le-leb _ _ s, lt-leb _ _ h))
 
-        pub is-written : (left : List ℕ) (size changed : ℕ) → length (recordBytes frame place old new) ≤ length out → changed ≡ differing old new
-            → Put out 0 (recordBytes frame place old new) left size → Answers out (ok (record { length = size; changed = changed })) left
+        pub is-written : (left picture : List ℕ) (size changed : ℕ) → length (recordBytes frame place old new) ≤ length out → changed ≡ differing old new
+            → Put out 0 (recordBytes frame place old new) left size → picture ≡ new → Commits frame place old new out (ok (record { length = size; changed = changed })) left picture
         unfolding written measure
-        is-written left size changed h f p =
+        is-written left picture size changed h f p q =
             let e : size ≡ length (recordBytes frame place old new) = p .place ∙ zero-add (length (recordBytes frame place old new)) in
-            let w : written frame place old new (length out) ≡ ok (record { length = size; changed = changed }) = simp (eq-eqb _ _ l, le-leb _ _ s, le-leb _ _ h, e, f, changes-runs) in
-            (sym w, rw w (p .left ∙ sets-eq (recordBytes frame place old new) out 0 (omega arith) ∙ rw (zero-add (length (recordBytes frame place old new)))))
+            record {
+              answer = sym (simp (eq-eqb _ _ l, le-leb _ _ s, le-leb _ _ h, e, f, changes-runs));
+              bytes = p .left ∙ sets-eq (recordBytes frame place old new) out 0 (omega arith) ∙ rw (zero-add (length (recordBytes frame place old new)));
+              picture = q;
+            }

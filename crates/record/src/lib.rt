@@ -2,13 +2,14 @@
 ghost use mathlib.Core.Path.{_≡_};
 ghost use Prim.Native.Nat.{_+_, _<_, _≤_, _^_};
 ghost use lib.ListN.{length};
+ghost use Rattle.laws.specs.Result.{pick};
 ghost use Rattle.laws.specs.Put.{Put};
 ghost use Rattle.number.specs.Number.{writeNumber};
 ghost use lib.Dec.{leb};
 ghost use Rattle.runs.specs.Runs.{runsOf, countOf};
 ghost use Rattle.record.specs.RunList.{runBytes, runsBytes, listBytes};
-ghost use Rattle.record.specs.Record.{recordBytes, written, bufferAfter, recordedOf};
-ghost use Rattle.record.specs.Walk.{Counted};
+ghost use Rattle.record.specs.Record.{recordBytes, Commits, recordedOf};
+ghost use Rattle.record.specs.Walk.{Counted, Replaced};
 use buffer::copy;
 use refusal::Refusal;
 use runs::Change;
@@ -85,10 +86,23 @@ fn put_run(out: &mut [u8], at: usize, gap: usize, old: &[u8]) -> usize
     end
 }
 
-// Writes the runs of two pictures at a place of out where they fit, and answers the place after them.
-fn put_runs(out: &mut [u8], from: usize, old: &[u8], new: &[u8]) -> usize
+// Puts count new bytes from a place on into the old picture, where that is asked for.
+fn replace(old: &mut [u8], new: &[u8], start: usize, count: usize, commit: bool)
+    requires { ⌜ (start + count ≤ length (now old)) × (start + count ≤ length (now new)) ⌝ }
+    ensures { λ _. ⌜ Replaced commit (now (old .entry)) (now (new .entry)) start count (now (old .exit)) ⌝ }
+{
+    if !commit {
+        return;
+    }
+    let end = start + count;
+    copy(&mut old[start..end], &new[start..end]);
+}
+
+// Writes the runs of two pictures at a place of out where they fit, and answers the place after them. Where that is asked for, each
+// run's new bytes are put into the old picture.
+fn put_runs(out: &mut [u8], from: usize, old: &mut [u8], new: &[u8], commit: bool) -> usize
     requires { ⌜ (length (now old) ≡ length (now new)) × (length (now old) ≤ 1048576) × (from + length (runsBytes (runsOf (now old) (now new))) ≤ length (now out)) ⌝ }
-    ensures { λ r. ⌜ Put (now (out .entry)) from (runsBytes (runsOf (now (old .entry)) (now (new .entry)))) (now (out .exit)) r ⌝ }
+    ensures { λ r. ⌜ Put (now (out .entry)) from (runsBytes (runsOf (now (old .entry)) (now (new .entry)))) (now (out .exit)) r × (now (old .exit) ≡ pick commit (now (new .entry)) (now (old .entry))) ⌝ }
 {
     let mut at = 0;
     let mut place = from;
@@ -100,6 +114,7 @@ fn put_runs(out: &mut [u8], from: usize, old: &[u8], new: &[u8]) -> usize
                 let start = at + gap;
                 let end = start + count;
                 place = put_run(out, place, gap, &old[start..end]);
+                replace(old, new, start, count, commit);
                 at = end;
             }
         }
@@ -107,27 +122,43 @@ fn put_runs(out: &mut [u8], from: usize, old: &[u8], new: &[u8]) -> usize
 }
 
 // Writes the run list of two pictures, whose runs were counted, at a place of out where it fits.
-fn put_list(out: &mut [u8], at: usize, runs: usize, old: &[u8], new: &[u8]) -> usize
+fn put_list(
+    out: &mut [u8],
+    at: usize,
+    runs: usize,
+    old: &mut [u8],
+    new: &[u8],
+    commit: bool,
+) -> usize
     requires { ⌜ Counted (now old) (now new) runs × (at + length (listBytes (runsOf (now old) (now new))) ≤ length (now out)) ⌝ }
-    ensures { λ r. ⌜ Put (now (out .entry)) at (listBytes (runsOf (now (old .entry)) (now (new .entry)))) (now (out .exit)) r ⌝ }
+    ensures { λ r. ⌜ Put (now (out .entry)) at (listBytes (runsOf (now (old .entry)) (now (new .entry)))) (now (out .exit)) r × (now (old .exit) ≡ pick commit (now (new .entry)) (now (old .entry))) ⌝ }
 {
     let first = put_number(out, at, runs as u32);
-    put_runs(out, first, old, new)
+    put_runs(out, first, old, new, commit)
 }
 
 // Writes a record into out where it fits.
-fn put_record(out: &mut [u8], frame: u32, place: u32, runs: usize, old: &[u8], new: &[u8]) -> usize
+fn put_record(
+    out: &mut [u8],
+    frame: u32,
+    place: u32,
+    runs: usize,
+    old: &mut [u8],
+    new: &[u8],
+    commit: bool,
+) -> usize
     requires { ⌜ Counted (now old) (now new) runs × (length (recordBytes frame place (now old) (now new)) ≤ length (now out)) ⌝ }
-    ensures { λ r. ⌜ Put (now (out .entry)) 0 (recordBytes frame place (now (old .entry)) (now (new .entry))) (now (out .exit)) r ⌝ }
+    ensures { λ r. ⌜ Put (now (out .entry)) 0 (recordBytes frame place (now (old .entry)) (now (new .entry))) (now (out .exit)) r × (now (old .exit) ≡ pick commit (now (new .entry)) (now (old .entry))) ⌝ }
 {
     let second = put_number(out, 0, frame);
     let list = put_number(out, second, place);
-    put_list(out, list, runs, old, new)
+    put_list(out, list, runs, old, new, commit)
 }
 
-// Writes the record of a step: the frame number reached, the next place before it, the hidden picture before and after.
-pub fn write(out: &mut [u8], frame: u32, place: u32, old: &[u8], new: &[u8]) -> Recorded
-    ensures { λ r. ⌜ (recordedOf r ≡ written frame place (now (old .entry)) (now (new .entry)) (length (now (out .entry)))) × (now (out .exit) ≡ bufferAfter (recordBytes frame place (now (old .entry)) (now (new .entry))) (now (out .entry)) (written frame place (now (old .entry)) (now (new .entry)) (length (now (out .entry))))) ⌝ }
+// Records a step: writes the frame number reached, the next place before it and the runs of the hidden picture before and after,
+// and makes the hidden picture the new one. A refusal leaves both as they are.
+pub fn commit(out: &mut [u8], frame: u32, place: u32, old: &mut [u8], new: &[u8]) -> Recorded
+    ensures { λ r. ⌜ Commits frame place (now (old .entry)) (now (new .entry)) (now (out .entry)) (recordedOf r) (now (out .exit)) (now (old .exit)) ⌝ }
 {
     if old.len() != new.len() {
         return Recorded::Refused(Refusal::BufferLength);
@@ -144,7 +175,10 @@ pub fn write(out: &mut [u8], frame: u32, place: u32, old: &[u8], new: &[u8]) -> 
     if !runs_fit(counts, old, new, out.len() - head) {
         return Recorded::Refused(Refusal::NoRoom);
     }
-    let length = put_record(out, frame, place, runs, old, new);
+    let few = counts.changed < old.len() / 8;
+    let length = put_record(out, frame, place, runs, old, new, few);
+    let all = old.len();
+    replace(old, new, 0, all, !few);
     Recorded::Written {
         length,
         changed: counts.changed,

@@ -15,7 +15,7 @@ use borrow.Author.Tests.{eq-eqb, ne-eqb, eqb-true, eqb-false}
 use Rattle.laws.specs.Result.{pick}
 use Rattle.runs.specs.Count.{Counted}
 use Rattle.runs.specs.Runs.{Run, kept, changed, runsOf, differing, countOf}
-use Rattle.runs.specs.RunLaws.{runsAt, runs-end, kept-at, changed-at, changed-is, changed-joins}
+use Rattle.runs.specs.RunLaws.{runs-kept, runs-changed, runsAt, runs-end, kept-at, changed-at, changed-is, changed-joins}
 use Rattle.runs.specs.StretchLaws.{by-test}
 use Rattle.runs.specs.NextLaws.{changed-kept}
 use Rattle.runs.specs.declared.Counts.{Counts}
@@ -35,6 +35,16 @@ count-begins a rs = rw (changed-kept a rs) (omega arith)
 
 count-joins : (a b : ℕ) (rs : List Run) → length (changed a (changed b rs)) ≡ length (changed b rs)
 count-joins a b rs = rw (changed-is b rs, changed-joins a _ _ (eq-eqb 0 0 refl))
+
+-- lists of one length with no runs are equal
+pub same-of-none : (old new : List ℕ) → length old ≡ length new → length (runsOf old new) ≡ 0 → old ≡ new
+same-of-none [] [] l e = refl
+same-of-none [] (b ∷ new) l e = absurd (omega arith)
+same-of-none (a ∷ old) [] l e = absurd (omega arith)
+same-of-none (a ∷ old) (b ∷ new) l e =
+    by-test true (eqb a b)
+    (λ t. let n : length (runsOf old new) ≡ 0 = omega (arith, rw (runs-kept a b old new t) at e, count-kept (runsOf old new)) in rw (eqb-true a b t, same-of-none old new (omega arith) n))
+    (λ t. absurd (omega (arith, rw (runs-changed a b old new t, changed-is a (runsOf old new)) at e)))
 
 picked : (t : Bool) (d : ℕ) → pick t d (suc d) ≡ boolByte (not t) + d
 picked true d = omega arith

@@ -1,5 +1,5 @@
 -- The runs that stretches make, and what the next run tells of the runs from a place on.
-use Prim.Native.Nat.{ℕ, suc, _+_, _-_, _<_, _≤_}
+use Prim.Native.Nat.{ℕ, zero, suc, _+_, _-_, _<_, _≤_}
 use native.Mathlib.Nat.{add-assoc}
 use native.Mathlib.Omega.{arith}
 use mathlib.Core.Bool.{true, false}
@@ -15,16 +15,27 @@ use Rattle.laws.specs.ResultLaws.{none-some, some-same}
 use Rattle.runs.specs.Runs.{Run, kept, changed, runsOf, First, firstOf, nextRun}
 use Rattle.runs.specs.RunLaws.{runs-kept, runs-changed}
 use Rattle.runs.specs.Stretch.{stretch}
-use Rattle.runs.specs.StretchLaws.{by-test, stretch-more, stretch-stop, stretch-end, stretch-short}
+use Rattle.runs.specs.StretchLaws.{by-test, stretch-more, stretch-stop, stretch-end, stretch-none, stretch-short}
 
 -- the next run from a place on, and the runs behind it
 pub record RunAhead (old new : List ℕ) (at gap count : ℕ) : Type 0 where
   pub runs : runsOf (drop at old) (drop at new) ≡ record { gap = gap; old = take count (drop (at + gap) old) } ∷ runsOf (drop (at + (gap + count)) old) (drop (at + (gap + count)) new)
+  pub kept : take gap (drop at old) ≡ take gap (drop at new)
   pub filled : 0 < count
   pub inside : at + (gap + count) ≤ length old
 
 pub ahead-length : {old new : List ℕ} {at gap count : ℕ} → RunAhead old new at gap count → length (take count (drop (at + gap) old)) ≡ count
 ahead-length {old} {new} {at} {gap} {count} a = length-take-le count (drop (at + gap) old) (omega (arith, length-drop (at + gap) old, a .inside))
+
+-- equal bytes are the same in both
+stretch-same : (k : ℕ) (old new : List ℕ) → k ≤ stretch true old new → take k old ≡ take k new
+stretch-same zero old new h = refl
+stretch-same (suc k) [] new h = absurd (omega (arith, stretch-end true [] new refl))
+stretch-same (suc k) (a ∷ old) [] h = absurd (omega (arith, stretch-none true a old))
+stretch-same (suc k) (a ∷ old) (b ∷ new) h = by-test true (eqb a b) (go (stretch-same k old new)) (λ e. absurd (omega (arith, stretch-stop true a b old new e)))
+  where
+    go : (k ≤ stretch true old new → take k old ≡ take k new) → eqb a b ≡ true → a ∷ take k old ≡ b ∷ take k new
+    go ih e = rw (eqb-true a b e, ih (omega (arith, stretch-more true a b old new e)))
 
 -- equal buffers have no runs
 no-runs : (old new : List ℕ) → stretch true old new ≡ length old → runsOf old new ≡ []
@@ -94,6 +105,7 @@ ahead old new at gap count l e h f =
       runs =
           rw (← e, drop-drop gap at old, drop-drop gap at new, ← f, drop-drop count (at + gap) old, drop-drop count (at + gap) new, add-assoc at gap count) at
           (run-next (drop at old) (drop at new) len short);
+      kept = stretch-same gap (drop at old) (drop at new) (omega arith);
       filled = rw (← e, drop-drop gap at old, drop-drop gap at new, ← f) at (run-filled (drop at old) (drop at new) len short);
       inside = omega (arith, stretch-short false (drop (at + gap) old) (drop (at + gap) new), length-drop (at + gap) old);
     }

@@ -1,6 +1,6 @@
 -- `record::put_list`: the number of runs, then the runs.
-use Rattle.record.specs.RecordLaws.{list-length, list-put}
 use native.Mathlib.Omega.{arith}
+use Rattle.record.specs.RecordLaws.{list-length, list-put}
 use borrow.Author.Needs.{needs}
 use Rattle.record.proofs.put_list.Statement.{statement}
 use Rattle.record.proofs.put_list.Tie as tie
@@ -12,14 +12,24 @@ put-number-requires : tie.Need-put-number-requires
 put-number-requires c κs = omega (arith, list-length (c .before .before .before .before .pre .0))
 
 put-runs-requires : tie.Need-put-runs-requires
-put-runs-requires c κs = (c .before .before .before .before .before .before .before .before .pre .0 .one-length, c .before .before .before .before .before .before .before .before .pre .0 .short, omega (arith, list-length (c .before .before .before .before .before .before .before .before .pre .0)))
+put-runs-requires c κs = let p = c .before .before .before .before .before .before .before .before .before .pre in (p .0 .one-length, p .0 .short, omega (arith, list-length (p .0)))
 
 same-length : tie.Need-same-length
 same-length c = search needs
 
+same-length-2 : tie.Need-same-length-2
+same-length-2 c = search needs
+
 returns : tie.Need-returns
-returns c = list-put (c .before .before .before .before .before .before .before .before .before .before .before .pre .0) (c .before .before .before .before .before .before .put-number .ensures) (c .before .before .put-runs .ensures)
+returns c = let r = c .before .before .before .before .put-runs .ensures in (list-put (c .before .before .before .before .before .before .before .before .before .before .before .before .before .before .pre .0) (c .before .before .before .before .before .before .before .before .before .put-number .ensures) (r .0), r .1)
 
 pub put-list-spec : {M : Type 1} → statement M
 put-list-spec =
-    tie.close (tie.spec cast-put-number put-number-requires put-runs-requires same-length returns)
+    tie.close
+    (tie.spec
+    cast-put-number
+    put-number-requires
+    put-runs-requires
+    same-length
+    same-length-2
+    returns)
