@@ -14,7 +14,7 @@ use Rattle.runs.specs.Runs.{kept, changed, runsOf}
 use Rattle.record.specs.RunList.{changes, runBytes, runsBytes, listBytes}
 use Rattle.record.specs.Record.{recordBytes}
 use Rattle.iff.specs.Chunk.{chunkAt, find}
-use Rattle.iff.specs.Form.{animEnd, nextFrame}
+use Rattle.form.specs.Form.{animEnd, nextFrame}
 use Rattle.bmhd.specs.Header.{header}
 use Rattle.ilbm.specs.ByteRun.{unpackRow, packetAt}
 use Rattle.ilbm.specs.Body.{body, rowsFrom, rowAt, place, draw as drawRows}

@@ -9,7 +9,7 @@ use Rattle.state.specs.State.{rowBytes, frameBytes, frameLength, stateLength}
 use Rattle.number.specs.Number.{writeGroups, writeNumber}
 use Rattle.runs.specs.Runs.{kept, changed, runsOf}
 use Rattle.iff.specs.Chunk.{chunkAt, find}
-use Rattle.iff.specs.Form.{animEnd, nextFrame}
+use Rattle.form.specs.Form.{animEnd, nextFrame}
 use Rattle.iff.specs.Pair.{findBoth}
 use Rattle.bmhd.specs.Header.{header}
 use Rattle.ilbm.specs.Body.{rowAt, rowsFrom, place, draw as drawRows, body}
