@@ -26,7 +26,8 @@ use Rattle.writer.specs.Write.{columnAt, columnIn, columnsBytes, equal, planeBy
 use Rattle.iff.specs.Pair.{findBoth}
 use Rattle.frame.specs.Frame.{frameIn, frameAt}
 use Rattle.opening.specs.Open.{placesIn, firstPlaces, firstOf, opening}
-use Rattle.player.specs.Step.{isOdd, shownOf, hiddenOf, ready, change, makes, advance, settle, onHidden, stepOn}
+use Rattle.state.specs.World.{isOdd, shownOf, hiddenOf}
+use Rattle.player.specs.Step.{ready, change, makes, advance, settle, onHidden, stepOn}
 use Rattle.bench.specs.Film.{film}
 
 -- what an example comes to

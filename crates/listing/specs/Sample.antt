@@ -19,7 +19,8 @@ use Rattle.frame.specs.Frame.{frameIn, frameAt}
 use Rattle.opening.specs.Open.{placesIn, firstPlaces, firstSize, firstOf, opening}
 use Rattle.record.specs.RunList.{changes, runBytes, runsBytes, listBytes}
 use Rattle.record.specs.Record.{recordBytes}
-use Rattle.player.specs.Step.{isOdd, shownOf, hiddenOf, ready, change, makes, advance, settle, onHidden, stepOn}
+use Rattle.state.specs.World.{isOdd, shownOf, hiddenOf}
+use Rattle.player.specs.Step.{ready, change, makes, advance, settle, onHidden, stepOn}
 use Rattle.listing.specs.Lines.{ascii, decimal, endLine, pictureLine, frameLine}
 use Rattle.listing.specs.Listing.{frames, listed, fronts, shows, listing}
 

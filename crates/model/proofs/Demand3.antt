@@ -16,7 +16,8 @@ use Rattle.record.specs.Record.{Past, pastOf}
 use Rattle.player.specs.declared.SteppedOn.{SteppedOn}
 use Rattle.player.specs.declared.SteppedBack.{SteppedBack}
 use Rattle.frame.specs.Frame.{Frame}
-use Rattle.player.specs.Step.{World, Answer, Answer.refused, Answer.ended, Answer.tookOn, Answer.tookBack, isOdd, onOf, MeetsOn, MeetsBack, change, stepOn, stepBack}
+use Rattle.state.specs.World.{World, isOdd}
+use Rattle.player.specs.Step.{Answer, Answer.refused, Answer.ended, Answer.tookOn, Answer.tookBack, onOf, MeetsOn, MeetsBack, change, stepOn, stepBack}
 use Rattle.opening.specs.declared.OpenedFile.{OpenedFile}
 use Rattle.opening.specs.Open.{Film, opening, stateAfter, pictureAfter, openingOf, MeetsOpen}
 use Rattle.model.specs.Model.{Call, Seen, here, placeAt, picture, recordAt, stands, reportAt, answerFor, answerAt, answerOn, answerFirst, moved, leaves, model}

@@ -12,7 +12,8 @@ use Rattle.laws.specs.Result.{Res.ok, Res.fault, _>>=_, need, answer}
 use Rattle.state.specs.State.{rowBytes}
 use Rattle.record.specs.Record.{Past, pastOf, restored}
 use Rattle.frame.specs.FrameLaws.{Rises, frame-rises}
-use Rattle.player.specs.Step.{Answer.refused, Answer.tookBack, isOdd, shownOf, retreat, settleBack, onShown, stepBack}
+use Rattle.state.specs.World.{isOdd, shownOf}
+use Rattle.player.specs.Step.{Answer.refused, Answer.tookBack, retreat, settleBack, onShown, stepBack}
 use Rattle.opening.specs.Open.{Film}
 use Rattle.model.specs.Model.{placeAt, picture, recordAt, stands, answerFirst}
 use Rattle.player.specs.OutcomeLaws.{back-kept, back-put}

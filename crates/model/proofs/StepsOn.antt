@@ -10,7 +10,8 @@ use borrow.Author.Tests.{le-leb, eq-eqb, ltb-true}
 use Rattle.laws.specs.Result.{Res, Res.ok, Res.fault, _>>=_, need, answer, pick}
 use Rattle.state.specs.State.{rowBytes}
 use Rattle.frame.specs.Frame.{Frame, frameAt}
-use Rattle.player.specs.Step.{Answer, Answer.refused, Answer.ended, Answer.tookOn, isOdd, shownOf, hiddenOf, ready, change, Made, makes, make, advance, Outcome, settle, onHidden, stepOn}
+use Rattle.state.specs.World.{isOdd, shownOf, hiddenOf}
+use Rattle.player.specs.Step.{Answer, Answer.refused, Answer.ended, Answer.tookOn, ready, change, Made, makes, make, advance, Outcome, settle, onHidden, stepOn}
 use Rattle.opening.specs.Open.{Film}
 use Rattle.model.specs.Model.{here, placeAt, picture, recordAt, stands, reportAt, answerAt, answerOn, moved, leaves}
 use Rattle.player.specs.OutcomeLaws.{on-kept, on-put}
