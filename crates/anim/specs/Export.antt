@@ -11,7 +11,9 @@ use Rattle.laws.specs.Result.{Res, Res.ok, Res.fault, pick}
 use Rattle.state.specs.declared.State.{State}
 use Rattle.state.specs.declared.Sizes.{Sizes}
 use Rattle.opening.specs.Open.{Film, firstSize, opening, stateAfter, pictureAfter}
-use Rattle.player.specs.Step.{World, Answer, Answer.refused, Answer.ended, Answer.tookOn, Answer.tookBack, After, stepOn, stepBack, workAfter}
+use Rattle.player.specs.declared.SteppedOn.{SteppedOn}
+use Rattle.state.specs.World.{World}
+use Rattle.player.specs.Step.{Answer, Answer.refused, Answer.ended, Answer.tookOn, Answer.tookBack, After, stepOn, stepBack, onOf, workAfter}
 use Rattle.shown.specs.Row.{rowPlace}
 use Rattle.writer.specs.Write.{deltaBytes, written, bufferAfter}
 use Rattle.words.specs.Words.{stateIn, stateWords, lay}
@@ -62,6 +64,12 @@ sizedStep t w o = pick t o (record { answer = refused 11; world = w; bytes = [];
 
 abbrev pub worldIn : List ℕ → List ℕ → List ℕ → World
 worldIn state a b = record { a = a; b = b; state = stateIn state }
+
+-- what is handed over of a step on
+pub record HandsOn (o : SteppedOn) (state report : List ℕ) (r : ℕ) (state′ report′ : List ℕ) : Type 0 where
+  pub answer : r ≡ answerNumber (onOf (o .answer))
+  pub stateOut : state′ ≡ stateLeft (onOf (o .answer)) (o .state) state
+  pub reportOut : report′ ≡ reportLeft (onOf (o .answer)) report
 
 -- stepping on
 pub record LeavesOnC (o : After) (work rec state report : List ℕ) (r : ℕ) (a′ b′ work′ rec′ state′ report′ : List ℕ) : Type 0 where

@@ -13,12 +13,12 @@ use Rattle.player.specs.declared.On.{On}
 use Rattle.player.specs.declared.SteppedOn.{SteppedOn}
 use Rattle.player.specs.declared.Back.{Back}
 use Rattle.player.specs.declared.SteppedBack.{SteppedBack}
-use Rattle.player.specs.Step.{onOf, backOf, stepOn, stepBack, MeetsOn, MeetsBack}
+use Rattle.player.specs.Step.{onOf, backOf, stepBack, MeetsOn, MeetsBack}
 use Rattle.shown.specs.Row.{rowPlace}
 use Rattle.writer.specs.Write.{deltaBytes, written, bufferAfter}
 use Rattle.words.specs.Words.{stateIn, stateWords, lay}
 use Rattle.words.specs.WordLaws.{not-laid}
-use Rattle.anim.specs.Export.{numberOr, OpensC, answerNumber, stateLeft, reportLeft, worldIn, StepsOnC, StepsBackC, rowC, lengthLeft, WritesC, SizesC}
+use Rattle.anim.specs.Export.{numberOr, OpensC, answerNumber, stateLeft, reportLeft, worldIn, HandsOn, StepsOnC, StepsBackC, rowC, lengthLeft, WritesC, SizesC}
 
 -- opening
 module _ (file a b state : List ℕ) where
@@ -45,11 +45,15 @@ module _ (file a b work rec state report : List ℕ) where
     on-no-report e l = rw (eq-eqb (length state) 48 h, ne-eqb (length report) 32 l) (record { answer = e; left = refl; right = refl; drawn = refl; written = refl; stateOut = refl; reportOut = refl })
 
     module _ (l : length report ≡ 32) {o : SteppedOn} {a′ b′ work′ rec′ : List ℕ} (m : MeetsOn file (worldIn state a b) work rec o a′ b′ work′ rec′) where
-      pub on-sized : {x : On} {r : ℕ} {state′ report′ : List ℕ} → o .answer ≡ x → r ≡ answerNumber (onOf x) → state′ ≡ stateLeft (onOf x) (o .state) state → report′ ≡ reportLeft (onOf x) report
-          → StepsOnC file a b work rec state report r a′ b′ work′ rec′ state′ report′
-      on-sized {x} e n s p =
-          let k : onOf x ≡ stepOn file (worldIn state a b) (length work) (length rec) .answer = rw e at (m .answer) in
-          rw (eq-eqb (length state) 48 h, eq-eqb (length report) 32 l) (record { answer = n ∙ rw k; left = m .left; right = m .right; drawn = m .drawn; written = m .written; stateOut = s ∙ rw (k, m .state); reportOut = p ∙ rw k })
+      pub on-sized : {r : ℕ} {state′ report′ : List ℕ} → HandsOn o state report r state′ report′ → StepsOnC file a b work rec state report r a′ b′ work′ rec′ state′ report′
+      on-sized q =
+          rw (eq-eqb (length state) 48 h, eq-eqb (length report) 32 l)
+          (record { answer = q .answer ∙ rw (m .answer); left = m .left; right = m .right; drawn = m .drawn; written = m .written; stateOut = q .stateOut ∙ rw (m .answer, m .state); reportOut = q .reportOut ∙ rw (m .answer) })
+
+-- what is handed over of a step on, by its answer
+pub hands-on : {o : SteppedOn} {state report : List ℕ} {x : On} {r : ℕ} {state′ report′ : List ℕ} → o .answer ≡ x → r ≡ answerNumber (onOf x) → state′ ≡ stateLeft (onOf x) (o .state) state → report′ ≡ reportLeft (onOf x) report
+    → HandsOn o state report r state′ report′
+hands-on e n s p = record { answer = rw e n; stateOut = rw e s; reportOut = rw e p }
 
 -- stepping back
 module _ (bytes a b state : List ℕ) where

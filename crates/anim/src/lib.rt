@@ -2,11 +2,12 @@
 ghost use mathlib.Core.Path.{_≡_};
 ghost use lib.ListN.{length};
 ghost use Rattle.shown.specs.Row.{placeOf};
-ghost use Rattle.anim.specs.Export.{OpensC, StepsOnC, StepsBackC, rowC, numberOr, placeOr, WritesC, SizesC};
+ghost use Rattle.anim.specs.Export.{OpensC, HandsOn, StepsOnC, StepsBackC, rowC, numberOr, placeOr, WritesC, SizesC};
 use opening::Opening;
 use opening::Size;
 use player::Back;
 use player::On;
+use player::SteppedOn;
 use refusal::Refusal;
 use shown::Place;
 use state::Sizes;
@@ -55,6 +56,27 @@ pub extern "C" fn anim_open(file: &[u8], a: &mut [u8], b: &mut [u8], state: &mut
     }
 }
 
+// Hands a step on over to C: its answer as a number, and the state and the report in their slices where it is taken.
+fn hand_on(s: SteppedOn, state: &mut [u8], report: &mut [u8]) -> u64
+    ensures { λ r. ⌜ HandsOn s (now (state .entry)) (now (report .entry)) r (now (state .exit)) (now (report .exit)) ⌝ }
+{
+    let answer = s.answer;
+    match answer {
+        On::Refused(why) => why.number(),
+        On::End => 1,
+        On::Taken {
+            method,
+            time,
+            changed,
+            record,
+        } => {
+            words::write_state(state, s.state);
+            words::write_report(report, method, time, changed, record);
+            0
+        }
+    }
+}
+
 // Steps on from the state in its slice.
 #[no_mangle]
 pub extern "C" fn anim_step_on(
@@ -75,21 +97,7 @@ pub extern "C" fn anim_step_on(
         return wrong_length();
     }
     let s = player::step_on(file, words::read_state(state), a, b, work, rec);
-    let answer = s.answer;
-    match answer {
-        On::Refused(why) => why.number(),
-        On::End => 1,
-        On::Taken {
-            method,
-            time,
-            changed,
-            record,
-        } => {
-            words::write_state(state, s.state);
-            words::write_report(report, method, time, changed, record);
-            0
-        }
-    }
+    hand_on(s, state, report)
 }
 
 // Steps back from the state in its slice with a record.

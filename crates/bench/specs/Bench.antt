@@ -14,7 +14,7 @@ use Rattle.runs.specs.Runs.{kept, changed, runsOf}
 use Rattle.record.specs.RunList.{changes, runBytes, runsBytes, listBytes}
 use Rattle.record.specs.Record.{recordBytes}
 use Rattle.iff.specs.Chunk.{chunkAt, find}
-use Rattle.iff.specs.Form.{animEnd, nextFrame}
+use Rattle.form.specs.Form.{animEnd, nextFrame}
 use Rattle.bmhd.specs.Header.{header}
 use Rattle.ilbm.specs.ByteRun.{unpackRow, packetAt}
 use Rattle.ilbm.specs.Body.{body, rowsFrom, rowAt, place, draw as drawRows}
@@ -26,7 +26,8 @@ use Rattle.writer.specs.Write.{columnAt, columnIn, columnsBytes, equal, planeBy
 use Rattle.iff.specs.Pair.{findBoth}
 use Rattle.frame.specs.Frame.{frameIn, frameAt}
 use Rattle.opening.specs.Open.{placesIn, firstPlaces, firstOf, opening}
-use Rattle.player.specs.Step.{isOdd, shownOf, hiddenOf, ready, change, makes, advance, settle, onHidden, stepOn}
+use Rattle.state.specs.World.{isOdd, shownOf, hiddenOf}
+use Rattle.player.specs.Step.{ready, change, makes, advance, settle, onHidden, stepOn}
 use Rattle.bench.specs.Film.{film}
 
 -- what an example comes to

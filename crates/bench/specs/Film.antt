@@ -2,7 +2,8 @@
 use Prim.Native.Nat.{ℕ, _+_, _/_, _%_}
 use mathlib.Core.List.{List, [], _∷_, _++_}
 use lib.ListN.{length, replicate}
-use Rattle.iff.specs.Form.{FORM, ANIM, ILBM}
+use Rattle.iff.specs.Chunk.{FORM}
+use Rattle.form.specs.Form.{ANIM, ILBM}
 use Rattle.frame.specs.Frame.{ANHD, DLTA}
 use Rattle.opening.specs.Open.{BMHD, BODY}
 

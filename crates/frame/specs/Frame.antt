@@ -6,7 +6,7 @@ use mathlib.Core.Option.{Option, none, some}
 use Rattle.laws.specs.Result.{Res, Res.ok, Res.fault, _>>=_, orRefuse}
 use Rattle.refusal.specs.Number.{numberOf}
 use Rattle.iff.specs.Chunk.{bytesOf, contentsOf}
-use Rattle.iff.specs.Form.{Frame as Form, chunksOf, nextFrame}
+use Rattle.form.specs.Form.{Frame as Form, chunksOf, nextFrame}
 use Rattle.iff.specs.Pair.{findBoth}
 use Rattle.anhd.specs.Anhd.{frameHeader}
 use Rattle.anhd.specs.declared.FrameHeader.{FrameHeader}

@@ -13,8 +13,8 @@ use Rattle.laws.specs.Store.{part-of-part}
 use Rattle.laws.specs.ResultLaws.{Each, Each.each, All, All.all-some, All.all-none, all-value, each-any, each-bind, each-some}
 use Rattle.iff.specs.Chunk.{Part, bytesOf, contentsOf}
 use Rattle.iff.specs.ChunkLaws.{Lies}
-use Rattle.iff.specs.Form.{Frame as Form, chunksOf}
-use Rattle.iff.specs.FormLaws.{Follows, frame-follows}
+use Rattle.form.specs.Form.{Frame as Form, chunksOf}
+use Rattle.form.specs.FormLaws.{Follows, frame-follows}
 use Rattle.iff.specs.Pair.{Pair, findBoth, BothLie, both-lie}
 use Rattle.anhd.specs.Anhd.{frameHeader}
 use Rattle.anhd.specs.declared.FrameHeader.{FrameHeader}

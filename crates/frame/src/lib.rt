@@ -6,8 +6,8 @@ ghost use mathlib.Core.Option.{some};
 ghost use Rattle.frame.specs.Frame.{frameOr, frameAt, nextOf};
 use anhd::Anhd;
 use anhd::FrameHeader;
+use form::Form;
 use iff::Both;
-use iff::Form;
 use iff::Found;
 use refusal::Refusal;
 
@@ -61,7 +61,7 @@ fn frame_in(anim: &[u8], start: usize, len: usize, next: usize, row: usize) -> N
 pub fn frame_at(anim: &[u8], at: usize, row: usize) -> Next
     ensures { λ r. ⌜ nextOf (now (anim .entry)) r ≡ frameAt (now (anim .entry)) row at ⌝ }
 {
-    let f = iff::next_form(anim, at);
+    let f = form::next_form(anim, at);
     match f {
         Form::Faulty(why) => Next::Refused(why),
         Form::Last => Next::Last,

@@ -7,17 +7,16 @@ use lib.ListN.{take, replicate}
 use Rattle.laws.specs.Result.{Res.ok, Res.fault}
 use Rattle.laws.specs.Loop.{runs}
 use Rattle.laws.specs.Bytes.{be32}
-use Rattle.iff.specs.Chunk.{chunkAt, find, contentsOf}
-use Rattle.iff.specs.Form.{FORM, ANIM, ILBM, animEnd, nextFrame}
+use Rattle.iff.specs.Chunk.{FORM, chunkAt, find, contentsOf}
 
 -- four bytes, the highest first
-abbrev word : ℕ → List ℕ
+abbrev pub word : ℕ → List ℕ
 word n = n / 16777216 ∷ n / 65536 % 256 ∷ n / 256 % 256 ∷ n % 256 ∷ []
 
-abbrev BODY : ℕ
+abbrev pub BODY : ℕ
 BODY = 0x424F4459
 
-abbrev LIST : ℕ
+abbrev pub LIST : ℕ
 LIST = 0x4C495354
 
 -- a FORM of 4 bytes and a BODY of 1 byte with its pad
@@ -59,27 +58,3 @@ empty-chunk = refl
 inner-form : find FORM (word FORM ++ word 0) ≡ ok (some (record { start = 8; size = 0 }))
 unfolding find runs chunkAt be32
 inner-form = refl
-
--- the type is looked at before the length; FORM ANIM's own pad isn't asked for
-outer : map animEnd
-    ((word FORM ++ word 0 ++ word ILBM) ∷ (word FORM ++ word 0 ++ word ANIM) ∷ (word LIST ++ word 4 ++ word ANIM) ∷ (word FORM ++ word 5 ++ word ANIM) ∷ take 11 (word FORM ++ word 4 ++ word ANIM) ∷ (word FORM ++ word 4 ++ word ANIM) ∷ (word FORM ++ word 5 ++ word ANIM ++ (0 ∷ [])) ∷ [])
-    ≡ fault 22 ∷ fault 21 ∷ fault 22 ∷ fault 21 ∷ fault 21 ∷ ok 12 ∷ ok 13 ∷ []
-unfolding animEnd be32
-outer = refl
-
--- a LIST of 1 byte, a FORM of another type, and a FORM ILBM with 5 bytes and its pad
-abbrev film : List ℕ
-film = word FORM ++ word 44 ++ word ANIM ++ word LIST ++ word 1 ++ (0 ∷ 0 ∷ []) ++ word FORM ++ word 4 ++ word BODY ++ word FORM ++ word 9 ++ word ILBM ++ replicate 6 0
-
-next-frame : map (nextFrame film) (12 ∷ 34 ∷ 52 ∷ []) ≡ ok (some (record { start = 46; size = 5; next = 52 })) ∷ ok (some (record { start = 46; size = 5; next = 52 })) ∷ ok none ∷ []
-unfolding nextFrame runs chunkAt be32
-next-frame = refl
-
--- a FORM shorter than its type is 21; so is a chunk that passes the parent on the way
-short-form : nextFrame (word FORM ++ word 3 ++ replicate 4 0) 0 ≡ fault 21
-unfolding nextFrame runs chunkAt be32
-short-form = refl
-
-short-film : nextFrame (take 51 film) 12 ≡ fault 21
-unfolding nextFrame runs chunkAt be32
-short-film = refl

@@ -1,16 +1,9 @@
-// Chunks of an IFF file: what stands at a place, the first chunk of an id, FORM ANIM and the frames in it.
+// Chunks of an IFF file: what stands at a place, and the first chunk of an id.
 ghost use mathlib.Core.Path.{_≡_};
 ghost use Rattle.iff.specs.Chunk.{chunkAt, standingOf, find, foundOf, orPart, contentsOf};
-ghost use Rattle.iff.specs.Form.{animEnd, outerOf, nextFrame, formOf};
 ghost use Rattle.iff.specs.Pair.{findBoth, bothOf};
 use buffer::number32;
 use refusal::Refusal;
-
-pub const FORM: usize = 0x464F524D;
-
-pub const ANIM: usize = 0x414E494D;
-
-pub const ILBM: usize = 0x494C424D;
 
 // What stands at a place of a parent.
 pub enum Standing {
@@ -43,24 +36,6 @@ pub enum Both {
     At { first: Part, second: Part },
     Missing,
     Broken(Refusal),
-}
-
-// Where FORM ANIM ends.
-pub enum Outer {
-    Ends(usize),
-    Unread(Refusal),
-}
-
-// The next frame in FORM ANIM.
-pub enum Form {
-    // A FORM ILBM: len bytes of chunks from start on; next is past the FORM and its pad.
-    Ilbm {
-        start: usize,
-        len: usize,
-        next: usize,
-    },
-    Last,
-    Faulty(Refusal),
 }
 
 // What stands at a place of a parent.
@@ -163,62 +138,5 @@ pub fn contents(s: &[u8], found: Found) -> &[u8]
         }
         Found::Missing => &s[..0],
         Found::Broken(_) => &s[..0],
-    }
-}
-
-// The end place of FORM ANIM.
-pub fn anim_end(file: &[u8]) -> Outer
-    ensures { λ r. ⌜ outerOf r ≡ animEnd (now (file .entry)) ⌝ }
-{
-    if file.len() < 12 {
-        return Outer::Unread(Refusal::ChunkPastParent);
-    }
-    if number32(file, 0) != FORM {
-        return Outer::Unread(Refusal::NotFormAnim);
-    }
-    if number32(file, 8) != ANIM {
-        return Outer::Unread(Refusal::NotFormAnim);
-    }
-    let len = number32(file, 4);
-    if len < 4 {
-        return Outer::Unread(Refusal::ChunkPastParent);
-    }
-    if file.len() - 8 < len {
-        return Outer::Unread(Refusal::ChunkPastParent);
-    }
-    Outer::Ends(len + 8)
-}
-
-// The next FORM ILBM from a place on; other chunks are passed over.
-pub fn next_form(s: &[u8], from: usize) -> Form
-    ensures { λ r. ⌜ formOf r ≡ nextFrame (now (s .entry)) from ⌝ }
-{
-    let mut at = from;
-    loop {
-        let c = chunk_at(s, at);
-        match c {
-            Standing::End => return Form::Last,
-            Standing::Refused(why) => return Form::Faulty(why),
-            Standing::Whole {
-                id,
-                start,
-                len,
-                next,
-            } => {
-                if id == FORM {
-                    if len < 4 {
-                        return Form::Faulty(Refusal::ChunkPastParent);
-                    }
-                    if number32(s, start) == ILBM {
-                        return Form::Ilbm {
-                            start: start + 4,
-                            len: len - 4,
-                            next,
-                        };
-                    }
-                }
-                at = next;
-            }
-        }
     }
 }

@@ -11,8 +11,8 @@ use Rattle.laws.specs.LoopLaws.{Comes, Comes.comes-next, Comes.comes-done, come
 use Rattle.state.specs.declared.Sizes.{Sizes}
 use Rattle.state.specs.declared.State.{State}
 use Rattle.state.specs.State.{within, rowBytes, frameLength, stateLength}
-use Rattle.iff.specs.Chunk.{Chunk, Part, Walk, padded, chunkAt, bytesOf, orPart, partOf, walkOn, walkStep, find}
-use Rattle.iff.specs.Form.{animEnd, Frame as Form, chunksOf, passOn, frameStep, nextFrame, FORM, ANIM, ILBM}
+use Rattle.iff.specs.Chunk.{FORM, Chunk, Part, Walk, padded, chunkAt, bytesOf, orPart, partOf, walkOn, walkStep, find}
+use Rattle.form.specs.Form.{animEnd, Frame as Form, chunksOf, passOn, frameStep, nextFrame, ANIM, ILBM}
 use Rattle.iff.specs.Pair.{andFind, findBoth}
 use Rattle.bmhd.specs.Header.{sizesAt, refusedAs, header}
 use Rattle.anhd.specs.Anhd.{bitsOk, columnsOk, itemsOf, frameHeader}

@@ -17,8 +17,8 @@ use Rattle.laws.specs.ResultLaws.{Each, Each.each, Each.no-value, each-bind, ea
 use Rattle.state.specs.declared.Sizes.{Sizes}
 use Rattle.state.specs.StateLaws.{Sound}
 use Rattle.iff.specs.Chunk.{bytesOf}
-use Rattle.iff.specs.Form.{Frame as Form, chunksOf}
-use Rattle.iff.specs.FormLaws.{Follows, frame-follows}
+use Rattle.form.specs.Form.{Frame as Form, chunksOf}
+use Rattle.form.specs.FormLaws.{Follows, frame-follows}
 use Rattle.iff.specs.Pair.{Pair, BothLie, both-lie}
 use Rattle.anhd.specs.Anhd.{bitsOk, columnsOk, itemsOf, frameHeader}
 use Rattle.anhd.specs.declared.FrameHeader.{FrameHeader}

@@ -26,11 +26,12 @@ use Rattle.frame.specs.FrameLaws.{frame-rises}
 use Rattle.runs.specs.Runs.{runsOf}
 use Rattle.opening.specs.Open.{Film, bmhdAt, bodyAt, firstSize, firstOf, opening, First}
 use Rattle.opening.specs.OpenLaws.{places-lie}
-use Rattle.player.specs.Step.{World, Answer.refused, Answer.tookOn, isOdd, shownOf, hiddenOf, ready, change, Made, makes, make, advance, Outcome, After, settle, stepOn}
+use Rattle.state.specs.World.{World, isOdd, shownOf, hiddenOf}
+use Rattle.player.specs.Step.{Answer.refused, Answer.tookOn, ready, change, Made, makes, make, advance, Outcome, After, settle, stepOn}
 use Rattle.player.specs.OutcomeLaws.{on-put}
 use Rattle.player.specs.ReadyLaws.{ready-passed}
 use Rattle.listing.specs.Lines.{frameLine, endLine, refusedLine, pictureLine, tooLarge}
-use Rattle.listing.specs.Listing.{Scene, says, leaves, lineOn, listStep, frames, shows, ROOM, front, behind, sized, listed, blank, listing}
+use Rattle.listing.specs.Listing.{Scene, says, leaves, lineOn, listStep, frames, shows, ROOM, front, behind, fronts, sized, listed, blank, listing}
 use Rattle.listing.specs.RoomLaws.{runs-short, record-short}
 use Rattle.listing.proofs.ShortLaws.{Holds, frame-holds, delta-long, Tells, changes-short, frame-line-short, end-line-short, refused-line-short, picture-line-short, bytes-take}
 use Rattle.listing.proofs.LowLaws.{Low, Low.low-fault, size-low, opening-low, on-low}
@@ -178,6 +179,7 @@ opening-begins file n =
 -- the text of any file of bytes
 module _ (file : List ℕ) (bytes : Bytes file) where
   shows-short : length file ≤ 65_536 → (n : ℕ) → n ≤ 16_384 → (q : Res Film) → Low q → Each (Begins file n) q → (a b work rec : List ℕ) → Short (shows file n ROOM (blank a b work rec) q)
+  unfolding shows
   shows-short h n k (ok F) l (each g) a b work rec =
       let w : length (F .first) ≤ 16_384 = omega (arith, g .first) in
       let p : F .start ≤ 65_536 = omega (arith, g .start) in
@@ -186,6 +188,7 @@ module _ (file : List ℕ) (bytes : Bytes file) where
   shows-short h n k (fault m) (low-fault l) g a b work rec = omega (arith, refused-line-short m l)
 
   sized-short : length file ≤ 65_536 → (q : Res ℕ) → Low q → Short (sized file (blank [] [] [] []) q)
+  unfolding fronts
   sized-short h (ok n) l = go (leb n 16_384) refl
     where
       go : (t : Bool) → leb n 16_384 ≡ t → Short (pick t (behind n (blank [] [] [] []) (shows file n ROOM (front n (blank [] [] [] [])) (opening file n n))) (says (blank [] [] [] []) tooLarge))

@@ -13,10 +13,11 @@ use Rattle.laws.specs.Loop.{Step.next, Step.done, run, runs}
 use Rattle.laws.specs.Store.{over}
 use Rattle.opening.specs.declared.OpenedFile.{OpenedFile}
 use Rattle.opening.specs.Open.{Film, Opens, openingOf, pictureAfter, stateAfter, opening, firstSize}
-use Rattle.player.specs.Step.{World, Answer, Answer.refused, Answer.ended, Answer.tookOn, Answer.tookBack, stepOn}
+use Rattle.state.specs.World.{World}
+use Rattle.player.specs.Step.{Answer, Answer.refused, Answer.ended, Answer.tookOn, Answer.tookBack, stepOn}
 use Rattle.listing.specs.Lines.{pictureLine, refusedLine, tooLarge}
 use Rattle.listing.specs.TextLaws.{Adds, adds-front, length-over}
-use Rattle.listing.specs.Listing.{Scene, says, leaves, lineOn, listStep, frames, shows, ROOM, front, behind, sized, listed, blank, listing, roomy, lent, lentText, Lists, MeetsList}
+use Rattle.listing.specs.Listing.{Scene, says, leaves, lineOn, listStep, frames, shows, ROOM, front, behind, fronts, sized, listed, blank, listing, roomy, lent, lentText, Lists, MeetsList}
 
 -- what the work and the record buffer hold makes no difference to pictures, state and text
 record Alike (c d : Scene) : Type 0 where
@@ -46,15 +47,17 @@ module _ (file : List ℕ) (size room : ℕ) where
 -- the text of a file is the same whatever buffers are lent
 module _ (file a b work rec : List ℕ) where
   shown-text : (n : ℕ) (q : Res Film) → behind n (blank a b work rec) (shows file n ROOM (front n (blank a b work rec)) q) .text ≡ behind n (blank [] [] [] []) (shows file n ROOM (front n (blank [] [] [] [])) q) .text
+  unfolding shows
   shown-text n (ok F) = frames-alike file n ROOM _ _ _ _ _ _ .text
   shown-text n (fault m) = refl
 
   sized-text : (q : Res ℕ) → sized file (blank a b work rec) q .text ≡ sized file (blank [] [] [] []) q .text
+  unfolding fronts
   sized-text (fault n) = refl
   sized-text (ok n) = go (leb n 16_384)
     where
-      go : (t : Bool) → pick t (behind n (blank a b work rec) (shows file n ROOM (front n (blank a b work rec)) (opening file n n))) (says (blank a b work rec) tooLarge) .text
-          ≡ pick t (behind n (blank [] [] [] []) (shows file n ROOM (front n (blank [] [] [] [])) (opening file n n))) (says (blank [] [] [] []) tooLarge) .text
+      go : (t : Bool) → pick t (fronts file n (blank a b work rec)) (says (blank a b work rec) tooLarge) .text
+          ≡ pick t (fronts file n (blank [] [] [] [])) (says (blank [] [] [] []) tooLarge) .text
       go true = shown-text n (opening file n n)
       go false = refl
 
@@ -75,6 +78,7 @@ lists-line a b work rec e v = let t = adds-front v in rw e (record { text = t .0
 module _ (file : List ℕ) (size room : ℕ) {q : Res Film} (a b work rec : List ℕ) {r : OpenedFile} {a′ b′ : List ℕ} (m : Opens q a b r a′ b′) where
   pub shows-refused : {i : ℕ} {out : List ℕ} {n : ℕ} {out′ : List ℕ} → openingOf (r .answer) ≡ fault i → Adds out 0 (refusedLine i) out′ n
       → Lists (shows file size room (blank a b work rec) q) out n a′ b′ work rec out′
+  unfolding shows
   shows-refused {i} {out} {n} {out′} e v = go q (sym (m .answer) ∙ e) (m .left) (m .right)
     where
       go : (p : Res Film) → answer p ≡ fault i → a′ ≡ pictureAfter a p → b′ ≡ pictureAfter b p → Lists (shows file size room (blank a b work rec) p) out n a′ b′ work rec out′
@@ -84,6 +88,7 @@ module _ (file : List ℕ) (size room : ℕ) {q : Res Film} (a b work rec : List
   pub shows-opened : {out : List ℕ} {n : ℕ} {a″ b″ work′ rec′ out′ : List ℕ} → openingOf (r .answer) ≡ ok tt
       → Lists (frames file size room (record { world = record { a = a′; b = b′; state = r .state }; work = work; rec = rec; text = pictureLine (r .state .sizes) })) out n a″ b″ work′ rec′ out′
       → Lists (shows file size room (blank a b work rec) q) out n a″ b″ work′ rec′ out′
+  unfolding shows
   shows-opened {out} {n} {a″} {b″} {work′} {rec′} {out′} e v = go q (sym (m .answer) ∙ e) (m .left) (m .right) (m .state)
     where
       go : (p : Res Film) → answer p ≡ ok tt → a′ ≡ pictureAfter a p → b′ ≡ pictureAfter b p → r .state ≡ stateAfter p → Lists (shows file size room (blank a b work rec) p) out n a″ b″ work′ rec′ out′
@@ -106,27 +111,39 @@ module _ (file : List ℕ) (c : Scene) where
       unfolding listed
       frame-large k = rw (le-leb (length file) 65_536 h, e) (rw (lt-leb n 16_384 k) refl)
 
-      pub frame-fits : n ≤ 16_384 → listed file c ≡ behind n c (shows file n ROOM (front n c) (opening file n n))
+      frame-fits : n ≤ 16_384 → listed file c ≡ fronts file n c
       unfolding listed
       frame-fits k = rw (le-leb (length file) 65_536 h, e) (rw (le-leb n 16_384 k) refl)
 
+      pub lists-fits : n ≤ 16_384 → {out : List ℕ} {r : ℕ} {a b work rec out′ : List ℕ} → Lists (fronts file n c) out r a b work rec out′ → Lists (listed file c) out r a b work rec out′
+      lists-fits k v = rw (frame-fits k) v
+
+-- buffers whose front parts a file with frames of n bytes needs
+pub record Holds (n a b work rec : ℕ) : Type 0 where
+  pub left : n ≤ a
+  pub right : n ≤ b
+  pub drawn : n ≤ work
+  pub written : ROOM ≤ rec
+
+pub holds-less : {n a b work rec : ℕ} → 16_384 ≤ a → 16_384 ≤ b → 16_384 ≤ work → ROOM ≤ rec → n ≤ 16_384 → Holds n a b work rec
+holds-less ha hb hw hr k = record { left = omega arith; right = omega arith; drawn = omega arith; written = hr }
+
 -- what is listed with the front parts of the buffers; the bytes behind them stay
-pub lists-front : (file a b work rec : List ℕ) {n : ℕ} → length file ≤ 65_536 → firstSize file ≡ ok n → n ≤ 16_384
-    → 16_384 ≤ length a → 16_384 ≤ length b → 16_384 ≤ length work → ROOM ≤ length rec → {out : List ℕ} {r : ℕ} {a′ b′ work′ rec′ out′ : List ℕ}
+pub lists-front : (file a b work rec : List ℕ) {n : ℕ} → Holds n (length a) (length b) (length work) (length rec) → {out : List ℕ} {r : ℕ} {a′ b′ work′ rec′ out′ : List ℕ}
     → Lists (shows file (length (take n work)) (length (take ROOM rec)) (blank (take n a) (take n b) (take n work) (take ROOM rec)) (opening file (length (take n a)) (length (take n b)))) out r a′ b′ work′ rec′ out′
-    → Lists (listed file (blank a b work rec)) out r (a′ ++ drop n a) (b′ ++ drop n b) (work′ ++ drop n work) (rec′ ++ drop ROOM rec) out′
-lists-front file a b work rec {n} h e k la lb lw lr {out} {r} {a′} {b′} {work′} {rec′} {out′} v =
+    → Lists (fronts file n (blank a b work rec)) out r (a′ ++ drop n a) (b′ ++ drop n b) (work′ ++ drop n work) (rec′ ++ drop ROOM rec) out′
+unfolding fronts
+lists-front file a b work rec {n} h {out} {r} {a′} {b′} {work′} {rec′} {out′} v =
     let v′ : Lists (shows file n ROOM (front n (blank a b work rec)) (opening file n n)) out r a′ b′ work′ rec′ out′ =
-    rw (length-take-le n a (omega arith), length-take-le n b (omega arith), length-take-le n work (omega arith), length-take-le ROOM rec lr) at v in
-    rw (frame-fits file (blank a b work rec) h e k)
-    (record {
+    rw (length-take-le n a (h .left), length-take-le n b (h .right), length-take-le n work (h .drawn), length-take-le ROOM rec (h .written)) at v in
+    record {
       text = v′ .text;
       count = v′ .count;
       left = ap (λ (t : List ℕ). t ++ drop n a) (v′ .left);
       right = ap (λ (t : List ℕ). t ++ drop n b) (v′ .right);
       drawn = ap (λ (t : List ℕ). t ++ drop n work) (v′ .drawn);
       written = ap (λ (t : List ℕ). t ++ drop ROOM rec) (v′ .written);
-    })
+    }
 
 -- buffers that are too short, and buffers that are long enough
 module _ (file a b work rec out : List ℕ) where

@@ -12,7 +12,8 @@ use Rattle.laws.specs.Loop.{Step, Step.next, Step.done, runs}
 use Rattle.laws.specs.Store.{over}
 use Rattle.state.specs.State.{opened}
 use Rattle.opening.specs.Open.{Film, opening, firstSize, zeros}
-use Rattle.player.specs.Step.{World, Answer, Answer.refused, Answer.ended, Answer.tookOn, Answer.tookBack, After, stepOn, workAfter}
+use Rattle.state.specs.World.{World}
+use Rattle.player.specs.Step.{Answer, Answer.refused, Answer.ended, Answer.tookOn, Answer.tookBack, After, stepOn, workAfter}
 use Rattle.listing.specs.Lines.{refusedLine, endLine, pictureLine, frameLine, tooLarge}
 
 -- what stands while a file is listed: both pictures and the state, the work and the record buffer, and the text so far
@@ -46,7 +47,7 @@ unfoldable pub frames : List ℕ → ℕ → ℕ → Scene → Scene
 frames file size room c = runs (listStep file size room) (λ d. length file - d .world .state .next) c c
 
 -- an opened file: the picture's line, then its frames
-abbrev pub shows : List ℕ → ℕ → ℕ → Scene → Res Film → Scene
+unfoldable pub shows : List ℕ → ℕ → ℕ → Scene → Res Film → Scene
 shows file size room c (ok F) =
     frames file size room
     (record { world = record { a = F .first; b = F .first; state = opened (F .sizes) (F .start) (F .end) }; work = c .work; rec = c .rec; text = c .text ++ pictureLine (F .sizes) })
@@ -74,9 +75,13 @@ behind n c d = record {
   text = d .text;
 }
 
+-- a file whose frames have n bytes
+unfoldable pub fronts : List ℕ → ℕ → Scene → Scene
+fronts file n c = behind n c (shows file n ROOM (front n c) (opening file n n))
+
 -- by the length of the first picture's frame
 abbrev pub sized : List ℕ → Scene → Res ℕ → Scene
-sized file c (ok n) = pick (leb n 16_384) (behind n c (shows file n ROOM (front n c) (opening file n n))) (says c tooLarge)
+sized file c (ok n) = pick (leb n 16_384) (fronts file n c) (says c tooLarge)
 sized file c (fault n) = says c (refusedLine n)
 
 unfoldable pub listed : List ℕ → Scene → Scene

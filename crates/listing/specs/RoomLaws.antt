@@ -20,7 +20,8 @@ use Rattle.record.specs.RunList.{runBytes, runsBytes, listBytes}
 use Rattle.record.specs.RunLaws.{run-length}
 use Rattle.record.specs.Record.{recordBytes}
 use Rattle.frame.specs.Frame.{Frame, frameAt}
-use Rattle.player.specs.Step.{World, isOdd, shownOf, hiddenOf, ready, change, Made, makes, make, advance, settle, onHidden, stepOn}
+use Rattle.state.specs.World.{World, isOdd, shownOf, hiddenOf}
+use Rattle.player.specs.Step.{ready, change, Made, makes, make, advance, settle, onHidden, stepOn}
 use Rattle.listing.specs.Listing.{ROOM}
 
 -- a number has at most as many bytes as it says, but for 0, which has one

@@ -3,7 +3,8 @@ ghost use mathlib.Core.List.{[], _∷_, _++_};
 ghost use Prim.Native.Nat.{_≤_};
 ghost use lib.ListN.{length};
 ghost use Rattle.listing.specs.Lines.{decimal, tooLarge, refusedLine, endLine, pictureLine, frameLine};
-ghost use Rattle.listing.specs.Listing.{frames, shows, listed, blank, Lists, MeetsList};
+ghost use Rattle.listing.specs.Listing.{frames, shows, fronts, listed, blank, Lists, MeetsList};
+ghost use Rattle.listing.specs.FileLaws.{Holds};
 ghost use Rattle.listing.specs.TextLaws.{Adds};
 ghost use Rattle.opening.specs.Open.{opening};
 ghost use Rattle.refusal.specs.Number.{numberOf};
@@ -181,6 +182,29 @@ fn list_film(
     }
 }
 
+// Lists a file whose frames have n bytes, with the front parts of the buffers.
+fn list_front(
+    file: &[u8],
+    n: usize,
+    a: &mut [u8],
+    b: &mut [u8],
+    work: &mut [u8],
+    rec: &mut [u8],
+    out: &mut [u8],
+) -> usize
+    requires { ⌜ Holds n (length (now a)) (length (now b)) (length (now work)) (length (now rec)) ⌝ }
+    ensures { λ r. ⌜ Lists (fronts (now (file .entry)) n (blank (now (a .entry)) (now (b .entry)) (now (work .entry)) (now (rec .entry)))) (now (out .entry)) r (now (a .exit)) (now (b .exit)) (now (work .exit)) (now (rec .exit)) (now (out .exit)) ⌝ }
+{
+    list_film(
+        file,
+        &mut a[..n],
+        &mut b[..n],
+        &mut work[..n],
+        &mut rec[..RECORD],
+        out,
+    )
+}
+
 // Lists a file with buffers that are long enough.
 fn list_file(
     file: &[u8],
@@ -206,14 +230,7 @@ fn list_file(
             if FRAME < n {
                 return put_too_large(out);
             }
-            list_film(
-                file,
-                &mut a[..n],
-                &mut b[..n],
-                &mut work[..n],
-                &mut rec[..RECORD],
-                out,
-            )
+            list_front(file, n, a, b, work, rec, out)
         }
     }
 }

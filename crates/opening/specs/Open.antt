@@ -11,7 +11,7 @@ use Rattle.state.specs.State.{opened}
 use Rattle.state.specs.declared.Sizes.{Sizes}
 use Rattle.state.specs.declared.State.{State}
 use Rattle.iff.specs.Chunk.{bytesOf}
-use Rattle.iff.specs.Form.{Frame, chunksOf, animEnd, nextFrame}
+use Rattle.form.specs.Form.{Frame, chunksOf, animEnd, nextFrame}
 use Rattle.iff.specs.Pair.{Pair, findBoth}
 use Rattle.bmhd.specs.Header.{header}
 use Rattle.ilbm.specs.Body.{body}

@@ -18,8 +18,8 @@ use Rattle.state.specs.declared.State.{State}
 use Rattle.state.specs.State.{opened}
 use Rattle.iff.specs.declared.Part.{Part}
 use Rattle.iff.specs.Chunk.{contentsOf}
-use Rattle.iff.specs.Form.{Frame, chunksOf, animEnd, nextFrame}
-use Rattle.iff.specs.FormLaws.{Closes, anim-closes, Follows, frame-follows}
+use Rattle.form.specs.Form.{Frame, chunksOf, animEnd, nextFrame}
+use Rattle.form.specs.FormLaws.{Closes, anim-closes, Follows, frame-follows}
 use Rattle.iff.specs.Pair.{Pair, findBoth, BothLie, both-lie}
 use Rattle.bmhd.specs.declared.Header.{Header}
 use Rattle.bmhd.specs.Header.{header}

@@ -6,10 +6,10 @@ ghost use Rattle.opening.specs.Open.{placesIn, firstPlaces, firstSize, f
 ghost use Rattle.opening.specs.OpenLaws.{placesOf, partOf, OpensFirst};
 use bmhd::Bmhd;
 use buffer::copy;
+use form::Form;
+use form::Outer;
 use iff::Both;
-use iff::Form;
 use iff::Found;
-use iff::Outer;
 use iff::Part;
 use ilbm::Unpacked;
 use refusal::Refusal;
@@ -73,7 +73,7 @@ fn refused(why: Refusal) -> OpenedFile
 fn places_in(anim: &[u8]) -> Places
     ensures { λ r. ⌜ placesOf r ≡ placesIn (now (anim .entry)) ⌝ }
 {
-    let f = iff::next_form(anim, 12);
+    let f = form::next_form(anim, 12);
     match f {
         Form::Faulty(why) => Places::Nowhere(why),
         Form::Last => Places::Nowhere(Refusal::NoPicture),
@@ -102,7 +102,7 @@ fn first_places(file: &[u8]) -> Places
     if State::MAX_PLACE < file.len() {
         return Places::Nowhere(Refusal::FileTooLong);
     }
-    let o = iff::anim_end(file);
+    let o = form::anim_end(file);
     match o {
         Outer::Unread(why) => Places::Nowhere(why),
         Outer::Ends(end) => places_in(&file[..end]),

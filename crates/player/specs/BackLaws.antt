@@ -16,7 +16,8 @@ use Rattle.state.specs.State.{stateLength}
 use Rattle.record.specs.Record.{Past, restored, shownAfter, placeOf}
 use Rattle.player.specs.declared.Back.the-variants.{Taken, Refused}
 use Rattle.player.specs.declared.SteppedBack.{SteppedBack}
-use Rattle.player.specs.Step.{World, Answer.refused, isOdd, shownOf, retreat, settleBack, onShown, stepBack, backOf, MeetsBack}
+use Rattle.state.specs.World.{World, isOdd, shownOf}
+use Rattle.player.specs.Step.{Answer.refused, retreat, settleBack, onShown, stepBack, backOf, MeetsBack}
 use Rattle.player.specs.OutcomeLaws.{back-kept}
 
 -- how a step back leaves its one picture

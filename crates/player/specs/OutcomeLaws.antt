@@ -5,7 +5,8 @@ use mathlib.Core.List.{List, []}
 use mathlib.Core.Option.{Option}
 use mathlib.Core.Path.{_≡_, refl}
 use Rattle.laws.specs.Result.{pick}
-use Rattle.player.specs.Step.{World, Answer, isOdd, shownOf, hiddenOf, Outcome, After, inA, inB, onHidden, onShown}
+use Rattle.state.specs.World.{World, isOdd, shownOf, hiddenOf}
+use Rattle.player.specs.Step.{Answer, Outcome, After, inA, inB, onHidden, onShown}
 
 -- a call that leaves its buffer and the state as they were hands all on as it came
 pub on-kept : (w : World) (x : Answer) (k : Option (List ℕ)) → onHidden w (record { answer = x; state = w .state; picture = hiddenOf w; bytes = []; work = k }) ≡ record { answer = x; world = w; bytes = []; work = k }

@@ -1,6 +1,5 @@
 -- Stepping on and stepping back (document 01, "Opening, stepping on, stepping back" and "Refusal numbers").
-use Prim.Native.Nat.{ℕ, suc, _-_, _%_}
-use mathlib.Core.Bool.{Bool}
+use Prim.Native.Nat.{ℕ, suc, _-_}
 use mathlib.Core.List.{List, [], _++_}
 use mathlib.Core.Option.{Option, none, some}
 use mathlib.Core.Path.{_≡_}
@@ -11,6 +10,7 @@ use Rattle.refusal.specs.Number.{numberOf}
 use Rattle.state.specs.State.{rowBytes, stateLength}
 use Rattle.state.specs.declared.Sizes.{Sizes}
 use Rattle.state.specs.declared.State.{State}
+use Rattle.state.specs.World.{World, isOdd, shownOf, hiddenOf}
 use Rattle.runs.specs.Runs.{runsOf}
 use Rattle.record.specs.RunList.{changes}
 use Rattle.record.specs.Record.{recordBytes, Past, restored}
@@ -22,12 +22,6 @@ use Rattle.player.specs.declared.SteppedOn.{SteppedOn}
 use Rattle.player.specs.declared.Back.{Back}
 use Rattle.player.specs.declared.Back.the-variants.{Taken as BackTaken, Refused as BackRefused}
 use Rattle.player.specs.declared.SteppedBack.{SteppedBack}
-
--- what a call hands on to the next: both pictures and the state
-pub record World : Type 0 where
-  pub a : List ℕ
-  pub b : List ℕ
-  pub state : State
 
 -- what a taken step on reports: the method, the relative time, the bytes that changed, the record's length
 pub record Report : Type 0 where
@@ -42,16 +36,6 @@ pub data Answer : Type 0 where
   ended : Answer
   tookOn : Report → Answer
   tookBack : Answer
-
--- odd frames are shown in A, even ones in B
-unfoldable pub isOdd : ℕ → Bool
-isOdd n = eqb (n % 2) 1
-
-unfoldable pub shownOf : World → List ℕ
-shownOf w = pick (isOdd (w .state .frame)) (w .a) (w .b)
-
-unfoldable pub hiddenOf : World → List ℕ
-hiddenOf w = pick (isOdd (w .state .frame)) (w .b) (w .a)
 
 -- 11, 12 and 53 of stepping on, by the lengths of the file, A, B and the work buffer
 unfoldable pub ready : ℕ → State → ℕ → ℕ → ℕ → Res (Unit {0})

@@ -21,7 +21,8 @@ use Rattle.frame.specs.Frame.{Frame, frameAt}
 use Rattle.record.specs.Record.{recordBytes, Measure, measure, written, bufferAfter}
 use Rattle.player.specs.declared.On.the-variants.{Taken, End, Refused}
 use Rattle.player.specs.declared.SteppedOn.{SteppedOn}
-use Rattle.player.specs.Step.{World, Answer.refused, isOdd, shownOf, hiddenOf, ready, change, Made, makes, make, advance, Outcome, settle, onHidden, stepOn, onOf, workAfter, MeetsOn}
+use Rattle.state.specs.World.{World, isOdd, shownOf, hiddenOf}
+use Rattle.player.specs.Step.{Answer.refused, ready, change, Made, makes, make, advance, Outcome, settle, onHidden, stepOn, onOf, workAfter, MeetsOn}
 use Rattle.player.specs.OutcomeLaws.{on-kept}
 use Rattle.player.specs.ReadyLaws.{Fits}
 

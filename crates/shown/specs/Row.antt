@@ -9,7 +9,7 @@ use Rattle.laws.specs.Result.{Res, Res.ok, Res.fault, _>>=_, need}
 use Rattle.refusal.specs.Number.{numberOf}
 use Rattle.state.specs.State.{rowBytes, frameBytes, frameLength, stateLength}
 use Rattle.state.specs.declared.State.{State}
-use Rattle.player.specs.Step.{World, isOdd, shownOf}
+use Rattle.state.specs.World.{World, isOdd, shownOf}
 use Rattle.shown.specs.declared.Place.{Place}
 use Rattle.shown.specs.declared.Place.the-variants.{At, Refused}
 

@@ -13,7 +13,7 @@ use Rattle.laws.specs.ResultLaws.{Each, Each.each, each-bind, each-need, each-i
 use Rattle.state.specs.declared.State.{State}
 use Rattle.state.specs.State.{rowBytes, frameBytes, stateLength}
 use Rattle.state.specs.StateLaws.{SoundState, state-sound}
-use Rattle.player.specs.Step.{World, isOdd, shownOf}
+use Rattle.state.specs.World.{World, isOdd, shownOf}
 use Rattle.shown.specs.Row.{rowPlace, rowOf}
 
 -- the bytes of a row lie within either buffer

@@ -1,8 +1,8 @@
 -- `frame::frame_at`: what the walk to the next FORM ILBM comes to.
 use native.Mathlib.Omega.{arith}
 use Rattle.frame.specs.Frame.{frameAt}
-use Rattle.iff.specs.FormLaws.{Follows, frame-follows}
-use Rattle.iff.specs.Form.{formOf}
+use Rattle.form.specs.FormLaws.{Follows, frame-follows}
+use Rattle.form.specs.Form.{formOf}
 use Rattle.laws.specs.ResultLaws.{told, each-some}
 use borrow.Author.Needs.{needs}
 use Rattle.frame.proofs.frame_at.Statement.{statement}

@@ -1,10 +1,7 @@
--- `listing::list_file`: the file's length, the frame's length, then the frames with the front parts of the buffers.
-use lib.Seq.{length-take-le, length-front}
-use Rattle.listing.specs.FileLaws.{lists-line, file-large, size-refused, frame-large, lists-front}
+-- `listing::list_file`: the file's length, the frame's length, then the frames.
+use Rattle.listing.specs.FileLaws.{lists-line, file-large, size-refused, frame-large, lists-fits, holds-less}
 use Rattle.opening.specs.Open.{sizeOf}
 use Rattle.laws.specs.ResultLaws.{told}
-use native.Mathlib.Omega.{arith}
-use mathlib.Core.Path.{sym}
 use borrow.Author.Needs.{needs}
 use Rattle.listing.proofs.list_file.Statement.{statement}
 use Rattle.listing.proofs.list_file.Tie as tie
@@ -39,32 +36,8 @@ same-length-2 c = c .before .before .put-too-large2 .kept .0
 returns-2 : tie.Need-returns-2
 returns-2 c = lists-line _ _ _ _ (frame-large _ _ (c .before .before .before .before .before .before .before .before .before .if1 .left) (told sizeOf (c .before .before .before .before .before .before .before .before .frame-size .ensures) (c .before .before .before .before .before .before .s2 .given .1)) (c .before .before .before .before .if2 .taken)) (c .before .before .put-too-large2 .ensures)
 
-slice-relend-prefix-list-film : tie.Need-slice-relend-prefix-list-film
-slice-relend-prefix-list-film c = omega (arith, c .before .before .before .before .before .before .before .before .before .before .before .before .pre .0, c .if2 .left)
-
-slice-aggregate-list-film : tie.Need-slice-aggregate-list-film
-slice-aggregate-list-film c = sym (length-take-le _ _ (omega (arith, c .before .before .before .before .before .before .before .before .before .before .before .before .before .pre .0)))
-
-slice-relend-prefix-list-film-2 : tie.Need-slice-relend-prefix-list-film-2
-slice-relend-prefix-list-film-2 c = omega (arith, c .before .before .before .before .before .before .before .before .before .before .before .before .before .pre .1 .0, c .before .if2 .left)
-
-slice-aggregate-list-film-2 : tie.Need-slice-aggregate-list-film-2
-slice-aggregate-list-film-2 c = sym (length-take-le _ _ (omega (arith, c .before .before .before .before .before .before .before .before .before .before .before .before .before .before .pre .1 .0)))
-
-slice-relend-prefix-list-film-3 : tie.Need-slice-relend-prefix-list-film-3
-slice-relend-prefix-list-film-3 c = omega (arith, c .before .before .before .before .before .before .before .before .before .before .before .before .before .before .pre .1 .1 .0, c .before .before .if2 .left)
-
-slice-aggregate-list-film-3 : tie.Need-slice-aggregate-list-film-3
-slice-aggregate-list-film-3 c = sym (length-take-le _ _ (omega (arith, c .before .before .before .before .before .before .before .before .before .before .before .before .before .before .before .pre .1 .1 .0)))
-
-slice-relend-prefix-list-film-4 : tie.Need-slice-relend-prefix-list-film-4
-slice-relend-prefix-list-film-4 c = c .before .before .before .before .before .before .before .before .before .before .before .before .before .before .before .pre .1 .1 .1
-
-slice-aggregate-list-film-4 : tie.Need-slice-aggregate-list-film-4
-slice-aggregate-list-film-4 c = sym (length-take-le _ (c .before .before .before .before .before .before .before .before .before .before .before .before .before .before .before .before .args .rec .now) (c .before .before .before .before .before .before .before .before .before .before .before .before .before .before .before .before .pre .1 .1 .1))
-
-list-film-requires : tie.Need-list-film-requires
-list-film-requires c κs = search needs
+list-front-requires : tie.Need-list-front-requires
+list-front-requires c κs = let p = c .before .before .before .before .before .before .before .before .before .before .before .before .before .before .before .before .before .pre in holds-less (p .0) (p .1 .0) (p .1 .1 .0) (p .1 .1 .1) (c .before .before .before .before .before .if2 .left)
 
 same-length-3 : tie.Need-same-length-3
 same-length-3 c = c .before .before .put-refused .kept .0
@@ -73,22 +46,22 @@ returns-3 : tie.Need-returns-3
 returns-3 c = lists-line _ _ _ _ (size-refused _ _ (c .before .before .before .before .before .before .before .before .if1 .left) (told sizeOf (c .before .before .before .before .before .before .before .frame-size .ensures) (c .before .before .before .before .before .s .given .1))) (c .before .before .put-refused .ensures)
 
 same-length-4 : tie.Need-same-length-4
-same-length-4 c = length-front (c .before .before .before .before .before .before .before .before .before .before .before .before .before .before .before .before .before .before .before .before .before .before .before .before .before .before .before .before .args .a .now) (c .before .before .before .before .before .before .before .before .before .before .list-film .last .1 .0) (c .before .before .before .before .before .before .before .before .before .before .before .before .before .before .before .before .before .before .s2 .given .0 .0) (c .before .before .before .before .before .before .before .before .before .before .list-film .kept .1 .0)
+same-length-4 c = c .before .before .before .before .before .before .before .before .before .before .list-front .kept .1 .1 .0
 
 same-length-5 : tie.Need-same-length-5
-same-length-5 c = length-front (c .before .before .before .before .before .before .before .before .before .before .before .before .before .before .before .before .before .before .before .before .before .before .before .before .before .before .before .before .args .b .now) (c .before .before .before .before .before .before .before .before .before .before .list-film .last .1 .1 .0) (c .before .before .before .before .before .before .before .before .before .before .before .before .before .before .before .before .before .before .s2 .given .0 .0) (c .before .before .before .before .before .before .before .before .before .before .list-film .kept .1 .1 .0)
+same-length-5 c = c .before .before .before .before .before .before .before .before .before .before .list-front .kept .1 .1 .1 .0
 
 same-length-6 : tie.Need-same-length-6
-same-length-6 c = length-front (c .before .before .before .before .before .before .before .before .before .before .before .before .before .before .before .before .before .before .before .before .before .before .before .before .before .before .before .before .args .work .now) (c .before .before .before .before .before .before .before .before .before .before .list-film .last .1 .1 .1 .0) (c .before .before .before .before .before .before .before .before .before .before .before .before .before .before .before .before .before .before .s2 .given .0 .0) (c .before .before .before .before .before .before .before .before .before .before .list-film .kept .1 .1 .1 .0)
+same-length-6 c = c .before .before .before .before .before .before .before .before .before .before .list-front .kept .1 .1 .1 .1 .0
 
 same-length-7 : tie.Need-same-length-7
-same-length-7 c = length-front (c .before .before .before .before .before .before .before .before .before .before .before .before .before .before .before .before .before .before .before .before .before .before .before .before .before .before .before .before .args .rec .now) (c .before .before .before .before .before .before .before .before .before .before .list-film .last .1 .1 .1 .1 .0) 65536 (c .before .before .before .before .before .before .before .before .before .before .list-film .kept .1 .1 .1 .1 .0)
+same-length-7 c = c .before .before .before .before .before .before .before .before .before .before .list-front .kept .1 .1 .1 .1 .1 .0
 
 same-length-8 : tie.Need-same-length-8
-same-length-8 c = c .before .before .before .before .before .before .before .before .before .before .list-film .kept .1 .1 .1 .1 .1 .0
+same-length-8 c = c .before .before .before .before .before .before .before .before .before .before .list-front .kept .1 .1 .1 .1 .1 .1 .0
 
 returns-4 : tie.Need-returns-4
-returns-4 c = lists-front _ _ _ _ _ (c .before .before .before .before .before .before .before .before .before .before .before .before .before .before .before .before .before .before .before .before .before .if1 .left) (told sizeOf (c .before .before .before .before .before .before .before .before .before .before .before .before .before .before .before .before .before .before .before .before .frame-size .ensures) (c .before .before .before .before .before .before .before .before .before .before .before .before .before .before .before .before .before .before .s2 .given .1)) (c .before .before .before .before .before .before .before .before .before .before .before .before .before .before .before .before .if2 .left) (c .before .before .before .before .before .before .before .before .before .before .before .before .before .before .before .before .before .before .before .before .before .before .before .before .before .before .before .before .pre .0) (c .before .before .before .before .before .before .before .before .before .before .before .before .before .before .before .before .before .before .before .before .before .before .before .before .before .before .before .before .pre .1 .0) (c .before .before .before .before .before .before .before .before .before .before .before .before .before .before .before .before .before .before .before .before .before .before .before .before .before .before .before .before .pre .1 .1 .0) (c .before .before .before .before .before .before .before .before .before .before .before .before .before .before .before .before .before .before .before .before .before .before .before .before .before .before .before .before .pre .1 .1 .1) (c .before .before .before .before .before .before .before .before .before .before .list-film .ensures)
+returns-4 c = lists-fits _ _ (c .before .before .before .before .before .before .before .before .before .before .before .before .before .before .before .before .before .before .before .before .before .if1 .left) (told sizeOf (c .before .before .before .before .before .before .before .before .before .before .before .before .before .before .before .before .before .before .before .before .frame-size .ensures) (c .before .before .before .before .before .before .before .before .before .before .before .before .before .before .before .before .before .before .s2 .given .1)) (c .before .before .before .before .before .before .before .before .before .before .before .before .before .before .before .before .if2 .left) (c .before .before .before .before .before .before .before .before .before .before .list-front .ensures)
 
 pub list-file-spec : {M : Type 1} → statement M
 list-file-spec =
@@ -104,15 +77,7 @@ list-file-spec =
     put-too-large-requires-2
     same-length-2
     returns-2
-    slice-relend-prefix-list-film
-    slice-aggregate-list-film
-    slice-relend-prefix-list-film-2
-    slice-aggregate-list-film-2
-    slice-relend-prefix-list-film-3
-    slice-aggregate-list-film-3
-    slice-relend-prefix-list-film-4
-    slice-aggregate-list-film-4
-    list-film-requires
+    list-front-requires
     same-length-3
     returns-3
     same-length-4

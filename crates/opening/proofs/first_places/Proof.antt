@@ -2,8 +2,8 @@
 use mathlib.Core.Path.{sym, _∙_}
 use lib.Seq.{length-take-le}
 use Rattle.laws.specs.ResultLaws.{told, each-is}
-use Rattle.iff.specs.Form.{outerOf}
-use Rattle.iff.specs.FormLaws.{anim-closes}
+use Rattle.form.specs.Form.{outerOf}
+use Rattle.form.specs.FormLaws.{anim-closes}
 use Rattle.opening.specs.OpenLaws.{too-long, no-anim, anim-is}
 use borrow.Author.Needs.{needs}
 use Rattle.opening.proofs.first_places.Statement.{statement}

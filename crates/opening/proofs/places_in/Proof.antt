@@ -3,8 +3,8 @@ use native.Mathlib.Omega.{arith}
 use mathlib.Core.Path.{sym}
 use Rattle.laws.specs.ResultLaws.{told, each-some}
 use Rattle.iff.specs.Pair.{bothOf}
-use Rattle.iff.specs.Form.{formOf}
-use Rattle.iff.specs.FormLaws.{Follows, frame-follows}
+use Rattle.form.specs.Form.{formOf}
+use Rattle.form.specs.FormLaws.{Follows, frame-follows}
 use Rattle.opening.specs.OpenLaws.{anim-broken, anim-empty, form-broken, form-missing, form-whole}
 use borrow.Author.Needs.{needs}
 use Rattle.opening.proofs.places_in.Statement.{statement}

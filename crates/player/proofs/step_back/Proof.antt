@@ -1,6 +1,6 @@
 -- `player::step_back`: the tests, and then a record put back into A at an odd frame, into B at an even one.
 use Rattle.player.specs.BackLaws.{back-limits, back-left, back-right, back-odd, back-even}
-use Rattle.player.specs.Step.{isOdd}
+use Rattle.state.specs.World.{isOdd}
 use Rattle.state.specs.StateLaws.{state-sound}
 use Rattle.state.specs.State.{lengthOf}
 use Rattle.laws.specs.ResultLaws.{told, each-is}

@@ -1,7 +1,7 @@
 -- `player::step_on`: the tests, and then a step into B from an odd frame, into A from an even one.
 use Rattle.player.specs.ReadyLaws.{readyOf, ready-passed}
 use Rattle.player.specs.StepLaws.{on-refused, on-odd, on-even}
-use Rattle.player.specs.Step.{isOdd}
+use Rattle.state.specs.World.{isOdd}
 use Rattle.laws.specs.ResultLaws.{told, each-is}
 use borrow.Author.Tests.{eq-eqb, ne-eqb}
 use lib.Seq.{length-take-le}

@@ -1,7 +1,7 @@
 -- `shown::row`: a part of A at an odd frame, of B at an even one.
 use Rattle.shown.specs.RowLaws.{row-refused, row-odd, row-even, lies-a, lies-b}
 use Rattle.shown.specs.Row.{placeOf}
-use Rattle.player.specs.Step.{isOdd}
+use Rattle.state.specs.World.{isOdd}
 use Rattle.laws.specs.ResultLaws.{told}
 use borrow.Author.Tests.{eq-eqb, ne-eqb}
 use native.Mathlib.Omega.{arith}

@@ -11,11 +11,12 @@ use Rattle.laws.specs.Result.{Res.ok, answer, pick}
 use Rattle.state.specs.State.{rowBytes, stateLength}
 use Rattle.frame.specs.Frame.{Frame}
 use Rattle.frame.specs.FrameLaws.{Rises, frame-rises}
-use Rattle.player.specs.Step.{Answer, isOdd, shownOf, hiddenOf, change, After}
+use Rattle.state.specs.World.{isOdd, shownOf, hiddenOf}
+use Rattle.player.specs.Step.{Answer, change, After}
 use Rattle.opening.specs.Open.{Film}
-use Rattle.player.specs.Model.{here, past, drawn, placeAt, picture, recordAt, stands}
-use Rattle.player.proofs.Laws.{change-length}
-use Rattle.player.proofs.Opened.{Opened, size}
+use Rattle.model.specs.Model.{here, past, drawn, placeAt, picture, recordAt, stands}
+use Rattle.model.proofs.Laws.{change-length}
+use Rattle.model.proofs.Opened.{Opened, size}
 
 -- frame m + 1 can be reached
 pub data Reached (F : Film) : ℕ → Type 0 where

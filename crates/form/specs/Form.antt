@@ -10,16 +10,13 @@ use Rattle.laws.specs.Result.{Res, Res.ok, Res.fault, _>>=_, need, pick}
 use Rattle.laws.specs.Loop.{Step, Step.next, Step.done, runs}
 use Rattle.laws.specs.Bytes.{be32}
 use Rattle.refusal.specs.Number.{numberOf}
-use Rattle.iff.specs.Chunk.{Chunk, chunkAt}
-use Rattle.iff.specs.declared.Outer.{Outer}
-use Rattle.iff.specs.declared.Outer.the-variants.{Ends, Unread}
-use Rattle.iff.specs.declared.Form.{Form}
-use Rattle.iff.specs.declared.Form.the-variants.{Ilbm, Last, Faulty}
+use Rattle.iff.specs.Chunk.{FORM, Chunk, chunkAt}
+use Rattle.form.specs.declared.Outer.{Outer}
+use Rattle.form.specs.declared.Outer.the-variants.{Ends, Unread}
+use Rattle.form.specs.declared.Form.{Form}
+use Rattle.form.specs.declared.Form.the-variants.{Ilbm, Last, Faulty}
 
--- the four bytes of each name, as a number
-abbrev pub FORM : ℕ
-FORM = 0x464F524D
-
+-- the two types, each as a number
 abbrev pub ANIM : ℕ
 ANIM = 0x414E494D
 

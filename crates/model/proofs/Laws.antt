@@ -13,7 +13,8 @@ use Rattle.state.specs.declared.Sizes.{Sizes}
 use Rattle.delta.specs.Delta.{shapeOf, readDelta}
 use Rattle.delta.specs.DeltaLaws.{draw-length}
 use Rattle.frame.specs.Frame.{Frame}
-use Rattle.player.specs.Step.{isOdd, change}
+use Rattle.state.specs.World.{isOdd}
+use Rattle.player.specs.Step.{change}
 
 pub change-length : (z : Sizes) (x : Frame) (shown hidden g : List ℕ) → change z x shown hidden ≡ ok g → length g ≡ length hidden
 unfolding change

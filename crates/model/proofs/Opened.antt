@@ -13,7 +13,7 @@ use Rattle.state.specs.State.{frameBytes, frameLength, opened}
 use Rattle.state.specs.StateLaws.{Sound, sizes-sound}
 use Rattle.opening.specs.Open.{bmhdAt, bodyAt, First, firstOf, Film, opening}
 use Rattle.opening.specs.OpenLaws.{places-lie}
-use Rattle.player.specs.Model.{picture}
+use Rattle.model.specs.Model.{picture}
 
 -- what opening gives
 pub record Opened (F : Film) : Type 0 where

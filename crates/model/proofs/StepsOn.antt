@@ -10,13 +10,14 @@ use borrow.Author.Tests.{le-leb, eq-eqb, ltb-true}
 use Rattle.laws.specs.Result.{Res, Res.ok, Res.fault, _>>=_, need, answer, pick}
 use Rattle.state.specs.State.{rowBytes}
 use Rattle.frame.specs.Frame.{Frame, frameAt}
-use Rattle.player.specs.Step.{Answer, Answer.refused, Answer.ended, Answer.tookOn, isOdd, shownOf, hiddenOf, ready, change, Made, makes, make, advance, Outcome, settle, onHidden, stepOn}
+use Rattle.state.specs.World.{isOdd, shownOf, hiddenOf}
+use Rattle.player.specs.Step.{Answer, Answer.refused, Answer.ended, Answer.tookOn, ready, change, Made, makes, make, advance, Outcome, settle, onHidden, stepOn}
 use Rattle.opening.specs.Open.{Film}
-use Rattle.player.specs.Model.{here, placeAt, picture, recordAt, stands, reportAt, answerAt, answerOn, moved, leaves}
+use Rattle.model.specs.Model.{here, placeAt, picture, recordAt, stands, reportAt, answerAt, answerOn, moved, leaves}
 use Rattle.player.specs.OutcomeLaws.{on-kept, on-put}
-use Rattle.player.proofs.Laws.{odd-suc}
-use Rattle.player.proofs.Opened.{Opened, size}
-use Rattle.player.proofs.Reached.{Reached, place-next, picture-next, Good, good, state-good, hidden-is, shown-is, left-long, right-long, Comes, Reached.next, pick-left, pick-right}
+use Rattle.model.proofs.Laws.{odd-suc}
+use Rattle.model.proofs.Opened.{Opened, size}
+use Rattle.model.proofs.Reached.{Reached, place-next, picture-next, Good, good, state-good, hidden-is, shown-is, left-long, right-long, Comes, Reached.next, pick-left, pick-right}
 
 -- what is left of the tests of a step on
 pub ready-is : (F : Film) → Opened F → (m : ℕ) → Good F m → (work : ℕ) → ready (length (F .file)) (stands F m .state) (length (stands F m .a)) (length (stands F m .b)) work ≡ (need (eqb work (size F)) 12 >>= λ _. need (ltb (suc m) 1_000_000) 53)

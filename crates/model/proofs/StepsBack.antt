@@ -12,14 +12,15 @@ use Rattle.laws.specs.Result.{Res.ok, Res.fault, _>>=_, need, answer}
 use Rattle.state.specs.State.{rowBytes}
 use Rattle.record.specs.Record.{Past, pastOf, restored}
 use Rattle.frame.specs.FrameLaws.{Rises, frame-rises}
-use Rattle.player.specs.Step.{Answer.refused, Answer.tookBack, isOdd, shownOf, retreat, settleBack, onShown, stepBack}
+use Rattle.state.specs.World.{isOdd, shownOf}
+use Rattle.player.specs.Step.{Answer.refused, Answer.tookBack, retreat, settleBack, onShown, stepBack}
 use Rattle.opening.specs.Open.{Film}
-use Rattle.player.specs.Model.{placeAt, picture, recordAt, stands, answerFirst}
+use Rattle.model.specs.Model.{placeAt, picture, recordAt, stands, answerFirst}
 use Rattle.player.specs.OutcomeLaws.{back-kept, back-put}
-use Rattle.player.proofs.Laws.{odd-suc}
+use Rattle.model.proofs.Laws.{odd-suc}
 use Rattle.record.specs.RoundLaws.{past-record}
-use Rattle.player.proofs.Opened.{Opened, size}
-use Rattle.player.proofs.Reached.{Reached, place-next, Good, good, state-good, shown-is, left-long, right-long, Comes, Reached.first, Reached.next, pick-back-left, pick-back-right}
+use Rattle.model.proofs.Opened.{Opened, size}
+use Rattle.model.proofs.Reached.{Reached, place-next, Good, good, state-good, shown-is, left-long, right-long, Comes, Reached.first, Reached.next, pick-back-left, pick-back-right}
 
 -- what is left of the tests of a step back
 pub retreat-is : (F : Film) → Opened F → (m : ℕ) → Good F m → (bytes : List ℕ) → retreat (stands F m) bytes ≡ restored bytes (picture F (suc m)) (suc m) (placeAt F m)

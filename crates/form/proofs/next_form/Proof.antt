@@ -1,4 +1,4 @@
--- `iff::next_form`: each turn is the definition's step from the place.
+-- `form::next_form`: each turn is the definition's step from the place.
 use Prim.Native.Nat.{_-_}
 use mathlib.Core.Path.{refl, ap, _∙_}
 use lib.ListN.{length}
@@ -6,13 +6,13 @@ use borrow.Author.Tests.{eq-eqb, ne-eqb, le-leb, lt-leb}
 use Rattle.laws.specs.Result.{Res.fault}
 use Rattle.laws.specs.ResultLaws.{each-some, told}
 use Rattle.laws.specs.LoopLaws.{Going, starts, turns, stops}
 use Rattle.iff.specs.Chunk.{standingOf}
 use Rattle.iff.specs.ChunkLaws.{chunk-within}
-use Rattle.iff.specs.Form.{passOn, frameStep, nextFrame}
+use Rattle.form.specs.Form.{passOn, frameStep, nextFrame}
 use borrow.Author.Needs.{needs}
 use native.Mathlib.Omega.{arith}
-use Rattle.iff.proofs.next_form.Statement.{statement}
-use Rattle.iff.proofs.next_form.Tie as tie
+use Rattle.form.proofs.next_form.Statement.{statement}
+use Rattle.form.proofs.next_form.Tie as tie
 
 abbrev Inv-loop : tie.InvT-loop
 Inv-loop s from at₀ at = Going (frameStep s) (λ p. length s - p) (fault 21) (nextFrame s from) at

@@ -1,12 +1,12 @@
--- `iff::anim_end`: the tests are the definition's, in its order.
+-- `form::anim_end`: the tests are the definition's, in its order.
 use Prim.Native.Nat.{_+_, _<_, _≤_}
 use lib.ListN.{length}
 use borrow.Author.Tests.{eq-eqb, ne-eqb, le-leb, lt-leb}
-use Rattle.iff.specs.Form.{animEnd}
+use Rattle.form.specs.Form.{animEnd}
 use native.Mathlib.Omega.{arith}
 use borrow.Author.Needs.{needs}
-use Rattle.iff.proofs.anim_end.Statement.{statement}
-use Rattle.iff.proofs.anim_end.Tie as tie
+use Rattle.form.proofs.anim_end.Statement.{statement}
+use Rattle.form.proofs.anim_end.Tie as tie
 
 returns : tie.Need-returns
 unfolding animEnd

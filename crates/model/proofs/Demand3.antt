@@ -13,18 +13,19 @@ use Rattle.laws.specs.Result.{Res, Res.ok, Res.fault, answer, pick}
 use Rattle.laws.specs.ResultLaws.{Each, Each.each}
 use Rattle.state.specs.State.{opened}
 use Rattle.record.specs.Record.{Past, pastOf}
 use Rattle.player.specs.declared.SteppedOn.{SteppedOn}
 use Rattle.player.specs.declared.SteppedBack.{SteppedBack}
 use Rattle.frame.specs.Frame.{Frame}
-use Rattle.player.specs.Step.{World, Answer, Answer.refused, Answer.ended, Answer.tookOn, Answer.tookBack, isOdd, onOf, MeetsOn, MeetsBack, change, stepOn, stepBack}
+use Rattle.state.specs.World.{World, isOdd}
+use Rattle.player.specs.Step.{Answer, Answer.refused, Answer.ended, Answer.tookOn, Answer.tookBack, onOf, MeetsOn, MeetsBack, change, stepOn, stepBack}
 use Rattle.opening.specs.declared.OpenedFile.{OpenedFile}
 use Rattle.opening.specs.Open.{Film, opening, stateAfter, pictureAfter, openingOf, MeetsOpen}
-use Rattle.player.specs.Model.{Call, Seen, here, placeAt, picture, recordAt, stands, reportAt, answerFor, answerAt, answerOn, answerFirst, moved, leaves, model}
-use Rattle.player.specs.Trace.{given, recordIn, untaken, seenOn, seenBack, Trace, Trace.none-left, Trace.stepped-on, Trace.stepped-back}
-use Rattle.player.proofs.Opened.{Opened, size, OpenedAs, opening-opened}
-use Rattle.player.proofs.Reached.{Reached, records, Comes, Reached.first, Reached.next}
-use Rattle.player.proofs.StepsOn.{on-comes}
-use Rattle.player.proofs.StepsBack.{back-first, back-taken}
+use Rattle.model.specs.Model.{Call, Seen, here, placeAt, picture, recordAt, stands, reportAt, answerFor, answerAt, answerOn, answerFirst, moved, leaves, model}
+use Rattle.model.specs.Trace.{given, recordIn, untaken, seenOn, seenBack, Trace, Trace.none-left, Trace.stepped-on, Trace.stepped-back}
+use Rattle.model.proofs.Opened.{Opened, size, OpenedAs, opening-opened}
+use Rattle.model.proofs.Reached.{Reached, records, Comes, Reached.first, Reached.next}
+use Rattle.model.proofs.StepsOn.{on-comes}
+use Rattle.model.proofs.StepsBack.{back-first, back-taken}
 
 -- a taken step on reports its record's length
 record Reports (F : Film) (m : ℕ) (x : Answer) : Type 0 where

@@ -12,9 +12,10 @@ use Rattle.state.specs.State.{rowBytes}
 use Rattle.delta.specs.Delta.{Op, shapeOf, readDelta, draw}
 use Rattle.record.specs.Record.{recordBytes}
 use Rattle.frame.specs.Frame.{Frame, frameAt}
-use Rattle.player.specs.Step.{World, Answer.refused, Answer.tookOn, isOdd, shownOf, hiddenOf, ready, change, makes, make, advance, Outcome, settle, onHidden, stepOn}
+use Rattle.state.specs.World.{World, isOdd, shownOf, hiddenOf}
+use Rattle.player.specs.Step.{Answer.refused, Answer.tookOn, ready, change, makes, make, advance, Outcome, settle, onHidden, stepOn}
 use Rattle.player.specs.OutcomeLaws.{on-kept, on-put}
-use Rattle.player.proofs.Laws.{odd-suc}
+use Rattle.model.proofs.Laws.{odd-suc}
 
 -- a step on with nothing else to refuse: the tests of state and buffers passed, and a frame with a good header stands at the next place
 pub record Free (file : List ℕ) (w : World) (work : ℕ) (x : Frame) : Type 0 where

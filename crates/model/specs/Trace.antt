@@ -4,10 +4,11 @@
 use Prim.Native.Nat.{ℕ}
 use mathlib.Core.List.{List, [], _∷_}
 use lib.ListN.{length, take, drop}
 use Rattle.player.specs.declared.SteppedOn.{SteppedOn}
 use Rattle.player.specs.declared.SteppedBack.{SteppedBack}
-use Rattle.player.specs.Step.{World, Answer, Answer.refused, Answer.ended, Answer.tookOn, Answer.tookBack, onOf, backOf, MeetsOn, MeetsBack}
-use Rattle.player.specs.Model.{Call, Call.on, Call.back, Seen}
+use Rattle.state.specs.World.{World}
+use Rattle.player.specs.Step.{Answer, Answer.refused, Answer.ended, Answer.tookOn, Answer.tookBack, onOf, backOf, MeetsOn, MeetsBack}
+use Rattle.model.specs.Model.{Call, Call.on, Call.back, Seen}
 
 -- the bytes that a step back is given, of the records not yet taken back, the latest first
 unfoldable pub given : List (List ℕ) → List ℕ → List ℕ

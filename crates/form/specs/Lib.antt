@@ -1,0 +1,3 @@
+pub mod Form
+pub mod FormLaws
+pub mod Examples
