@@ -18,7 +18,7 @@ use Rattle.anhd.specs.declared.Items.{Items}
 use Rattle.delta.specs.Delta.{Op, shapeOf, draw, readFrame, newFrame, opCount, Applies}
 use Rattle.delta.specs.ApplyLaws.{frame-delta}
 use Rattle.frame.specs.Frame.{Frame, frameAt}
-use Rattle.record.specs.Record.{recordBytes, Measure, measure, written, bufferAfter}
+use Rattle.record.specs.Record.{recordBytes, Measure, measure, written, Commits}
 use Rattle.player.specs.declared.On.the-variants.{Taken, End, Refused}
 use Rattle.player.specs.declared.SteppedOn.{SteppedOn}
 use Rattle.state.specs.World.{World, isOdd, shownOf, hiddenOf}
@@ -54,46 +54,38 @@ module _ (s : State) (x : Frame) (hidden f rec : List ℕ) (k : Fits s (length h
   unfolding written writes bytes
   writes-is room = simp (eq-eqb (length hidden) (length f) (sym (k .same)), le-leb (length hidden) 1_048_576 (k .short))
 
-  pub records-unfit : {why : Refusal} {rec′ : List ℕ} → written n (s .next) hidden f (length rec) ≡ fault (numberOf why)
-      → rec′ ≡ bufferAfter (recordBytes n (s .next) hidden f) rec (written n (s .next) hidden f (length rec))
-      → Records (makes s x hidden f) s hidden rec (record { answer = Refused why; state = s }) hidden rec′
+  pub records-unfit : {why : Refusal} {rec′ p : List ℕ} → Commits n (s .next) hidden f rec (fault (numberOf why)) rec′ p
+      → Records (makes s x hidden f) s hidden rec (record { answer = Refused why; state = s }) p rec′
   unfolding writes bytes settle makes
-  records-unfit {why} {rec′} e₀ h₀ = go (leb (length bytes) (length rec)) refl
+  records-unfit {why} {rec′} {p} c = go (leb (length bytes) (length rec)) refl
     where
       e : writes (length rec) ≡ fault (numberOf why)
-      e = rw en at e₀
+      e = rw en at (sym (c .answer))
 
-      h : rec′ ≡ bufferAfter bytes rec (writes (length rec))
-      h = rw en at h₀
-
-      go : (t : Bool) → leb (length bytes) (length rec) ≡ t → Records (makes s x hidden f) s hidden rec (record { answer = Refused why; state = s }) hidden rec′
+      go : (t : Bool) → leb (length bytes) (length rec) ≡ t → Records (makes s x hidden f) s hidden rec (record { answer = Refused why; state = s }) p rec′
       go true q = let w : writes (length rec) ≡ ok (measure (suc (s .frame)) (s .next) hidden f) = writes-is (length rec) ∙ rw q in let z : _≡_ {A = ℕ} 0 1 = cc in absurd (omega arith)
       go false q =
           let w : writes (length rec) ≡ fault 51 = writes-is (length rec) ∙ rw q in
           let n : numberOf why ≡ 51 = cc in
-          record { steps = λ work. rw q (record { answer = rw n; state = refl; picture = refl; drawn = refl; written = rw e at h }) }
+          record { steps = λ work. rw q (record { answer = rw n; state = refl; picture = c .picture; drawn = refl; written = c .bytes }) }
 
-  pub records-fit : {size count : ℕ} {rec′ : List ℕ} → written n (s .next) hidden f (length rec) ≡ ok (record { length = size; changed = count })
-      → rec′ ≡ bufferAfter (recordBytes n (s .next) hidden f) rec (written n (s .next) hidden f (length rec))
-      → Records (makes s x hidden f) s hidden rec (record { answer = Taken (x .header .method) (x .header .time) count size; state = record { sizes = s .sizes; frame = n; next = x .next; end = s .end } }) f rec′
+  pub records-fit : {size count : ℕ} {rec′ p : List ℕ} → Commits n (s .next) hidden f rec (ok (record { length = size; changed = count })) rec′ p
+      → Records (makes s x hidden f) s hidden rec (record { answer = Taken (x .header .method) (x .header .time) count size; state = record { sizes = s .sizes; frame = n; next = x .next; end = s .end } }) p rec′
   unfolding writes bytes settle makes measure
-  records-fit {size} {count} {rec′} e₀ h₀ = go (leb (length bytes) (length rec)) refl
+  records-fit {size} {count} {rec′} {p} c = go (leb (length bytes) (length rec)) refl
     where
       e : writes (length rec) ≡ ok (record { length = size; changed = count })
-      e = rw en at e₀
-
-      h : rec′ ≡ bufferAfter bytes rec (writes (length rec))
-      h = rw en at h₀
+      e = rw en at (sym (c .answer))
 
       go : (t : Bool) → leb (length bytes) (length rec) ≡ t
-          → Records (makes s x hidden f) s hidden rec (record { answer = Taken (x .header .method) (x .header .time) count size; state = record { sizes = s .sizes; frame = n; next = x .next; end = s .end } }) f rec′
+          → Records (makes s x hidden f) s hidden rec (record { answer = Taken (x .header .method) (x .header .time) count size; state = record { sizes = s .sizes; frame = n; next = x .next; end = s .end } }) p rec′
       go false q = let w : writes (length rec) ≡ fault 51 = writes-is (length rec) ∙ rw q in let z : _≡_ {A = ℕ} 0 1 = cc in absurd (omega arith)
       go true q =
           let w : writes (length rec) ≡ ok (measure (suc (s .frame)) (s .next) hidden f) = writes-is (length rec) ∙ rw q in
           let n : record { length = size; changed = count } ≡ measure (suc (s .frame)) (s .next) hidden f = cc in
           let l = ap (λ (g : Measure). g .length) n in
           let d = ap (λ (g : Measure). g .changed) n in
-          record { steps = λ work. rw q (record { answer = rw (l, d); state = rw en; picture = refl; drawn = refl; written = rw e at h }) }
+          record { steps = λ work. rw q (record { answer = rw (l, d); state = rw en; picture = c .picture; drawn = refl; written = rw en at (c .bytes) }) }
 
 -- what was applied
 module _ {z : Sizes} {i : Items} {d f w g : List ℕ} where

@@ -9,7 +9,6 @@ ghost use Rattle.player.specs.BackLaws.{Restores};
 ghost use Rattle.player.specs.ReadyLaws.{readyOf, Fits};
 ghost use Rattle.player.specs.StepLaws.{Records, Builds};
 use anhd::FrameHeader;
-use buffer::copy;
 use delta::Applied;
 use frame::Next;
 use iff::Found;
@@ -83,7 +82,7 @@ fn ready(file: usize, state: State, a: usize, b: usize, work: usize) -> Begins
     }
 }
 
-// Records the frame in the work buffer and copies it to the hidden buffer, unless the record doesn't fit.
+// Records the frame in the work buffer and puts it into the hidden buffer, unless the record doesn't fit.
 fn record_frame(
     header: FrameHeader,
     next: usize,
@@ -97,29 +96,26 @@ fn record_frame(
 {
     let sizes = state.sizes;
     let frame = state.frame + 1;
-    let w = record::write(rec, frame as u32, state.next as u32, hidden, work);
+    let w = record::commit(rec, frame as u32, state.next as u32, hidden, work);
     match w {
         Recorded::Refused(why) => SteppedOn {
             answer: On::Refused(why),
             state,
         },
-        Recorded::Written { length, changed } => {
-            copy(hidden, work);
-            SteppedOn {
-                answer: On::Taken {
-                    method: header.method,
-                    time: header.time,
-                    changed,
-                    record: length,
-                },
-                state: State {
-                    sizes,
-                    frame,
-                    next,
-                    end: state.end,
-                },
-            }
-        }
+        Recorded::Written { length, changed } => SteppedOn {
+            answer: On::Taken {
+                method: header.method,
+                time: header.time,
+                changed,
+                record: length,
+            },
+            state: State {
+                sizes,
+                frame,
+                next,
+                end: state.end,
+            },
+        },
     }
 }
 
