@@ -175,6 +175,7 @@ pub fn commit(out: &mut [u8], frame: u32, place: u32, old: &mut [u8], new: &[u8]
     if !runs_fit(counts, old, new, out.len() - head) {
         return Recorded::Refused(Refusal::NoRoom);
     }
+    // Few changes go to the hidden picture run by run, more of them all at once.
     let few = counts.changed < old.len() / 8;
     let length = put_record(out, frame, place, runs, old, new, few);
     let all = old.len();

@@ -103,4 +103,4 @@ pub state-back : (x : State) → ((n : ℕ) → getD (stateWords x) n 0 < 184467
 unfolding stateIn stateWords
 state-back x b =
     let ns : List ℕ = stateWords x in
-    rw (word-back ns 0 b (omega arith), word-back ns 1 b (omega arith), word-back ns 2 b (omega arith), word-back ns 3 b (omega arith), word-back ns 4 b (omega arith), word-back ns 5 b (omega arith)) refl
+    rw (eq-eqb (length (wordsBytes ns)) 48 (words-length ns), word-back ns 0 b (omega arith), word-back ns 1 b (omega arith), word-back ns 2 b (omega arith), word-back ns 3 b (omega arith), word-back ns 4 b (omega arith), word-back ns 5 b (omega arith)) refl

@@ -26,14 +26,14 @@ unfoldable pub wordsBytes : List ℕ → List ℕ
 wordsBytes [] = []
 wordsBytes (n ∷ ns) = le64Bytes n ++ wordsBytes ns
 
--- the state in 48 bytes, and the six numbers of a state
+-- the state in 48 bytes; any other number of bytes holds six zeros
 unfoldable pub stateIn : List ℕ → State
-stateIn s = record {
-  sizes = record { width = le64 s 0; height = le64 s 8; planes = le64 s 16 };
-  frame = le64 s 24;
-  next = le64 s 32;
-  end = le64 s 40;
-}
+stateIn s =
+    pick (eqb (length s) 48)
+    (record { sizes = record { width = le64 s 0; height = le64 s 8; planes = le64 s 16 }; frame = le64 s 24; next = le64 s 32; end = le64 s 40 })
+    (record { sizes = record { width = 0; height = 0; planes = 0 }; frame = 0; next = 0; end = 0 })
+
+-- the six numbers of a state
 
 unfoldable pub stateWords : State → List ℕ
 stateWords x = x .sizes .width ∷ x .sizes .height ∷ x .sizes .planes ∷ x .frame ∷ x .next ∷ x .end ∷ []

@@ -2,24 +2,31 @@
 ghost use mathlib.Core.List.{[], _∷_};
 ghost use mathlib.Core.Path.{_≡_};
 ghost use Prim.Native.Nat.{_+_, _<_, _≤_};
-ghost use lib.ListN.{length};
+ghost use lib.ListN.{length, getD};
 ghost use Rattle.laws.specs.Put.{Put};
 ghost use Rattle.words.specs.Words.{le32, le64, le32Bytes, le64Bytes, stateIn, stateWords, lay};
-use buffer::byte;
 use state::Sizes;
 use state::State;
 
+fn byte_at(s: &[u8], at: usize) -> usize
+    requires { ⌜ at < length (now s) ⌝ }
+    ensures { λ r. ⌜ (r ≡ getD (now (s .entry)) at 0) × (r < 256) ⌝ }
+{
+    s[at] as usize
+}
+
 // The number in four bytes from a place on.
 fn number32(s: &[u8], at: usize) -> usize
-    requires { ⌜ at ≤ 64 ⌝ }
+    requires { ⌜ at + 4 ≤ length (now s) ⌝ }
     ensures { λ r. ⌜ (r ≡ le32 (now (s .entry)) at) × (r < 4294967296) ⌝ }
 {
-    byte(s, at) + 256 * byte(s, at + 1) + 65536 * byte(s, at + 2) + 16777216 * byte(s, at + 3)
+    let low = byte_at(s, at) + 256 * byte_at(s, at + 1);
+    low + 65536 * byte_at(s, at + 2) + 16777216 * byte_at(s, at + 3)
 }
 
 // The number in eight bytes from a place on.
 fn number64(s: &[u8], at: usize) -> usize
-    requires { ⌜ at ≤ 60 ⌝ }
+    requires { ⌜ at + 8 ≤ length (now s) ⌝ }
     ensures { λ r. ⌜ r ≡ le64 (now (s .entry)) at ⌝ }
 {
     number32(s, at) + 4294967296 * number32(s, at + 4)
@@ -46,10 +53,23 @@ fn put64(out: &mut [u8], at: usize, n: usize) -> usize
     put32(out, half, n / 4294967296)
 }
 
-// The state in a buffer; bytes past its end count as 0.
+// The state in a buffer of 48 bytes; any other holds six zeros.
 pub fn read_state(s: &[u8]) -> State
     ensures { λ r. ⌜ r ≡ stateIn (now (s .entry)) ⌝ }
 {
+    if s.len() != 48 {
+        let none = Sizes {
+            width: 0,
+            height: 0,
+            planes: 0,
+        };
+        return State {
+            sizes: none,
+            frame: 0,
+            next: 0,
+            end: 0,
+        };
+    }
     let sizes = Sizes {
         width: number64(s, 0),
         height: number64(s, 8),

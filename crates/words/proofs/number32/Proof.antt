@@ -1,18 +1,30 @@
 -- `words::number32`: the four bytes' bounds give the sum's.
-use Rattle.words.specs.Words.{le32}
 use native.Mathlib.Omega.{arith}
+use Rattle.words.specs.Words.{le32}
 use borrow.Author.Needs.{needs}
 use Rattle.words.proofs.number32.Statement.{statement}
 use Rattle.words.proofs.number32.Tie as tie
 
-byte-requires : tie.Need-byte-requires
-byte-requires c κs = search needs
+byte-at-requires : tie.Need-byte-at-requires
+byte-at-requires c κs = search needs
 
-add-byte : tie.Need-add-byte
-add-byte c = search needs
+add-byte-at : tie.Need-add-byte-at
+add-byte-at c = search needs
 
-byte-requires-2 : tie.Need-byte-requires-2
-byte-requires-2 c κs = search needs
+byte-at-requires-2 : tie.Need-byte-at-requires-2
+byte-at-requires-2 c κs = search needs
+
+mul-low : tie.Need-mul-low
+mul-low c = search needs
+
+add-low : tie.Need-add-low
+add-low c = search needs
+
+add-byte-at-2 : tie.Need-add-byte-at-2
+add-byte-at-2 c = search needs
+
+byte-at-requires-3 : tie.Need-byte-at-requires-3
+byte-at-requires-3 c κs = search needs
 
 mul-result : tie.Need-mul-result
 mul-result c = search needs
@@ -20,29 +32,17 @@ mul-result c = search needs
 add-result : tie.Need-add-result
 add-result c = search needs
 
-add-byte-2 : tie.Need-add-byte-2
-add-byte-2 c = search needs
+add-byte-at-3 : tie.Need-add-byte-at-3
+add-byte-at-3 c = search needs
 
-byte-requires-3 : tie.Need-byte-requires-3
-byte-requires-3 c κs = search needs
+byte-at-requires-4 : tie.Need-byte-at-requires-4
+byte-at-requires-4 c κs = search needs
 
 mul-result-2 : tie.Need-mul-result-2
 mul-result-2 c = search needs
 
 add-result-2 : tie.Need-add-result-2
 add-result-2 c = search needs
-
-add-byte-3 : tie.Need-add-byte-3
-add-byte-3 c = search needs
-
-byte-requires-4 : tie.Need-byte-requires-4
-byte-requires-4 c κs = search needs
-
-mul-result-3 : tie.Need-mul-result-3
-mul-result-3 c = search needs
-
-add-result-3 : tie.Need-add-result-3
-add-result-3 c = search needs
 
 returns : tie.Need-returns
 unfolding le32
@@ -52,17 +52,17 @@ pub number32-spec : {M : Type 1} → statement M
 number32-spec =
     tie.close
     (tie.spec
-    byte-requires
-    add-byte
-    byte-requires-2
+    byte-at-requires
+    add-byte-at
+    byte-at-requires-2
+    mul-low
+    add-low
+    add-byte-at-2
+    byte-at-requires-3
     mul-result
     add-result
-    add-byte-2
-    byte-requires-3
+    add-byte-at-3
+    byte-at-requires-4
     mul-result-2
     add-result-2
-    add-byte-3
-    byte-requires-4
-    mul-result-3
-    add-result-3
     returns)
