@@ -12,12 +12,12 @@ use Rattle.laws.specs.Result.{Res, Res.ok, Res.fault, answer, pick}
 use Rattle.laws.specs.Loop.{Step.next, Step.done, run, runs}
 use Rattle.laws.specs.Store.{over}
 use Rattle.opening.specs.declared.OpenedFile.{OpenedFile}
-use Rattle.opening.specs.Open.{Film, Opens, openingOf, pictureAfter, stateAfter, opening, firstSize}
+use Rattle.opening.specs.Open.{Film, MeetsOpen, openingOf, pictureAfter, stateAfter, opening, firstSize}
 use Rattle.state.specs.World.{World}
 use Rattle.player.specs.Step.{Answer, Answer.refused, Answer.ended, Answer.tookOn, Answer.tookBack, stepOn}
 use Rattle.listing.specs.Lines.{pictureLine, refusedLine, tooLarge}
 use Rattle.listing.specs.TextLaws.{Adds, adds-front, length-over}
-use Rattle.listing.specs.Listing.{Scene, says, leaves, lineOn, listStep, frames, shows, ROOM, front, behind, fronts, sized, listed, blank, listing, roomy, lent, lentText, Lists, MeetsList}
+use Rattle.listing.specs.Listing.{Scene, says, leaves, lineOn, listStep, frames, shows, opens, ROOM, front, behind, fronts, sized, listed, blank, listing, roomy, lent, lentText, Lists, MeetsList}
 
 -- what the work and the record buffer hold makes no difference to pictures, state and text
 record Alike (c d : Scene) : Type 0 where
@@ -75,23 +75,22 @@ pub lists-line : {c : Scene} {line out : List ℕ} {n : ℕ} {out′ : List ℕ}
 lists-line a b work rec e v = let t = adds-front v in rw e (record { text = t .0; count = t .1; left = refl; right = refl; drawn = refl; written = refl })
 
 -- an opening that is refused, and one that isn't
-module _ (file : List ℕ) (size room : ℕ) {q : Res Film} (a b work rec : List ℕ) {r : OpenedFile} {a′ b′ : List ℕ} (m : Opens q a b r a′ b′) where
-  pub shows-refused : {i : ℕ} {out : List ℕ} {n : ℕ} {out′ : List ℕ} → openingOf (r .answer) ≡ fault i → Adds out 0 (refusedLine i) out′ n
-      → Lists (shows file size room (blank a b work rec) q) out n a′ b′ work rec out′
-  unfolding shows
-  shows-refused {i} {out} {n} {out′} e v = go q (sym (m .answer) ∙ e) (m .left) (m .right)
+module _ (file a b work rec : List ℕ) {r : OpenedFile} {a′ b′ : List ℕ} (m : MeetsOpen file a b r a′ b′) where
+  pub opens-refused : {i : ℕ} {out : List ℕ} {n : ℕ} {out′ : List ℕ} → openingOf (r .answer) ≡ fault i → Adds out 0 (refusedLine i) out′ n → Lists (opens file a b work rec) out n a′ b′ work rec out′
+  unfolding opens shows
+  opens-refused {i} {out} {n} {out′} e v = go (opening file (length a) (length b)) (sym (m .answer) ∙ e) (m .left) (m .right)
     where
-      go : (p : Res Film) → answer p ≡ fault i → a′ ≡ pictureAfter a p → b′ ≡ pictureAfter b p → Lists (shows file size room (blank a b work rec) p) out n a′ b′ work rec out′
+      go : (p : Res Film) → answer p ≡ fault i → a′ ≡ pictureAfter a p → b′ ≡ pictureAfter b p → Lists (shows file (length work) (length rec) (blank a b work rec) p) out n a′ b′ work rec out′
       go (ok F) d l k = let z : _≡_ {A = ℕ} 0 1 = cc in absurd (omega arith)
       go (fault j) d l k = let f : j ≡ i = cc in rw (l, k, f) (lists-line a b work rec refl v)
 
-  pub shows-opened : {out : List ℕ} {n : ℕ} {a″ b″ work′ rec′ out′ : List ℕ} → openingOf (r .answer) ≡ ok tt
-      → Lists (frames file size room (record { world = record { a = a′; b = b′; state = r .state }; work = work; rec = rec; text = pictureLine (r .state .sizes) })) out n a″ b″ work′ rec′ out′
-      → Lists (shows file size room (blank a b work rec) q) out n a″ b″ work′ rec′ out′
-  unfolding shows
-  shows-opened {out} {n} {a″} {b″} {work′} {rec′} {out′} e v = go q (sym (m .answer) ∙ e) (m .left) (m .right) (m .state)
+  pub opens-opened : {out : List ℕ} {n : ℕ} {a″ b″ work′ rec′ out′ : List ℕ} → openingOf (r .answer) ≡ ok tt
+      → Lists (frames file (length work) (length rec) (record { world = record { a = a′; b = b′; state = r .state }; work = work; rec = rec; text = pictureLine (r .state .sizes) })) out n a″ b″ work′ rec′ out′
+      → Lists (opens file a b work rec) out n a″ b″ work′ rec′ out′
+  unfolding opens shows
+  opens-opened {out} {n} {a″} {b″} {work′} {rec′} {out′} e v = go (opening file (length a) (length b)) (sym (m .answer) ∙ e) (m .left) (m .right) (m .state)
     where
-      go : (p : Res Film) → answer p ≡ ok tt → a′ ≡ pictureAfter a p → b′ ≡ pictureAfter b p → r .state ≡ stateAfter p → Lists (shows file size room (blank a b work rec) p) out n a″ b″ work′ rec′ out′
+      go : (p : Res Film) → answer p ≡ ok tt → a′ ≡ pictureAfter a p → b′ ≡ pictureAfter b p → r .state ≡ stateAfter p → Lists (shows file (length work) (length rec) (blank a b work rec) p) out n a″ b″ work′ rec′ out′
       go (ok F) d l k s = rw (l, k, s) at v
       go (fault j) d l k s = let z : _≡_ {A = ℕ} 0 1 = cc in absurd (omega arith)
 
@@ -130,9 +129,9 @@ holds-less ha hb hw hr k = record { left = omega arith; right = omega arith; dra
 
 -- what is listed with the front parts of the buffers; the bytes behind them stay
 pub lists-front : (file a b work rec : List ℕ) {n : ℕ} → Holds n (length a) (length b) (length work) (length rec) → {out : List ℕ} {r : ℕ} {a′ b′ work′ rec′ out′ : List ℕ}
-    → Lists (shows file (length (take n work)) (length (take ROOM rec)) (blank (take n a) (take n b) (take n work) (take ROOM rec)) (opening file (length (take n a)) (length (take n b)))) out r a′ b′ work′ rec′ out′
+    → Lists (opens file (take n a) (take n b) (take n work) (take ROOM rec)) out r a′ b′ work′ rec′ out′
     → Lists (fronts file n (blank a b work rec)) out r (a′ ++ drop n a) (b′ ++ drop n b) (work′ ++ drop n work) (rec′ ++ drop ROOM rec) out′
-unfolding fronts
+unfolding fronts opens
 lists-front file a b work rec {n} h {out} {r} {a′} {b′} {work′} {rec′} {out′} v =
     let v′ : Lists (shows file n ROOM (front n (blank a b work rec)) (opening file n n)) out r a′ b′ work′ rec′ out′ =
     rw (length-take-le n a (h .left), length-take-le n b (h .right), length-take-le n work (h .drawn), length-take-le ROOM rec (h .written)) at v in

@@ -53,6 +53,14 @@ shows file size room c (ok F) =
     (record { world = record { a = F .first; b = F .first; state = opened (F .sizes) (F .start) (F .end) }; work = c .work; rec = c .rec; text = c .text ++ pictureLine (F .sizes) })
 shows file size room c (fault n) = says c (refusedLine n)
 
+-- before anything is listed
+abbrev pub blank : (a b work rec : List ℕ) → Scene
+blank a b work rec = record { world = record { a = a; b = b; state = zeros }; work = work; rec = rec; text = [] }
+
+-- a file that is opened with these buffers
+unfoldable pub opens : (file a b work rec : List ℕ) → Scene
+opens file a b work rec = shows file (length work) (length rec) (blank a b work rec) (opening file (length a) (length b))
+
 -- the length of the record buffer: a record has at most twice the frame's bytes and 16 more (`record-short`), 32,784 for the longest
 -- frame, so that no longer buffer makes a difference (`room-enough`)
 abbrev pub ROOM : ℕ
@@ -86,10 +94,6 @@ sized file c (fault n) = says c (refusedLine n)
 
 unfoldable pub listed : List ℕ → Scene → Scene
 listed file c = pick (leb (length file) 65_536) (sized file c (firstSize file)) (says c tooLarge)
-
--- before anything is listed
-abbrev pub blank : (a b work rec : List ℕ) → Scene
-blank a b work rec = record { world = record { a = a; b = b; state = zeros }; work = work; rec = rec; text = [] }
 
 -- the text of a file: what the buffers hold makes no difference (`text-same`)
 unfoldable pub listing : List ℕ → List ℕ

@@ -3,10 +3,9 @@ ghost use mathlib.Core.List.{[], _∷_, _++_};
 ghost use Prim.Native.Nat.{_≤_};
 ghost use lib.ListN.{length};
 ghost use Rattle.listing.specs.Lines.{decimal, tooLarge, refusedLine, endLine, pictureLine, frameLine};
-ghost use Rattle.listing.specs.Listing.{frames, shows, fronts, listed, blank, Lists, MeetsList};
+ghost use Rattle.listing.specs.Listing.{frames, opens, fronts, listed, blank, Lists, MeetsList};
 ghost use Rattle.listing.specs.FileLaws.{Holds};
 ghost use Rattle.listing.specs.TextLaws.{Adds};
-ghost use Rattle.opening.specs.Open.{opening};
 ghost use Rattle.refusal.specs.Number.{numberOf};
 use buffer::copy;
 use opening::Opening;
@@ -171,7 +170,7 @@ fn list_film(
     rec: &mut [u8],
     out: &mut [u8],
 ) -> usize
-    ensures { λ r. ⌜ Lists (shows (now (file .entry)) (length (now (work .entry))) (length (now (rec .entry))) (blank (now (a .entry)) (now (b .entry)) (now (work .entry)) (now (rec .entry))) (opening (now (file .entry)) (length (now (a .entry))) (length (now (b .entry))))) (now (out .entry)) r (now (a .exit)) (now (b .exit)) (now (work .exit)) (now (rec .exit)) (now (out .exit)) ⌝ }
+    ensures { λ r. ⌜ Lists (opens (now (file .entry)) (now (a .entry)) (now (b .entry)) (now (work .entry)) (now (rec .entry))) (now (out .entry)) r (now (a .exit)) (now (b .exit)) (now (work .exit)) (now (rec .exit)) (now (out .exit)) ⌝ }
 {
     let o = opening::open(file, a, b);
     let state = o.state;

@@ -1,5 +1,5 @@
 -- `listing::list_film`: an opening, then its frames.
-use Rattle.listing.specs.FileLaws.{shows-refused, shows-opened}
+use Rattle.listing.specs.FileLaws.{opens-refused, opens-opened}
 use Rattle.opening.specs.Open.{openingOf}
 use mathlib.Core.Path.{ap}
 use borrow.Author.Needs.{needs}
@@ -31,7 +31,7 @@ same-length-3 : tie.Need-same-length-3
 same-length-3 c = search needs
 
 returns : tie.Need-returns
-returns c = shows-refused _ _ _ _ _ _ _ (c .before .before .before .before .before .before .before .before .before .before .before .before .«open» .ensures) (ap openingOf (c .before .before .before .before .before .answer .given .1)) (c .before .before .put-refused .ensures)
+returns c = opens-refused _ _ _ _ _ (c .before .before .before .before .before .before .before .before .before .before .before .before .«open» .ensures) (ap openingOf (c .before .before .before .before .before .answer .given .1)) (c .before .before .put-refused .ensures)
 
 same-length-4 : tie.Need-same-length-4
 same-length-4 c = search needs
@@ -49,7 +49,7 @@ same-length-8 : tie.Need-same-length-8
 same-length-8 c = search needs
 
 returns-2 : tie.Need-returns-2
-returns-2 c = shows-opened _ _ _ _ _ _ _ (c .before .before .before .before .before .before .before .before .before .before .before .before .before .before .before .before .before .before .before .before .before .before .before .«open» .ensures) (ap openingOf (c .before .before .before .before .before .before .before .before .before .before .before .before .before .before .before .before .enum-told .given .1)) (c .before .before .before .before .before .before .before .before .before .before .list-frames .ensures)
+returns-2 c = opens-opened _ _ _ _ _ (c .before .before .before .before .before .before .before .before .before .before .before .before .before .before .before .before .before .before .before .before .before .before .before .«open» .ensures) (ap openingOf (c .before .before .before .before .before .before .before .before .before .before .before .before .before .before .before .before .enum-told .given .1)) (c .before .before .before .before .before .before .before .before .before .before .list-frames .ensures)
 
 pub list-film-spec : {M : Type 1} → statement M
 list-film-spec =
