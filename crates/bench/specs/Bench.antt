@@ -10,8 +10,8 @@ use Rattle.laws.specs.Bytes.{be16, be32}
 use Rattle.state.specs.State.{rowBytes, frameBytes, frameLength, stateLength, opened}
 use Rattle.state.specs.declared.Sizes.{Sizes}
 use Rattle.number.specs.Number.{readNumber, groups, lastGroup, writeNumber, writeGroups}
-use Rattle.runs.specs.Runs.{kept, changed, runsOf}
-use Rattle.record.specs.RunList.{changes, runBytes, runsBytes, listBytes}
+use Rattle.runs.specs.Runs.{kept, changed, runsOf, differing}
+use Rattle.record.specs.RunList.{runBytes, runsBytes, listBytes}
 use Rattle.record.specs.Record.{recordBytes}
 use Rattle.iff.specs.Chunk.{chunkAt, find}
 use Rattle.form.specs.Form.{animEnd, nextFrame}
@@ -120,5 +120,5 @@ table =
 
 -- every example comes to what the paper says
 pub bench : map (λ (r : Row). r .comes) table ≡ map (λ (r : Row). r .says) table
-unfolding table film runs be16 be32 rowBytes frameBytes frameLength stateLength readNumber groups lastGroup writeNumber writeGroups kept changed runsOf changes runBytes runsBytes listBytes recordBytes chunkAt find animEnd nextFrame header unpackRow packetAt body rowsFrom rowAt place drawRows frameHeader byteAt skip fill readOp readOps readColumn readColumns pointer readPlane readPlanes readPicture readDelta put draw readFrame newFrame join groupsOf loose stretch restOf uniqs cut cutAll opsOf columnOps opBytes opsBytes columnBytes columnAt columnIn columnsBytes equal planeBytes be32Bytes pointerOf pointersBytes listsBytes deltaBytes written findBoth frameIn frameAt placesIn firstPlaces firstOf opening isOdd shownOf hiddenOf ready change makes advance settle onHidden stepOn
+unfolding table film runs be16 be32 rowBytes frameBytes frameLength stateLength readNumber groups lastGroup writeNumber writeGroups kept changed runsOf differing runBytes runsBytes listBytes recordBytes chunkAt find animEnd nextFrame header unpackRow packetAt body rowsFrom rowAt place drawRows frameHeader byteAt skip fill readOp readOps readColumn readColumns pointer readPlane readPlanes readPicture readDelta put draw readFrame newFrame join groupsOf loose stretch restOf uniqs cut cutAll opsOf columnOps opBytes opsBytes columnBytes columnAt columnIn columnsBytes equal planeBytes be32Bytes pointerOf pointersBytes listsBytes deltaBytes written findBoth frameIn frameAt placesIn firstPlaces firstOf opening isOdd shownOf hiddenOf ready change makes advance settle onHidden stepOn
 bench = refl

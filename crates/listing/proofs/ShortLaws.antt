@@ -8,10 +8,9 @@ use mathlib.Core.Option.{Option, none, some}
 use mathlib.Core.Path.{ap, _∙_}
 use mathlib.Core.Bool.{_||_}
 use lib.Dec.{leb, eqb, lit<}
-use lib.ListN.{length, getD, take, drop, length-append, length-take, List·getD-eq-default}
-use lib.Seq.{getD-take}
+use lib.ListN.{length, getD, drop, length-append, length-take}
 use borrow.Author.Tests.{leb-true}
-use Rattle.laws.specs.Bytes.{be32, Bytes, be32-bound, bytes-drop}
+use Rattle.laws.specs.Bytes.{bytes-take, be32, Bytes, be32-bound, bytes-drop}
 use Rattle.laws.specs.Result.{Res, Res.ok, Res.fault, _>>=_, orRefuse}
 use Rattle.laws.specs.ResultLaws.{Each, Each.each, Each.no-value, each-bind, each-need, All, All.all-some, All.all-none, all-value}
 use Rattle.state.specs.declared.Sizes.{Sizes}
@@ -25,9 +24,6 @@ use Rattle.anhd.specs.declared.FrameHeader.{FrameHeader}
 use Rattle.anhd.specs.declared.Items.{Items}
 use Rattle.delta.specs.Delta.{shapeOf, readPicture, readDelta}
 use Rattle.frame.specs.Frame.{ANHD, DLTA, Frame, frameIn, frameOr, frameAt}
-use Rattle.runs.specs.Runs.{Run}
-use Rattle.record.specs.RunList.{changes, runBytes, runsBytes}
-use Rattle.record.specs.RunLaws.{run-length}
 use Rattle.player.specs.Step.{Report}
 use Rattle.listing.specs.Lines.{decimal, frameLine, refusedLine, endLine, pictureLine}
 use Rattle.listing.specs.TextLaws.{decimal-digit, decimal-more}
@@ -52,13 +48,6 @@ delta-long z i d = each-bind (each-need (leb 64 (length d)) 41 _ λ h. all-long 
     all-long : {A : Type 0} (r : Res A) → 64 ≤ length d → Each (λ _. 64 ≤ length d) r
     all-long (ok a) h = each h
     all-long (fault n) h = no-value
-
-pub bytes-take : (n : ℕ) (s : List ℕ) → Bytes s → Bytes (take n s)
-bytes-take n s h i = go (decLt i n)
-  where
-    go : Dec (i < n) → getD (take n s) i 0 < 256
-    go (yes l) = rw (getD-take n s i 0 l) (h i)
-    go (no l) = let m : length (take n s) ≤ i = omega (arith, length-take n s) in rw (List·getD-eq-default (take n s) 0 {n = i} m) (omega arith)
 
 -- what a later frame says, and how much of FORM ANIM it takes
 pub record Holds (at : ℕ) (x : Frame) : Type 0 where
@@ -97,11 +86,6 @@ pub record Tells (r : Report) : Type 0 where
   pub time : r .time < 10_000_000_000
   pub changed : r .changed < 100_000
   pub length : r .length < 100_000
-
-pub changes-short : (rs : List Run) → changes rs ≤ length (runsBytes rs)
-unfolding changes runsBytes
-changes-short [] = omega arith
-changes-short (r ∷ rs) = omega (arith, length-append (runBytes r) (runsBytes rs), run-length r, changes-short rs)
 
 -- a frame's line has at most 68 bytes
 pub frame-line-short : (n : ℕ) (r : Report) → n < 10_000_000 → Tells r → length (frameLine n r) ≤ 68

@@ -9,7 +9,7 @@ use mathlib.Core.Path.{_≡_, refl, sym, _∙_}
 use lib.Dec.{leb, eqb}
 use lib.ListN.{length, take, length-take, length-append}
 use borrow.Author.Tests.{eqb-true, leb-true}
-use Rattle.laws.specs.Bytes.{Bytes}
+use Rattle.laws.specs.Bytes.{Bytes, bytes-take}
 use Rattle.laws.specs.Result.{Res, Res.ok, Res.fault, _>>=_, pick}
 use Rattle.laws.specs.ResultLaws.{Each, Each.each, Each.no-value, each-bind, each-need, each-is, All, All.all-some, All.all-none, all-value}
 use Rattle.laws.specs.LoopLaws.{Comes, Comes.comes-next, Comes.comes-done, runs-holds}
@@ -23,7 +23,6 @@ use Rattle.delta.specs.Delta.{shapeOf}
 use Rattle.delta.specs.DeltaLaws.{draw-length}
 use Rattle.frame.specs.Frame.{Frame, frameAt}
 use Rattle.frame.specs.FrameLaws.{frame-rises}
-use Rattle.runs.specs.Runs.{runsOf}
 use Rattle.opening.specs.Open.{Film, bmhdAt, bodyAt, firstSize, firstOf, opening, First}
 use Rattle.opening.specs.OpenLaws.{places-lie}
 use Rattle.state.specs.World.{World, isOdd, shownOf, hiddenOf}
@@ -32,8 +31,9 @@ use Rattle.player.specs.OutcomeLaws.{on-put}
 use Rattle.player.specs.ReadyLaws.{ready-passed}
 use Rattle.listing.specs.Lines.{frameLine, endLine, refusedLine, pictureLine, tooLarge}
 use Rattle.listing.specs.Listing.{Scene, says, leaves, lineOn, listStep, frames, shows, ROOM, front, behind, fronts, sized, listed, blank, listing}
-use Rattle.listing.specs.RoomLaws.{runs-short, record-short}
-use Rattle.listing.proofs.ShortLaws.{Holds, frame-holds, delta-long, Tells, changes-short, frame-line-short, end-line-short, refused-line-short, picture-line-short, bytes-take}
+use Rattle.runs.specs.CountLaws.{differing-short}
+use Rattle.record.specs.RoomLaws.{record-short}
+use Rattle.listing.proofs.ShortLaws.{Holds, frame-holds, delta-long, Tells, frame-line-short, end-line-short, refused-line-short, picture-line-short}
 use Rattle.listing.proofs.LowLaws.{Low, Low.low-fault, size-low, opening-low, on-low}
 
 -- what a frame that is made comes to
@@ -69,7 +69,7 @@ module _ (file : List ℕ) (s : State) (shown hidden : List ℕ) (bytes : Bytes 
       let q : Tells (makes s x hidden f .report) = record {
         method = omega (arith, t .method);
         time = omega (arith, t .time);
-        changed = omega (arith, changes-short (runsOf hidden f), runs-short hidden f);
+        changed = omega (arith, differing-short hidden f);
         length = omega (arith, record-short (suc (s .frame)) (s .next) hidden f);
       } in
       each (all-some (record { few = few; rises = r; ends = n; picture = p; tells = q }))

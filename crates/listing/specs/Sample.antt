@@ -7,7 +7,7 @@ use Rattle.laws.specs.Bytes.{be16, be32}
 use Rattle.laws.specs.Loop.{runs}
 use Rattle.state.specs.State.{rowBytes, frameBytes, frameLength, stateLength}
 use Rattle.number.specs.Number.{writeGroups, writeNumber}
-use Rattle.runs.specs.Runs.{kept, changed, runsOf}
+use Rattle.runs.specs.Runs.{kept, changed, runsOf, differing}
 use Rattle.iff.specs.Chunk.{chunkAt, find}
 use Rattle.form.specs.Form.{animEnd, nextFrame}
 use Rattle.iff.specs.Pair.{findBoth}
@@ -17,7 +17,7 @@ use Rattle.anhd.specs.Anhd.{frameHeader}
 use Rattle.delta.specs.Delta.{byteAt, skip, fill, readOp, readOps, readColumn, readColumns, pointer, readPlane, readPlanes, readPicture, readDelta, put, draw}
 use Rattle.frame.specs.Frame.{frameIn, frameAt}
 use Rattle.opening.specs.Open.{placesIn, firstPlaces, firstSize, firstOf, opening}
-use Rattle.record.specs.RunList.{changes, runBytes, runsBytes, listBytes}
+use Rattle.record.specs.RunList.{runBytes, runsBytes, listBytes}
 use Rattle.record.specs.Record.{recordBytes}
 use Rattle.state.specs.World.{isOdd, shownOf, hiddenOf}
 use Rattle.player.specs.Step.{ready, change, makes, advance, settle, onHidden, stepOn}
@@ -36,5 +36,5 @@ sample =
     ++ ascii "DLTA" ++ (0 ∷ 0 ∷ 0 ∷ 69 ∷ 0 ∷ 0 ∷ 0 ∷ 64 ∷ []) ++ replicate 60 0 ++ (1 ∷ 0x82 ∷ 0xAA ∷ 0xBB ∷ 0 ∷ 0 ∷ [])
 
 sample-text : listing sample ≡ ascii "picture 16x2x1\nframe 2 method 5 time 3 changed 2 record 9\nend 2\n"
-unfolding listing listed fronts shows frames decimal endLine pictureLine frameLine stepOn onHidden settle hiddenOf shownOf isOdd ready advance change makes recordBytes changes runBytes runsBytes listBytes opening firstOf firstSize firstPlaces placesIn frameAt frameIn readDelta readPicture readPlanes readPlane pointer readColumns readColumn readOps readOp byteAt skip fill draw put frameHeader body drawRows place rowsFrom rowAt header findBoth nextFrame animEnd find chunkAt runsOf changed kept writeNumber writeGroups stateLength frameLength frameBytes rowBytes runs be32 be16
+unfolding listing listed fronts shows frames decimal endLine pictureLine frameLine stepOn onHidden settle hiddenOf shownOf isOdd ready advance change makes recordBytes differing runBytes runsBytes listBytes opening firstOf firstSize firstPlaces placesIn frameAt frameIn readDelta readPicture readPlanes readPlane pointer readColumns readColumn readOps readOp byteAt skip fill draw put frameHeader body drawRows place rowsFrom rowAt header findBoth nextFrame animEnd find chunkAt runsOf changed kept writeNumber writeGroups stateLength frameLength frameBytes rowBytes runs be32 be16
 sample-text = refl

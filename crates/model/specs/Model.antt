@@ -7,8 +7,7 @@ use lib.Dec.{leb, ltb, eqb}
 use lib.ListN.{length, take}
 use Rattle.laws.specs.Result.{Res, Res.ok, Res.fault, pick, orKeep}
 use Rattle.state.specs.State.{rowBytes, frameBytes}
-use Rattle.runs.specs.Runs.{runsOf}
-use Rattle.record.specs.RunList.{changes}
+use Rattle.runs.specs.Runs.{differing}
 use Rattle.record.specs.Record.{recordBytes, Past, pastOf}
 use Rattle.frame.specs.Frame.{Frame, frameAt}
 use Rattle.opening.specs.Open.{Film}
@@ -70,7 +69,7 @@ unfoldable pub reportAt : Film → ℕ → Frame → Report
 reportAt F m x = record {
   method = x .header .method;
   time = x .header .time;
-  changed = changes (runsOf (picture F m) (picture F (suc (suc m))));
+  changed = differing (picture F m) (picture F (suc (suc m)));
   length = length (recordAt F m);
 }
 

@@ -64,6 +64,15 @@ pub more-written : (k n : ℕ) → 128 ≤ n → writeGroups (suc k) n ≡ (128 
 unfolding writeGroups
 more-written k n h = rw (le-ltb n 128 h, writeGroups)
 
+-- no more bytes than groups
+pub groups-most : (k n : ℕ) → length (writeGroups k n) ≤ suc k
+groups-most zero n = unfold writeGroups in omega arith
+groups-most (suc k) n = go (decLt n 128) (groups-most k (n / 128))
+  where
+    go : Dec (n < 128) → length (writeGroups k (n / 128)) ≤ suc k → length (writeGroups (suc k) n) ≤ suc (suc k)
+    go (yes h) ih = rw (last-written (suc k) n h) (omega arith)
+    go (no h) ih = rw (more-written k n (omega arith)) (omega arith)
+
 -- one byte, and at most one more for each 128
 pub groups-short : (k n : ℕ) → length (writeGroups k n) ≤ 1 + n / 128
 groups-short zero n = unfold writeGroups in omega arith

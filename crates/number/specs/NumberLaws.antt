@@ -12,7 +12,7 @@ use lib.Seq.{sets}
 use borrow.Author.Tests.{le-leb, lt-leb}
 use Rattle.laws.specs.Bytes.{Bytes, bytes-drop}
 use Rattle.number.specs.Number.{Value, readNumber, writeNumber, readOf, Within, ReadAt, fits, after, laid}
-use Rattle.number.specs.GroupLaws.{last-written, more-written, groups-short, high-below, Encoded, encoded, encoded-is, wider, encoded-length, encoded-bytes, read-back, Decoded, decoded, Front, decoded-front, decoded-taken}
+use Rattle.number.specs.GroupLaws.{last-written, more-written, groups-most, groups-short, high-below, Encoded, encoded, encoded-is, wider, encoded-length, encoded-bytes, read-back, Decoded, decoded, Front, decoded-front, decoded-taken}
 use Rattle.number.specs.declared.Parsed.{Parsed}
 use Rattle.number.specs.declared.Parsed.the-variants.{Number, Malformed}
 
@@ -42,6 +42,10 @@ write-encoded n h = encoded 4 n (omega arith)
 
 pub write-length : (n : ℕ) → n < 2 ^ 32 → (1 ≤ length (writeNumber n)) × (length (writeNumber n) ≤ 5)
 write-length n h = encoded-length (write-encoded n h)
+
+pub write-most : (n : ℕ) → length (writeNumber n) ≤ 5
+unfolding writeNumber
+write-most n = groups-most 4 n
 
 pub write-short : (n : ℕ) → length (writeNumber n) ≤ 1 + n / 128
 unfolding writeNumber

@@ -11,8 +11,7 @@ use Rattle.state.specs.State.{rowBytes, stateLength}
 use Rattle.state.specs.declared.Sizes.{Sizes}
 use Rattle.state.specs.declared.State.{State}
 use Rattle.state.specs.World.{World, isOdd, shownOf, hiddenOf}
-use Rattle.runs.specs.Runs.{runsOf}
-use Rattle.record.specs.RunList.{changes}
+use Rattle.runs.specs.Runs.{differing}
 use Rattle.record.specs.Record.{recordBytes, Past, restored}
 use Rattle.delta.specs.Delta.{shapeOf, readDelta, draw}
 use Rattle.frame.specs.Frame.{Frame, frameAt}
@@ -61,7 +60,7 @@ pub record Made : Type 0 where
   pub bytes : List ℕ
 
 abbrev pub reportOf : State → Frame → List ℕ → List ℕ → Report
-reportOf s x hidden f = record { method = x .header .method; time = x .header .time; changed = changes (runsOf hidden f); length = length (recordBytes (suc (s .frame)) (s .next) hidden f) }
+reportOf s x hidden f = record { method = x .header .method; time = x .header .time; changed = differing hidden f; length = length (recordBytes (suc (s .frame)) (s .next) hidden f) }
 
 unfoldable pub makes : State → Frame → List ℕ → List ℕ → Made
 makes s x hidden f = record { picture = f; next = x .next; report = reportOf s x hidden f; bytes = recordBytes (suc (s .frame)) (s .next) hidden f }

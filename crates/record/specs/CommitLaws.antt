@@ -1,10 +1,9 @@
 -- The hidden picture while its runs are written: where that is asked for, each run's new bytes take the place of the old ones.
-use Prim.Native.Nat.{ℕ, _+_, _≤_}
-use native.Mathlib.Nat.{add-assoc}
+use Prim.Native.Nat.{ℕ, _+_}
 use native.Mathlib.Omega.{arith}
 use mathlib.Core.Bool.{Bool, true, false, not}
 use mathlib.Core.List.{List, _++_, append-nil}
-use mathlib.Core.Path.{_≡_, refl, sym, ap, _∙_}
+use mathlib.Core.Path.{_≡_, refl, sym, _∙_}
 use lib.ListN.{length, take, drop, drop-of-length-le, take-append-drop, length-append, length-drop}
 use lib.Seq.{sets, length-sets, sets-eq, take-add, length-take-le, take-all, take-at, drop-at}
 use Rattle.laws.specs.Result.{pick}

@@ -5,8 +5,8 @@ use mathlib.Core.Option.{none, some}
 use mathlib.Core.Path.{_≡_, refl}
 use Rattle.laws.specs.Result.{Res.ok, Res.fault}
 use Rattle.number.specs.Number.{readNumber, groups, lastGroup, writeNumber, writeGroups}
-use Rattle.runs.specs.Runs.{kept, changed, runsOf, differ}
-use Rattle.record.specs.RunList.{changes, runBytes, runsBytes, listBytes, readRun, readRuns, readList, putBack, runsBack, beforeOf}
+use Rattle.runs.specs.Runs.{kept, changed, runsOf, differ, differing}
+use Rattle.record.specs.RunList.{runBytes, runsBytes, listBytes, readRun, readRuns, readList, putBack, runsBack, beforeOf}
 use Rattle.record.specs.Record.{recordBytes, measure, written, pastOf, restored}
 
 zeros : List ℕ
@@ -25,7 +25,7 @@ p10-written = refl
 
 -- into a buffer of nine bytes, and of eight
 p10-measured : map (written 2 64 zeros reached) (9 ∷ 8 ∷ []) ≡ ok (record { length = 9; changed = 2 }) ∷ fault 51 ∷ []
-unfolding zeros reached written measure changes recordBytes writeNumber writeGroups kept changed runsOf runBytes runsBytes listBytes
+unfolding zeros reached written measure differing recordBytes writeNumber writeGroups kept changed runsOf runBytes runsBytes listBytes
 p10-measured = refl
 
 -- at the next place 69, and at 64, which isn't past the record's

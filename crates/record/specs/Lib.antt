@@ -4,8 +4,8 @@ pub mod Walk
 pub mod RunLaws
 pub mod PutLaws
 pub mod RecordLaws
-pub mod RoundLaws
 pub mod RoomLaws
+pub mod RoundLaws
 pub mod CommitLaws
 pub mod LengthLaws
 pub mod Examples

@@ -9,8 +9,8 @@ use lib.ListN.{length, drop}
 use Rattle.laws.specs.Result.{Res, Res.ok, Res.fault, _>>=_, need, orRefuse, _>>?_, given}
 use Rattle.number.specs.Number.{readNumber, writeNumber}
 use Rattle.refusal.specs.Number.{numberOf}
-use Rattle.runs.specs.Runs.{runsOf}
-use Rattle.record.specs.RunList.{changes, listBytes, beforeOf}
+use Rattle.runs.specs.Runs.{runsOf, differing}
+use Rattle.record.specs.RunList.{listBytes, beforeOf}
 use Rattle.record.specs.declared.Recorded.{Recorded}
 use Rattle.record.specs.declared.Recorded.the-variants.{Written, Refused}
 
@@ -24,7 +24,7 @@ pub record Measure : Type 0 where
   pub changed : ℕ
 
 unfoldable pub measure : ℕ → ℕ → List ℕ → List ℕ → Measure
-measure frame place old new = record { length = length (recordBytes frame place old new); changed = changes (runsOf old new) }
+measure frame place old new = record { length = length (recordBytes frame place old new); changed = differing old new }
 
 -- a record written into a buffer of room bytes: 12 for pictures of two lengths or longer than a frame can be, then 51
 unfoldable pub written : ℕ → ℕ → List ℕ → List ℕ → ℕ → Res Measure

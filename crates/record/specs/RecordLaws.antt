@@ -16,7 +16,7 @@ use Rattle.runs.specs.declared.Counts.{Counts}
 use Rattle.record.specs.RunList.{runsBytes, listBytes}
 use Rattle.record.specs.Record.{recordBytes, measure, written, Commits}
 use Rattle.laws.specs.Put.{Put}
-use Rattle.record.specs.RoundLaws.{count-runs, changes-runs}
+use Rattle.record.specs.RoundLaws.{count-runs}
 use Rattle.record.specs.Walk.{Counted}
 use Rattle.laws.specs.Put.{put-then}
 
@@ -72,7 +72,7 @@ module _ (frame place : ℕ) (old new : List ℕ) where
         is-written left picture size changed h f p q =
             let e : size ≡ length (recordBytes frame place old new) = p .place ∙ zero-add (length (recordBytes frame place old new)) in
             record {
-              answer = sym (simp (eq-eqb _ _ l, le-leb _ _ s, le-leb _ _ h, e, f, changes-runs));
+              answer = sym (simp (eq-eqb _ _ l, le-leb _ _ s, le-leb _ _ h, e, f));
               bytes = p .left ∙ sets-eq (recordBytes frame place old new) out 0 (omega arith) ∙ rw (zero-add (length (recordBytes frame place old new)));
               picture = q;
             }

@@ -17,7 +17,7 @@ use Rattle.runs.specs.RunLaws.{runs-kept, runs-changed, changed-joins, changed-
 use Rattle.runs.specs.CountLaws.{count-kept}
 use Rattle.runs.specs.StretchLaws.{by-test}
 use Rattle.runs.specs.DifferLaws.{differ-more}
-use Rattle.record.specs.RunList.{changes, runBytes, runsBytes, listBytes, readRun, readRuns, readList, putBack, runsBack, beforeOf}
+use Rattle.record.specs.RunList.{runBytes, runsBytes, listBytes, readRun, readRuns, readList, putBack, runsBack, beforeOf}
 use Rattle.record.specs.Record.{recordBytes, pastOf}
 
 -- two buffers byte by byte: what holds of none, and goes on over a kept and over a changed byte, holds of their runs
@@ -31,7 +31,11 @@ module _ (P : List ℕ → List ℕ → List Run → Type 0) (at-end : (new : Li
       let ih = by-runs old new in
       by-test true (eqb a b) (λ e. rw (runs-kept a b old new e) (on-kept a b old new (runsOf old new) e ih)) (λ e. rw (runs-changed a b old new e) (on-changed a b old new (runsOf old new) e ih))
 
--- the changes are the places that differ
+-- the bytes of runs are those that differ
+unfoldable pub changes : List Run → ℕ
+changes [] = 0
+changes (r ∷ rs) = length (r .old) + changes rs
+
 changes-kept : (rs : List Run) → changes (kept rs) ≡ changes rs
 unfolding changes kept
 changes-kept [] = refl
@@ -132,6 +136,11 @@ pub fit-runs : (old new : List ℕ) → Fit 0 (length new) (runsOf old new)
 fit-runs =
     by-runs (λ old new rs. Fit 0 (length new) rs) (λ new. unfold Fit in tt) (λ a old. unfold Fit in tt)
     (λ a b old new rs e ih. fit-kept (length new) rs ih) (λ a b old new rs e ih. fit-changed a (length new) rs ih)
+
+pub fit-old : (old new : List ℕ) → Fit 0 (length old) (runsOf old new)
+fit-old =
+    by-runs (λ old new rs. Fit 0 (length old) rs) (λ new. unfold Fit in tt) (λ a old. unfold Fit in tt)
+    (λ a b old new rs e ih. fit-kept (length old) rs ih) (λ a b old new rs e ih. fit-changed a (length old) rs ih)
 
 -- there are no more runs than bytes
 count-changed : (a : ℕ) (rs : List Run) → length (changed a rs) ≤ suc (length rs)

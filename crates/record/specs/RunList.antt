@@ -10,11 +10,6 @@ use Rattle.laws.specs.Result.{_>>?_, given}
 use Rattle.number.specs.Number.{readNumber, writeNumber}
 use Rattle.runs.specs.Runs.{Run, differ}
 
--- the number of bytes that changed
-unfoldable pub changes : List Run → ℕ
-changes [] = 0
-changes (r ∷ rs) = length (r .old) + changes rs
-
 -- the bytes of one run, of several, and of a run list
 unfoldable pub runBytes : Run → List ℕ
 runBytes r = writeNumber (r .gap) ++ writeNumber (length (r .old)) ++ r .old

@@ -22,7 +22,7 @@ module _ (old new : List ℕ) {c : Counts} (l : length old ≡ length new) (e : 
 
   -- room for what the counts allow is enough
   enough : {room : ℕ} → 2 * c .runs + c .changed + length old / 128 ≤ room → length (runsBytes (runsOf old new)) ≤ room
-  enough h = omega (arith, h, runs-room old new l, runs-counted old new l e, changed-counted old new l e)
+  enough h = omega (arith, h, runs-room old new, runs-counted old new l e, changed-counted old new l e)
 
 mul-if1 : tie.Need-mul-if1
 mul-if1 c = let b = c .before .before .before in omega (arith, few (b .args .old .now) (b .args .new .now) (b .pre .0) (b .pre .2))
