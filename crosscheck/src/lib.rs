@@ -8,3 +8,4 @@ pub mod library;
 pub mod pair;
 pub mod plain;
 pub mod random;
+pub mod vectors;

@@ -2,28 +2,19 @@
 use super::{play, Check};
 use crate::cover::state_in;
 use crate::pair::{Checked, Player};
-use crate::plain;
-use std::path::Path;
+use crate::{plain, vectors};
 
 pub fn run(check: &mut Check) -> Checked<()> {
-    let folder = Path::new(env!("CARGO_MANIFEST_DIR")).join("vectors");
-    for number in 1..=58 {
-        let file = read(&folder.join(format!("{number:03}.anim")))?;
-        let wanted = read(&folder.join(format!("{number:03}.txt")))?;
-        let wanted = String::from_utf8_lossy(&wanted);
-        let listings = [("library", list(check, &file)?), ("plain", plain::list(&file))];
+    for vector in vectors::all()? {
+        let listings = [("library", list(check, &vector.file)?), ("plain", plain::list(&vector.file))];
         for (side, listing) in listings {
-            if listing != wanted {
-                return Err(format!("listing {number:03} differs\n  wanted: {wanted}\n  {side}: {listing}"));
+            if listing != vector.listing {
+                return Err(format!("the listing of {} differs\n  wanted: {}\n  {side}: {listing}", vector.name, vector.listing));
             }
         }
-        play(check, &file)?;
+        play(check, &vector.file)?;
     }
     Ok(())
-}
-
-fn read(path: &Path) -> Checked<Vec<u8>> {
-    std::fs::read(path).map_err(|e| format!("{}: {e}", path.display()))
 }
 
 /// The listing, with the library's steps.

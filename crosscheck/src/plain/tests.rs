@@ -1,7 +1,6 @@
 //! The bench examples of document 01 that are about parts, and the outside listings.
 use super::delta::{check, draw, Items};
 use super::*;
-use std::path::Path;
 
 const SMALL: Sizes = Sizes { width: 16, height: 2, planes: 1 };
 
@@ -72,15 +71,9 @@ fn written_deltas() {
 
 #[test]
 fn outside_listings() {
-    let folder = Path::new(env!("CARGO_MANIFEST_DIR")).join("vectors");
-    let mut count = 0;
-    for entry in std::fs::read_dir(folder).unwrap() {
-        let path = entry.unwrap().path();
-        if path.extension().is_some_and(|e| e == "anim") {
-            let wanted = std::fs::read_to_string(path.with_extension("txt")).unwrap();
-            assert_eq!(list(&std::fs::read(&path).unwrap()), wanted, "{}", path.display());
-            count += 1;
-        }
+    let vectors = crate::vectors::all().unwrap();
+    for vector in &vectors {
+        assert_eq!(list(&vector.file), vector.listing, "{}", vector.name);
     }
-    assert_eq!(count, 58);
+    assert_eq!(vectors.len(), 58);
 }
