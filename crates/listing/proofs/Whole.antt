@@ -31,7 +31,7 @@ use Rattle.player.specs.OutcomeLaws.{on-put}
 use Rattle.player.specs.ReadyLaws.{ready-passed}
 use Rattle.listing.specs.Lines.{frameLine, endLine, refusedLine, pictureLine, tooLarge}
 use Rattle.listing.specs.Listing.{Scene, says, leaves, lineOn, listStep, frames, shows, ROOM, front, behind, fronts, sized, listed, blank, listing}
-use Rattle.runs.specs.CountLaws.{differing-short}
+use Rattle.changes.specs.CountLaws.{differing-short}
 use Rattle.record.specs.RoomLaws.{record-short}
 use Rattle.listing.proofs.ShortLaws.{Holds, frame-holds, delta-long, Tells, frame-line-short, end-line-short, refused-line-short, picture-line-short}
 use Rattle.listing.proofs.LowLaws.{Low, Low.low-fault, size-low, opening-low, on-low}

@@ -10,9 +10,10 @@ use mathlib.Core.Logic.{_≢_}
 use borrow.Author.Tests.{eq-eqb, ne-eqb, le-leb, lt-leb}
 use Rattle.laws.specs.Result.{Res.ok, Res.fault}
 use Rattle.number.specs.Number.{writeNumber}
-use Rattle.runs.specs.Runs.{runsOf, differing, countOf}
-use Rattle.runs.specs.CountLaws.{runs-counted}
-use Rattle.runs.specs.declared.Counts.{Counts}
+use Rattle.runs.specs.Runs.{runsOf, differing}
+use Rattle.changes.specs.Count.{countOf}
+use Rattle.changes.specs.CountLaws.{runs-counted}
+use Rattle.changes.specs.declared.Counts.{Counts}
 use Rattle.record.specs.RunList.{runsBytes, listBytes}
 use Rattle.record.specs.Record.{recordBytes, measure, written, Commits}
 use Rattle.laws.specs.Put.{Put}

@@ -14,7 +14,7 @@ use Rattle.laws.specs.Result.{_>>?_, given}
 use Rattle.number.specs.NumberLaws.{read-write}
 use Rattle.runs.specs.Runs.{Run, kept, changed, runsOf, differ, differing}
 use Rattle.runs.specs.RunLaws.{runs-kept, runs-changed, changed-joins, changed-begins}
-use Rattle.runs.specs.CountLaws.{count-kept}
+use Rattle.changes.specs.CountLaws.{count-kept}
 use Rattle.runs.specs.StretchLaws.{by-test}
 use Rattle.runs.specs.DifferLaws.{differ-more}
 use Rattle.record.specs.RunList.{runBytes, runsBytes, listBytes, readRun, readRuns, readList, putBack, runsBack, beforeOf}

@@ -6,15 +6,16 @@ ghost use Rattle.laws.specs.Result.{pick};
 ghost use Rattle.laws.specs.Put.{Put};
 ghost use Rattle.number.specs.Number.{writeNumber};
 ghost use lib.Dec.{leb};
-ghost use Rattle.runs.specs.Runs.{runsOf, countOf};
+ghost use Rattle.runs.specs.Runs.{runsOf};
+ghost use Rattle.changes.specs.Count.{countOf};
 ghost use Rattle.record.specs.RunList.{runBytes, runsBytes, listBytes};
 ghost use Rattle.record.specs.Record.{recordBytes, Commits, recordedOf};
 ghost use Rattle.record.specs.Walk.{Counted, Replaced};
 use buffer::copy;
+use changes::Counts;
+use changes::count;
 use refusal::Refusal;
 use runs::Change;
-use runs::Counts;
-use runs::count;
 use runs::next_run;
 
 // A record that was written: its length, and how many bytes changed.

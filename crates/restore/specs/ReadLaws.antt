@@ -1,15 +1,18 @@
 -- Laws of reading the next run of a record, test by test.
 use Prim.Native.Nat.{ℕ, _+_, _-_, _<_, _≤_}
+use native.Mathlib.Numerals.{add-one}
 use native.Mathlib.Omega.{arith}
-use mathlib.Core.Bool.{Bool}
+use mathlib.Core.Bool.{true, false}
 use mathlib.Core.List.{List}
 use mathlib.Core.Option.{none}
-use mathlib.Core.Path.{_≡_, _∙_}
-use lib.ListN.{length, take, drop, length-drop}
-use lib.Seq.{drop-drop, take-all}
+use mathlib.Core.Path.{_≡_, sym}
+use lib.Dec.{eqb}
+use lib.ListN.{length, getD, take, drop, length-drop}
+use lib.Seq.{drop-drop, getD-drop}
 use borrow.Author.Tests.{le-leb, lt-leb, lt-ltb}
 use Rattle.number.specs.Number.{readNumber}
 use Rattle.number.specs.NumberLaws.{Found}
+use Rattle.runs.specs.DifferLaws.{differ-on, differ-off}
 use Rattle.runs.specs.Runs.{differ}
 use Rattle.record.specs.RunList.{readRun}
 use Rattle.restore.specs.Walk.{RunFound}
@@ -52,9 +55,12 @@ module _ (bytes : List ℕ) (at least room : ℕ) where
               inside = omega (arith, n .inside);
             }
 
--- the old bytes of a run, compared with what is left of the picture
-pub differs-told : (bytes shown : List ℕ) (start to count : ℕ) (r : Bool) → r ≡ differ (take (start + count - start) (drop start bytes)) (take (length shown - to) (drop to shown))
-    → r ≡ differ (take count (drop start bytes)) (drop to shown)
-differs-told bytes shown start to count r e =
-    let m : start + count - start ≡ count = omega arith in
-    e ∙ rw (m, take-all (length shown - to) (drop to shown) (omega (arith, length-drop to shown)))
+-- the old bytes of a run, compared with what is left of the picture, byte by byte
+module _ (bytes shown : List ℕ) (start to i : ℕ) (h : start + i < length bytes) (k : to + i < length shown) where
+  pub differs-on : eqb (getD bytes (start + i) 0) (getD shown (to + i) 0) ≡ false → differ (take i (drop start bytes)) (drop to shown) ≡ differ (take (i + 1) (drop start bytes)) (drop to shown)
+  differs-on e =
+      rw (add-one i) (sym (differ-on i (drop start bytes) (drop to shown) (omega (arith, length-drop start bytes)) (omega (arith, length-drop to shown)) (rw (getD-drop start bytes i 0, getD-drop to shown i 0) e)))
+
+  pub differs-off : eqb (getD bytes (start + i) 0) (getD shown (to + i) 0) ≡ true → false ≡ differ (take (i + 1) (drop start bytes)) (drop to shown)
+  differs-off e =
+      rw (add-one i) (sym (differ-off i (drop start bytes) (drop to shown) (omega (arith, length-drop start bytes)) (omega (arith, length-drop to shown)) (rw (getD-drop start bytes i 0, getD-drop to shown i 0) e)))

@@ -12,7 +12,6 @@ ghost use Rattle.restore.specs.Walk.{RunAt, runsBefore, restOf, checkedO
 use buffer::copy;
 use number::Parsed;
 use refusal::Refusal;
-use runs::all_differ;
 
 // A record that was put back: the next place before its step.
 pub enum Restored {
@@ -64,13 +63,20 @@ fn read_run(bytes: &[u8], at: usize, least: usize, room: usize) -> Stored
     }
 }
 
-// Whether each of the old bytes of a run differs from the one that it replaces.
+// Whether each of the old bytes of a run differs from the one that it replaces. There is no early exit, so that they are compared all at once.
 fn differs(bytes: &[u8], start: usize, shown: &[u8], to: usize, count: usize) -> bool
     requires { ⌜ (start + count ≤ length (now bytes)) × (to + count ≤ length (now shown)) ⌝ }
     ensures { λ r. ⌜ r ≡ differ (take count (drop start (now (bytes .entry)))) (drop to (now (shown .entry))) ⌝ }
 {
-    let end = start + count;
-    all_differ(&bytes[start..end], &shown[to..])
+    let mut all = true;
+    let mut i = 0;
+    while i < count {
+        if bytes[start + i] == shown[to + i] {
+            all = false;
+        }
+        i += 1;
+    }
+    all
 }
 
 // A run list that was checked: the place after it.

@@ -1,17 +1,13 @@
 -- Laws of old elements that differ from the new ones at their places.
-use Prim.Native.Nat.{ℕ, suc, _<_, _≤_}
-use native.Mathlib.Decide.{decLe}
+use Prim.Native.Nat.{ℕ, zero, suc, _<_}
 use native.Mathlib.Omega.{arith}
 use mathlib.Core.Bool.{true, false}
 use mathlib.Core.List.{List, [], _∷_}
-use mathlib.Core.Logic.{_≢_}
-use mathlib.Core.Path.{_≡_, refl, sym, ap, _∙_}
-use lib.Dec.{leb, eqb}
-use lib.ListN.{length, take}
-use borrow.Author.Tests.{le-leb, lt-leb}
+use mathlib.Core.Path.{_≡_, refl, sym, _∙_}
+use lib.Dec.{eqb}
+use lib.ListN.{length, getD, take}
 use Rattle.runs.specs.Runs.{differ}
-use Rattle.runs.specs.Stretch.{stretch}
-use Rattle.runs.specs.StretchLaws.{by-test, stretch-more, stretch-stop, stretch-end, stretch-none, stretch-short}
+use Rattle.runs.specs.StretchLaws.{by-test}
 
 -- one element at the front
 pub differ-more : (a b : ℕ) (old new : List ℕ) → eqb a b ≡ false → differ (a ∷ old) (b ∷ new) ≡ differ old new
@@ -29,26 +25,21 @@ differ-short (a ∷ old) [] h = unfold differ in refl
 differ-short (a ∷ old) (b ∷ new) h =
     by-test false (eqb a b) (λ e. differ-short old new (omega arith) ∙ sym (differ-more a b old new e)) (λ e. sym (differ-stop a b old new e))
 
--- they differ where the stretch of differing elements is as long as they are
-differ-all : (old new : List ℕ) → stretch false old (take (length old) new) ≡ length old → differ old new ≡ true
-differ-all [] new h = unfold differ in refl
-differ-all (a ∷ old) [] h = absurd (omega (arith, stretch-none false a old))
-differ-all (a ∷ old) (b ∷ new) h =
+-- one element more at the end
+pub differ-on : (i : ℕ) (old new : List ℕ) → i < length old → i < length new → eqb (getD old i 0) (getD new i 0) ≡ false → differ (take (suc i) old) new ≡ differ (take i old) new
+differ-on i [] new h k e = absurd (omega arith)
+differ-on i (a ∷ old) [] h k e = absurd (omega arith)
+differ-on zero (a ∷ old) (b ∷ new) h k e = differ-more a b [] new e ∙ unfold differ in refl
+differ-on (suc i) (a ∷ old) (b ∷ new) h k e =
     by-test false (eqb a b)
-    (λ e. let m = stretch-more false a b old (take (length old) new) e in differ-more a b old new e ∙ differ-all old new (omega (arith, m)))
-    (λ e. absurd (omega (arith, stretch-stop false a b old (take (length old) new) e)))
+    (λ t. differ-more a b (take (suc i) old) new t ∙ differ-on i old new (omega arith) (omega arith) e ∙ sym (differ-more a b (take i old) new t))
+    (λ t. differ-stop a b (take (suc i) old) new t ∙ sym (differ-stop a b (take i old) new t))
 
-differ-not : (old new : List ℕ) → length old ≤ length new → stretch false old (take (length old) new) ≢ length old → differ old new ≡ false
-differ-not [] new l h = absurd (h (stretch-end false [] _ refl))
-differ-not (a ∷ old) [] l h = absurd (omega arith)
-differ-not (a ∷ old) (b ∷ new) l h =
+pub differ-off : (i : ℕ) (old new : List ℕ) → i < length old → i < length new → eqb (getD old i 0) (getD new i 0) ≡ true → differ (take (suc i) old) new ≡ false
+differ-off i [] new h k e = absurd (omega arith)
+differ-off i (a ∷ old) [] h k e = absurd (omega arith)
+differ-off zero (a ∷ old) (b ∷ new) h k e = differ-stop a b [] new e
+differ-off (suc i) (a ∷ old) (b ∷ new) h k e =
     by-test false (eqb a b)
-    (λ e. differ-more a b old new e ∙ differ-not old new (omega arith) (λ m. h (stretch-more false a b old (take (length old) new) e ∙ ap suc m)))
-    (λ e. differ-stop a b old new e)
-
-pub differ-told : (old new : List ℕ) → length old ≤ length new → leb (length old) (stretch false old (take (length old) new)) ≡ differ old new
-differ-told old new h = go (decLe (length old) (stretch false old (take (length old) new)))
-  where
-    go : Dec (length old ≤ stretch false old (take (length old) new)) → leb (length old) (stretch false old (take (length old) new)) ≡ differ old new
-    go (yes f) = le-leb _ _ f ∙ sym (differ-all old new (omega (arith, stretch-short false old (take (length old) new))))
-    go (no f) = lt-leb (length old) (stretch false old (take (length old) new)) (omega arith) ∙ sym (differ-not old new h (λ g. f (omega arith)))
+    (λ t. differ-more a b (take (suc i) old) new t ∙ differ-off i old new (omega arith) (omega arith) e)
+    (λ t. differ-stop a b (take (suc i) old) new t)

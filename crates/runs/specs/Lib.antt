@@ -5,8 +5,6 @@ pub mod Stretch
 pub mod StretchLaws
 pub mod NextLaws
 pub mod DifferLaws
-pub mod Count
-pub mod CountLaws
 pub mod Word
 pub mod WordLaws
 pub mod StopLaws

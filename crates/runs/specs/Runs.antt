@@ -7,7 +7,6 @@ use mathlib.Core.Option.{Option, none, some}
 use lib.Dec.{eqb}
 use lib.ListN.{length, drop}
 use Rattle.laws.specs.Result.{pick, _>>?_, given}
-use Rattle.runs.specs.declared.Counts.{Counts}
 use Rattle.runs.specs.declared.Change.{Change}
 use Rattle.runs.specs.declared.Change.the-variants.{Run as Changed, Nothing}
 
@@ -37,10 +36,6 @@ unfoldable pub differing : List ℕ → List ℕ → ℕ
 differing [] new = 0
 differing (a ∷ old) [] = 0
 differing (a ∷ old) (b ∷ new) = pick (eqb a b) (differing old new) (suc (differing old new))
-
--- how many runs there are, and how many elements differ; none for lists of two lengths
-unfoldable pub countOf : List ℕ → List ℕ → Counts
-countOf old new = pick (eqb (length old) (length new)) (record { runs = length (runsOf old new); changed = differing old new }) (record { runs = 0; changed = 0 })
 
 -- the first of the runs: its gap, and how many elements it has
 pub record First : Type 0 where

@@ -3,25 +3,17 @@ ghost use mathlib.Core.Path.{_≡_};
 ghost use Prim.Native.Nat.{_+_, _<_, _≤_};
 ghost use lib.Dec.{leb};
 ghost use lib.ListN.{length, drop};
-ghost use Rattle.runs.specs.Runs.{differ, nextRun, changeOf, countOf};
+ghost use Rattle.runs.specs.Runs.{nextRun, changeOf};
 ghost use Rattle.runs.specs.Stretch.{stretch, Scanned};
 
-mod block;
 mod word;
 
-use block::count_block;
 use word::stop;
 
 // A run of changed bytes: the unchanged bytes before it, and its length.
 pub enum Change {
     Run { gap: usize, count: usize },
     Nothing,
-}
-
-// How many runs there are, and how many bytes changed.
-pub struct Counts {
-    pub runs: usize,
-    pub changed: usize,
 }
 
 // Whether the bytes of a block are all equal, or all different. There is no early exit, so that they are compared all at once.
@@ -120,48 +112,5 @@ pub fn next_run(old: &[u8], new: &[u8], at: usize) -> Change
     Change::Run {
         gap: start - at,
         count: end - start,
-    }
-}
-
-// Whether each of the old bytes differs from the new one at its place. Where there is no new one it does not.
-pub fn all_differ(old: &[u8], new: &[u8]) -> bool
-    ensures { λ r. ⌜ r ≡ differ (now (old .entry)) (now (new .entry)) ⌝ }
-{
-    let count = old.len();
-    if new.len() < count {
-        return false;
-    }
-    block_is(false, old, &new[..count], 0, count)
-}
-
-// Counts the runs and the bytes that changed, at a cost that does not depend on them. Between buffers of two lengths there are none.
-pub fn count(old: &[u8], new: &[u8]) -> Counts
-    ensures { λ r. ⌜ r ≡ countOf (now (old .entry)) (now (new .entry)) ⌝ }
-{
-    let n = old.len();
-    let mut runs: usize = 0;
-    let mut changed: usize = 0;
-    if n != new.len() {
-        return Counts { runs, changed };
-    }
-    if n == 0 {
-        return Counts { runs, changed };
-    }
-    let mut at = 0;
-    while 128 < n - at {
-        let b = count_block(old, new, at, 128);
-        runs += b.ends as usize;
-        changed += b.changed as usize;
-        at += 128;
-    }
-    let b = count_block(old, new, at, n - at - 1);
-    runs += b.ends as usize;
-    changed += b.changed as usize;
-    if old[n - 1] == new[n - 1] {
-        return Counts { runs, changed };
-    }
-    Counts {
-        runs: runs + 1,
-        changed: changed + 1,
     }
 }

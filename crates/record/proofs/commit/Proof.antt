@@ -7,7 +7,7 @@ use lib.Dec.{ltb}
 use lib.ListN.{length}
 use borrow.Author.Tests.{leb-true, leb-false, not-true, not-false}
 use Rattle.number.specs.NumberLaws.{write-length}
-use Rattle.runs.specs.CountLaws.{changed-counted}
+use Rattle.changes.specs.CountLaws.{changed-counted}
 use Rattle.runs.specs.Runs.{runsOf}
 use Rattle.record.specs.RunList.{runsBytes}
 use Rattle.record.specs.Record.{recordBytes}

@@ -8,7 +8,7 @@ use lib.ListN.{length, take, drop, length-append, length-drop}
 use Rattle.laws.specs.Put.{Put, put-then, put-nothing}
 use Rattle.laws.specs.Result.{pick}
 use Rattle.laws.specs.ResultLaws.{told}
-use Rattle.runs.specs.CountLaws.{same-of-none}
+use Rattle.changes.specs.CountLaws.{same-of-none}
 use Rattle.runs.specs.Runs.{runsOf, changeOf}
 use Rattle.runs.specs.NextLaws.{RunAhead, ahead-of, none-ahead}
 use Rattle.record.specs.CommitLaws.{Committing, committing-starts, committing-more, committing-ends, replaced-behind, replaced-length}

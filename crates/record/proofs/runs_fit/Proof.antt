@@ -5,9 +5,10 @@ use mathlib.Core.List.{List}
 use mathlib.Core.Path.{_≡_, sym}
 use lib.ListN.{length}
 use borrow.Author.Tests.{le-leb}
-use Rattle.runs.specs.Runs.{runsOf, countOf}
-use Rattle.runs.specs.CountLaws.{runs-counted, changed-counted, differing-short}
-use Rattle.runs.specs.declared.Counts.{Counts}
+use Rattle.runs.specs.Runs.{runsOf}
+use Rattle.changes.specs.Count.{countOf}
+use Rattle.changes.specs.CountLaws.{runs-counted, changed-counted, differing-short}
+use Rattle.changes.specs.declared.Counts.{Counts}
 use Rattle.record.specs.RunList.{runsBytes}
 use Rattle.record.specs.RoundLaws.{count-runs}
 use Rattle.record.specs.RoomLaws.{runs-room}

@@ -1,46 +1,71 @@
--- `restore::differs`: the two parts are compared.
-use Rattle.restore.specs.ReadLaws.{differs-told}
+-- `restore::differs`: the flag stands while the bytes passed so far differ.
+use Prim.Native.Nat.{_+_, _-_, _<_, _≤_}
+use native.Mathlib.Omega.{arith}
+use mathlib.Core.Logic.{⊎-elim}
+use mathlib.Core.Path.{_≡_, refl, _∙_}
+use borrow.Author.Tests.{eq-eqb, ne-eqb}
+use lib.ListN.{length, take, drop}
+use Rattle.runs.specs.Runs.{differ}
+use Rattle.restore.specs.ReadLaws.{differs-on, differs-off}
 use borrow.Author.Needs.{needs}
 use Rattle.restore.proofs.differs.Statement.{statement}
 use Rattle.restore.proofs.differs.Tie as tie
 
-add-end : tie.Need-add-end
-add-end c = search needs
+abbrev Inv-loop : tie.InvT-loop
+Inv-loop bytes start shown to count all₀ i₀ all i = (i ≤ count) × (all ≡ differ (take i (drop start bytes)) (drop to shown))
 
-sub-all-differ : tie.Need-sub-all-differ
-sub-all-differ c = search needs
+abbrev μ-loop : tie.MeasureT-loop
+μ-loop bytes start shown to count all₀ i₀ all i = count - i
 
-part-all-differ-start : tie.Need-part-all-differ-start
-part-all-differ-start c = search needs
+loop-holds : tie.Need-loop-holds Inv-loop μ-loop
+unfolding differ
+loop-holds c = (omega arith, refl)
 
-part-all-differ-end : tie.Need-part-all-differ-end
-part-all-differ-end c = search needs
+add-if1 : tie.Need-add-if1 Inv-loop μ-loop
+add-if1 c = search needs
 
-sub-all-differ-2 : tie.Need-sub-all-differ-2
-sub-all-differ-2 c = search needs
+shared-slice-read-if1 : tie.Need-shared-slice-read-if1 Inv-loop μ-loop
+shared-slice-read-if1 c = search needs
 
-part-all-differ-start-2 : tie.Need-part-all-differ-start-2
-part-all-differ-start-2 c = search needs
+add-if1-2 : tie.Need-add-if1-2 Inv-loop μ-loop
+add-if1-2 c = search needs
 
-part-all-differ-end-2 : tie.Need-part-all-differ-end-2
-part-all-differ-end-2 c = search needs
+shared-slice-read-if1-2 : tie.Need-shared-slice-read-if1-2 Inv-loop μ-loop
+shared-slice-read-if1-2 c = search needs
 
-all-differ-requires : tie.Need-all-differ-requires
-all-differ-requires c κs = search needs
+add-i : tie.Need-add-i Inv-loop μ-loop
+add-i c = search needs
 
-returns : tie.Need-returns
-returns c = let a = c .before .before .before .before .before .args in differs-told (a .bytes .now) (a .shown .now) (a .start) (a .to) (a .count) _ (c .all-differ .ensures)
+loop-less : tie.Need-loop-less Inv-loop μ-loop
+loop-less c = search needs
+
+loop-again : tie.Need-loop-again Inv-loop μ-loop
+loop-again c =
+    let b = c .before .before .before .before in
+    let h : b .before .args .start + b .loop .i < length (b .before .args .bytes .now) = omega arith in
+    let k : b .before .args .to + b .loop .i < length (b .before .args .shown .now) = omega arith in (
+      omega arith,
+      ⊎-elim
+          (λ w. w .1 ∙ differs-off _ _ _ _ _ h k (eq-eqb _ _ (w .0 .taken)))
+          (λ w. w .1 ∙ b .loop .inv .1 ∙ differs-on _ _ _ _ _ h k (ne-eqb _ _ (w .0 .left)))
+          (c .if1 .came),
+    )
+
+returns : tie.Need-returns Inv-loop μ-loop
+returns c = let e : c .before .loop .i ≡ c .before .before .args .count = omega arith in rw e at (c .before .loop .inv .1)
 
 pub differs-spec : {M : Type 1} → statement M
 differs-spec =
     tie.close
     (tie.spec
-    add-end
-    sub-all-differ
-    part-all-differ-start
-    part-all-differ-end
-    sub-all-differ-2
-    part-all-differ-start-2
-    part-all-differ-end-2
-    all-differ-requires
+    Inv-loop
+    μ-loop
+    loop-holds
+    add-if1
+    shared-slice-read-if1
+    add-if1-2
+    shared-slice-read-if1-2
+    add-i
+    loop-less
+    loop-again
     returns)

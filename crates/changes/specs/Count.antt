@@ -1,9 +1,16 @@
--- What the private functions that count runs answer.
+-- How many runs of changed bytes there are between two buffers, and how many bytes changed.
 use Prim.Native.Nat.{ℕ, _+_, _≤_}
 use mathlib.Core.List.{List}
 use mathlib.Core.Path.{_≡_}
+use lib.Dec.{eqb}
 use lib.ListN.{length, drop}
+use Rattle.laws.specs.Result.{pick}
 use Rattle.runs.specs.Runs.{runsOf, differing}
+use Rattle.changes.specs.declared.Counts.{Counts}
+
+-- how many runs there are, and how many elements differ; none for lists of two lengths
+unfoldable pub countOf : List ℕ → List ℕ → Counts
+countOf old new = pick (eqb (length old) (length new)) (record { runs = length (runsOf old new); changed = differing old new }) (record { runs = 0; changed = 0 })
 
 -- the runs that end, and the bytes that differ, from one place to another
 pub record Counted (old new : List ℕ) (from to ends changed : ℕ) : Type 0 where

@@ -1,13 +1,13 @@
--- `runs::count`: block by block, then the last byte.
+-- `changes::count`: block by block, then the last byte.
 use Prim.Native.Nat.{_+_, _-_, _<_}
 use mathlib.Core.Path.{_≡_}
 use native.Mathlib.Omega.{arith}
 use lib.ListN.{length}
-use Rattle.runs.specs.Count.{Counted}
-use Rattle.runs.specs.CountLaws.{count-two, count-none, count-starts, count-then, all-kept, all-changed}
+use Rattle.changes.specs.Count.{Counted}
+use Rattle.changes.specs.CountLaws.{count-two, count-none, count-starts, count-then, all-kept, all-changed}
 use borrow.Author.Needs.{needs}
-use Rattle.runs.proofs.count.Statement.{statement}
-use Rattle.runs.proofs.count.Tie as tie
+use Rattle.changes.proofs.count.Statement.{statement}
+use Rattle.changes.proofs.count.Tie as tie
 
 abbrev Inv-loop : tie.InvT-loop
 Inv-loop old new n runs₀ changed₀ at₀ runs changed at = (at < length old) × Counted old new 0 at runs changed

@@ -1,13 +1,13 @@
--- `runs::block::count_block`: each turn counts one byte, with a look at the one after it.
+-- `changes::count_block`: each turn counts one byte, with a look at the one after it.
 use Prim.Native.Nat.{_+_, _-_, _≤_}
 use mathlib.Core.Path.{_≡_}
 use native.Mathlib.Omega.{arith}
 use native.Mathlib.Nat.{add-zero, add-assoc}
-use Rattle.runs.specs.Count.{Counted}
-use Rattle.runs.specs.CountLaws.{count-starts, count-then, count-byte}
+use Rattle.changes.specs.Count.{Counted}
+use Rattle.changes.specs.CountLaws.{count-starts, count-then, count-byte}
 use borrow.Author.Needs.{needs}
-use Rattle.runs.proofs.block.count_block.Statement.{statement}
-use Rattle.runs.proofs.block.count_block.Tie as tie
+use Rattle.changes.proofs.count_block.Statement.{statement}
+use Rattle.changes.proofs.count_block.Tie as tie
 
 abbrev Inv-loop : tie.InvT-loop
 Inv-loop old new at size ends₀ changed₀ i₀ ends changed i = (i ≤ size) × Counted old new at (at + i) ends changed

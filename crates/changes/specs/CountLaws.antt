@@ -13,12 +13,12 @@ use lib.ListN.{length, getD, drop, drop-of-length-le}
 use lib.Seq.{drop-cons}
 use borrow.Author.Tests.{eq-eqb, ne-eqb, eqb-true, eqb-false}
 use Rattle.laws.specs.Result.{pick}
-use Rattle.runs.specs.Count.{Counted}
-use Rattle.runs.specs.Runs.{Run, kept, changed, runsOf, differing, countOf}
+use Rattle.changes.specs.Count.{countOf, Counted}
+use Rattle.runs.specs.Runs.{Run, kept, changed, runsOf, differing}
 use Rattle.runs.specs.RunLaws.{runs-kept, runs-changed, runsAt, runs-end, kept-at, changed-at, changed-is, changed-joins}
 use Rattle.runs.specs.StretchLaws.{by-test}
 use Rattle.runs.specs.NextLaws.{changed-kept}
-use Rattle.runs.specs.declared.Counts.{Counts}
+use Rattle.changes.specs.declared.Counts.{Counts}
 
 byte-small : (t : Bool) → boolByte t ≤ 1
 byte-small true = omega arith
