@@ -33,7 +33,7 @@ pub extern "C" fn anim_frame_size(file: &[u8], size: &mut [u8]) -> u64
     match s {
         Size::Refused(why) => why.number(),
         Size::Bytes(n) => {
-            words::write_number(size, n);
+            write_words::write_number(size, n);
             0
         }
     }
@@ -48,7 +48,7 @@ pub extern "C" fn anim_open(file: &[u8], a: &mut [u8], b: &mut [u8], state: &mut
         return wrong_length();
     }
     let o = opening::open(file, a, b);
-    words::write_state(state, o.state);
+    write_words::write_state(state, o.state);
     let answer = o.answer;
     match answer {
         Opening::Refused(why) => why.number(),
@@ -70,8 +70,8 @@ fn hand_on(s: SteppedOn, state: &mut [u8], report: &mut [u8]) -> u64
             changed,
             record,
         } => {
-            words::write_state(state, s.state);
-            words::write_report(report, method, time, changed, record);
+            write_words::write_state(state, s.state);
+            write_words::write_report(report, method, time, changed, record);
             0
         }
     }
@@ -113,7 +113,7 @@ pub extern "C" fn anim_step_back(bytes: &[u8], state: &mut [u8], a: &mut [u8], b
     match answer {
         Back::Refused(why) => why.number(),
         Back::Taken => {
-            words::write_state(state, s.state);
+            write_words::write_state(state, s.state);
             0
         }
     }
@@ -178,7 +178,7 @@ pub extern "C" fn anim_write_delta(
     match d {
         Delta::Refused(why) => why.number(),
         Delta::Written(n) => {
-            words::write_number(len, n);
+            write_words::write_number(len, n);
             0
         }
     }

@@ -1,9 +1,9 @@
--- `words::write_report`: the four numbers, one after the other.
+-- `write_words::write_report`: the four numbers, one after the other.
 use Rattle.words.specs.WordLaws.{put-none, put-more, laid, not-laid}
 use mathlib.Core.List.{[], _∷_}
 use borrow.Author.Needs.{needs}
-use Rattle.words.proofs.write_report.Statement.{statement}
-use Rattle.words.proofs.write_report.Tie as tie
+use Rattle.write_words.proofs.write_report.Statement.{statement}
+use Rattle.write_words.proofs.write_report.Tie as tie
 
 returns : tie.Need-returns
 returns c = not-laid (_ ∷ _ ∷ _ ∷ _ ∷ []) (c .if1 .taken)

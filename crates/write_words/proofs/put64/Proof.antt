@@ -1,9 +1,9 @@
--- `words::put64`: the low half, then the high half.
+-- `write_words::put64`: the low half, then the high half.
 use Rattle.words.specs.WordLaws.{put-halves}
 use native.Mathlib.Omega.{arith}
 use borrow.Author.Needs.{needs}
-use Rattle.words.proofs.put64.Statement.{statement}
-use Rattle.words.proofs.put64.Tie as tie
+use Rattle.write_words.proofs.put64.Statement.{statement}
+use Rattle.write_words.proofs.put64.Tie as tie
 
 put32-requires : tie.Need-put32-requires
 put32-requires c κs = search needs

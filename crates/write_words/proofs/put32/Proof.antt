@@ -1,11 +1,11 @@
--- `words::put32`: four stores.
+-- `write_words::put32`: four stores.
 use Rattle.words.specs.WordLaws.{put-four}
 use lib.ListN.{length-set}
 use mathlib.Core.Path.{refl}
 use native.Mathlib.Omega.{arith}
 use borrow.Author.Needs.{needs}
-use Rattle.words.proofs.put32.Statement.{statement}
-use Rattle.words.proofs.put32.Tie as tie
+use Rattle.write_words.proofs.put32.Statement.{statement}
+use Rattle.write_words.proofs.put32.Tie as tie
 
 cast-out : tie.Need-cast-out
 cast-out c = search needs

@@ -1,10 +1,10 @@
--- `words::write_state`: the six numbers, one after the other.
+-- `write_words::write_state`: the six numbers, one after the other.
 use Rattle.words.specs.WordLaws.{put-none, put-more, laid, not-laid}
 use Rattle.words.specs.Words.{stateWords}
 use mathlib.Core.List.{[], _∷_}
 use borrow.Author.Needs.{needs}
-use Rattle.words.proofs.write_state.Statement.{statement}
-use Rattle.words.proofs.write_state.Tie as tie
+use Rattle.write_words.proofs.write_state.Statement.{statement}
+use Rattle.write_words.proofs.write_state.Tie as tie
 
 returns : tie.Need-returns
 unfolding stateWords
