@@ -13,7 +13,9 @@ use Rattle.state.specs.declared.Sizes.{Sizes}
 use Rattle.opening.specs.Open.{Film, firstSize, opening, stateAfter, pictureAfter}
 use Rattle.player.specs.declared.SteppedOn.{SteppedOn}
 use Rattle.state.specs.World.{World}
-use Rattle.player.specs.Step.{Answer, Answer.refused, Answer.ended, Answer.tookOn, Answer.tookBack, After, stepOn, stepBack, onOf, workAfter}
+use Rattle.state.specs.Outcome.{Answer, Answer.refused, Answer.ended, Answer.tookOn, Answer.tookBack, After}
+use Rattle.player.specs.Step.{stepOn, onOf, workAfter}
+use Rattle.back.specs.Back.{stepBack}
 use Rattle.shown.specs.Row.{rowPlace}
 use Rattle.writer.specs.Write.{deltaBytes, written, bufferAfter}
 use Rattle.words.specs.Words.{stateIn, stateWords, lay}

@@ -11,9 +11,10 @@ use Rattle.opening.specs.declared.OpenedFile.{OpenedFile}
 use Rattle.opening.specs.Open.{firstSize, opening, openingOf, MeetsOpen}
 use Rattle.player.specs.declared.On.{On}
 use Rattle.player.specs.declared.SteppedOn.{SteppedOn}
-use Rattle.player.specs.declared.Back.{Back}
-use Rattle.player.specs.declared.SteppedBack.{SteppedBack}
-use Rattle.player.specs.Step.{onOf, backOf, stepBack, MeetsOn, MeetsBack}
+use Rattle.back.specs.declared.Back.{Back}
+use Rattle.back.specs.declared.SteppedBack.{SteppedBack}
+use Rattle.player.specs.Step.{onOf, MeetsOn}
+use Rattle.back.specs.Back.{backOf, stepBack, MeetsBack}
 use Rattle.shown.specs.Row.{rowPlace}
 use Rattle.writer.specs.Write.{deltaBytes, written, bufferAfter}
 use Rattle.words.specs.Words.{stateIn, stateWords, lay}

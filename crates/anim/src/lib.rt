@@ -3,9 +3,9 @@ ghost use mathlib.Core.Path.{_≡_};
 ghost use lib.ListN.{length};
 ghost use Rattle.shown.specs.Row.{placeOf};
 ghost use Rattle.anim.specs.Export.{OpensC, HandsOn, StepsOnC, StepsBackC, rowC, numberOr, placeOr, WritesC, SizesC};
+use back::Back;
 use opening::Opening;
 use opening::Size;
-use player::Back;
 use player::On;
 use player::SteppedOn;
 use refusal::Refusal;
@@ -108,7 +108,7 @@ pub extern "C" fn anim_step_back(bytes: &[u8], state: &mut [u8], a: &mut [u8], b
     if state.len() != 48 {
         return wrong_length();
     }
-    let s = player::step_back(words::read_state(state), a, b, bytes);
+    let s = back::step_back(words::read_state(state), a, b, bytes);
     let answer = s.answer;
     match answer {
         Back::Refused(why) => why.number(),

@@ -24,7 +24,7 @@ use Rattle.anhd.specs.declared.FrameHeader.{FrameHeader}
 use Rattle.anhd.specs.declared.Items.{Items}
 use Rattle.delta.specs.Delta.{shapeOf, readPicture, readDelta}
 use Rattle.frame.specs.Frame.{ANHD, DLTA, Frame, frameIn, frameOr, frameAt}
-use Rattle.player.specs.Step.{Report}
+use Rattle.state.specs.Outcome.{Report}
 use Rattle.listing.specs.Lines.{decimal, frameLine, refusedLine, endLine, pictureLine}
 use Rattle.listing.specs.TextLaws.{decimal-digit, decimal-more}
 

@@ -26,7 +26,8 @@ use Rattle.frame.specs.FrameLaws.{frame-rises}
 use Rattle.opening.specs.Open.{Film, bmhdAt, bodyAt, firstSize, firstOf, opening, First}
 use Rattle.opening.specs.OpenLaws.{places-lie}
 use Rattle.state.specs.World.{World, isOdd, shownOf, hiddenOf}
-use Rattle.player.specs.Step.{Answer.refused, Answer.tookOn, ready, change, Made, makes, make, advance, Outcome, After, settle, stepOn}
+use Rattle.state.specs.Outcome.{Answer.refused, Answer.tookOn, Outcome, After}
+use Rattle.player.specs.Step.{ready, change, Made, makes, make, advance, settle, stepOn}
 use Rattle.player.specs.OutcomeLaws.{on-put}
 use Rattle.player.specs.ReadyLaws.{ready-passed}
 use Rattle.listing.specs.Lines.{frameLine, endLine, refusedLine, pictureLine, tooLarge}

@@ -14,7 +14,8 @@ use Rattle.laws.specs.Store.{over}
 use Rattle.opening.specs.declared.OpenedFile.{OpenedFile}
 use Rattle.opening.specs.Open.{Film, MeetsOpen, openingOf, pictureAfter, stateAfter, opening, firstSize}
 use Rattle.state.specs.World.{World}
-use Rattle.player.specs.Step.{Answer, Answer.refused, Answer.ended, Answer.tookOn, Answer.tookBack, stepOn}
+use Rattle.state.specs.Outcome.{Answer, Answer.refused, Answer.ended, Answer.tookOn, Answer.tookBack}
+use Rattle.player.specs.Step.{stepOn}
 use Rattle.listing.specs.Lines.{pictureLine, refusedLine, tooLarge}
 use Rattle.listing.specs.TextLaws.{Adds, adds-front, length-over}
 use Rattle.listing.specs.Listing.{Scene, says, leaves, lineOn, listStep, frames, shows, opens, ROOM, front, behind, fronts, sized, listed, blank, listing, roomy, lent, lentText, Lists, MeetsList}

@@ -7,7 +7,7 @@ use mathlib.Core.List.{List, [], _∷_, _++_}
 use mathlib.Core.Path.{_≡_, refl}
 use lib.Dec.{ltb}
 use Rattle.state.specs.declared.Sizes.{Sizes}
-use Rattle.player.specs.Step.{Report}
+use Rattle.state.specs.Outcome.{Report}
 
 -- the bytes of a text
 abbrev pub ascii : String → List ℕ

@@ -17,7 +17,8 @@ use Rattle.frame.specs.Frame.{Frame, frameAt}
 use Rattle.frame.specs.FrameLaws.{frame-rises}
 use Rattle.player.specs.declared.SteppedOn.{SteppedOn}
 use Rattle.state.specs.World.{World, shownOf, hiddenOf}
-use Rattle.player.specs.Step.{Report, Answer, Answer.refused, Answer.ended, Answer.tookOn, After, stepOn, onOf, LeavesOn, ready, change, Made, makes, make, advance, settle, Outcome}
+use Rattle.state.specs.Outcome.{Report, Answer, Answer.refused, Answer.ended, Answer.tookOn, After, Outcome}
+use Rattle.player.specs.Step.{stepOn, onOf, LeavesOn, ready, change, Made, makes, make, advance, settle}
 use Rattle.player.specs.OutcomeLaws.{on-put}
 use Rattle.player.specs.ReadyLaws.{ready-passed}
 use Rattle.listing.specs.Lines.{pictureLine, frameLine, endLine, refusedLine}

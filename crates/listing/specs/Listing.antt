@@ -13,7 +13,8 @@ use Rattle.laws.specs.Store.{over}
 use Rattle.state.specs.State.{opened}
 use Rattle.opening.specs.Open.{Film, opening, firstSize, zeros}
 use Rattle.state.specs.World.{World}
-use Rattle.player.specs.Step.{Answer, Answer.refused, Answer.ended, Answer.tookOn, Answer.tookBack, After, stepOn, workAfter}
+use Rattle.state.specs.Outcome.{Answer, Answer.refused, Answer.ended, Answer.tookOn, Answer.tookBack, After}
+use Rattle.player.specs.Step.{stepOn, workAfter}
 use Rattle.listing.specs.Lines.{refusedLine, endLine, pictureLine, frameLine, tooLarge}
 
 -- what stands while a file is listed: both pictures and the state, the work and the record buffer, and the text so far

@@ -12,10 +12,13 @@ use Rattle.opening.specs.declared.OpenedFile.{OpenedFile}
 use Rattle.opening.specs.Open.{Film, opening, zeros, stateAfter, pictureAfter, openingOf, MeetsOpen}
 use Rattle.record.specs.Record.{Past}
 use Rattle.player.specs.declared.SteppedOn.{SteppedOn}
-use Rattle.player.specs.declared.SteppedBack.{SteppedBack}
+use Rattle.back.specs.declared.SteppedBack.{SteppedBack}
 use Rattle.state.specs.World.{World, shownOf, hiddenOf}
-use Rattle.player.specs.Step.{onOf, backOf, MeetsOn, MeetsBack, Answer, Answer.refused, Answer.ended, Answer.tookOn, ready, Made, advance, Outcome, After, settle, onHidden, stepOn, retreat, settleBack, onShown, stepBack}
-use Rattle.player.specs.OutcomeLaws.{on-kept, on-put, back-kept, back-put}
+use Rattle.state.specs.Outcome.{Answer, Answer.refused, Answer.ended, Answer.tookOn, Outcome, After}
+use Rattle.player.specs.Step.{onOf, MeetsOn, ready, Made, advance, settle, onHidden, stepOn}
+use Rattle.back.specs.Back.{backOf, MeetsBack, retreat, settleBack, onShown, stepBack}
+use Rattle.player.specs.OutcomeLaws.{on-kept, on-put}
+use Rattle.back.specs.BackLaws.{back-kept, back-put}
 
 -- what a call left as it came: what it hands on, and the record buffer, into which nothing was written
 pub record Untouched (w : World) (o : After) : Type 0 where

@@ -13,7 +13,8 @@ use Rattle.delta.specs.Delta.{Op, shapeOf, readDelta, draw}
 use Rattle.record.specs.Record.{recordBytes}
 use Rattle.frame.specs.Frame.{Frame, frameAt}
 use Rattle.state.specs.World.{World, isOdd, shownOf, hiddenOf}
-use Rattle.player.specs.Step.{Answer.refused, Answer.tookOn, ready, change, makes, make, advance, Outcome, settle, onHidden, stepOn}
+use Rattle.state.specs.Outcome.{Answer.refused, Answer.tookOn, Outcome}
+use Rattle.player.specs.Step.{ready, change, makes, make, advance, settle, onHidden, stepOn}
 use Rattle.player.specs.OutcomeLaws.{on-kept, on-put}
 use Rattle.model.proofs.Laws.{odd-suc}
 

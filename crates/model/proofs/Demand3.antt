@@ -14,10 +14,12 @@ use Rattle.laws.specs.ResultLaws.{Each, Each.each}
 use Rattle.state.specs.State.{opened}
 use Rattle.record.specs.Record.{Past, pastOf}
 use Rattle.player.specs.declared.SteppedOn.{SteppedOn}
-use Rattle.player.specs.declared.SteppedBack.{SteppedBack}
+use Rattle.back.specs.declared.SteppedBack.{SteppedBack}
 use Rattle.frame.specs.Frame.{Frame}
 use Rattle.state.specs.World.{World, isOdd}
-use Rattle.player.specs.Step.{Answer, Answer.refused, Answer.ended, Answer.tookOn, Answer.tookBack, onOf, MeetsOn, MeetsBack, change, stepOn, stepBack}
+use Rattle.state.specs.Outcome.{Answer, Answer.refused, Answer.ended, Answer.tookOn, Answer.tookBack}
+use Rattle.player.specs.Step.{onOf, MeetsOn, change, stepOn}
+use Rattle.back.specs.Back.{MeetsBack, stepBack}
 use Rattle.opening.specs.declared.OpenedFile.{OpenedFile}
 use Rattle.opening.specs.Open.{Film, opening, stateAfter, pictureAfter, openingOf, MeetsOpen}
 use Rattle.model.specs.Model.{Call, Seen, here, placeAt, picture, recordAt, stands, reportAt, answerFor, answerAt, answerOn, answerFirst, moved, leaves, model}

@@ -12,7 +12,8 @@ use Rattle.state.specs.State.{rowBytes, stateLength}
 use Rattle.frame.specs.Frame.{Frame}
 use Rattle.frame.specs.FrameLaws.{Rises, frame-rises}
 use Rattle.state.specs.World.{isOdd, shownOf, hiddenOf}
-use Rattle.player.specs.Step.{Answer, change, After}
+use Rattle.state.specs.Outcome.{Answer, After}
+use Rattle.player.specs.Step.{change}
 use Rattle.opening.specs.Open.{Film}
 use Rattle.model.specs.Model.{here, past, drawn, placeAt, picture, recordAt, stands}
 use Rattle.model.proofs.Laws.{change-length}

@@ -13,10 +13,11 @@ use Rattle.state.specs.State.{rowBytes}
 use Rattle.record.specs.Record.{Past, pastOf, restored}
 use Rattle.frame.specs.FrameLaws.{Rises, frame-rises}
 use Rattle.state.specs.World.{isOdd, shownOf}
-use Rattle.player.specs.Step.{Answer.refused, Answer.tookBack, retreat, settleBack, onShown, stepBack}
+use Rattle.state.specs.Outcome.{Answer.refused, Answer.tookBack}
+use Rattle.back.specs.Back.{retreat, settleBack, onShown, stepBack}
 use Rattle.opening.specs.Open.{Film}
 use Rattle.model.specs.Model.{placeAt, picture, recordAt, stands, answerFirst}
-use Rattle.player.specs.OutcomeLaws.{back-kept, back-put}
+use Rattle.back.specs.BackLaws.{back-kept, back-put}
 use Rattle.model.proofs.Laws.{odd-suc}
 use Rattle.record.specs.RoundLaws.{past-record}
 use Rattle.model.proofs.Opened.{Opened, size}

@@ -11,7 +11,8 @@ use Rattle.laws.specs.Result.{Res, Res.ok, Res.fault, _>>=_, need, answer, pick
 use Rattle.state.specs.State.{rowBytes}
 use Rattle.frame.specs.Frame.{Frame, frameAt}
 use Rattle.state.specs.World.{isOdd, shownOf, hiddenOf}
-use Rattle.player.specs.Step.{Answer, Answer.refused, Answer.ended, Answer.tookOn, ready, change, Made, makes, make, advance, Outcome, settle, onHidden, stepOn}
+use Rattle.state.specs.Outcome.{Answer, Answer.refused, Answer.ended, Answer.tookOn, Outcome}
+use Rattle.player.specs.Step.{ready, change, Made, makes, make, advance, settle, onHidden, stepOn}
 use Rattle.opening.specs.Open.{Film}
 use Rattle.model.specs.Model.{here, placeAt, picture, recordAt, stands, reportAt, answerAt, answerOn, moved, leaves}
 use Rattle.player.specs.OutcomeLaws.{on-kept, on-put}

@@ -12,7 +12,8 @@ use Rattle.record.specs.Record.{recordBytes, Past, pastOf}
 use Rattle.frame.specs.Frame.{Frame, frameAt}
 use Rattle.opening.specs.Open.{Film}
 use Rattle.state.specs.World.{World, isOdd}
-use Rattle.player.specs.Step.{Report, Answer, Answer.refused, Answer.ended, Answer.tookOn, Answer.tookBack, change}
+use Rattle.state.specs.Outcome.{Report, Answer, Answer.refused, Answer.ended, Answer.tookOn, Answer.tookBack}
+use Rattle.player.specs.Step.{change}
 
 -- a call, with what it is lent besides the file, the pictures and the state: the lengths of the work and record buffers, or bytes
 pub data Call : Type 0 where

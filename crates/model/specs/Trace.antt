@@ -5,9 +5,11 @@ use Prim.Native.Nat.{ℕ}
 use mathlib.Core.List.{List, [], _∷_}
 use lib.ListN.{length, take, drop}
 use Rattle.player.specs.declared.SteppedOn.{SteppedOn}
-use Rattle.player.specs.declared.SteppedBack.{SteppedBack}
+use Rattle.back.specs.declared.SteppedBack.{SteppedBack}
 use Rattle.state.specs.World.{World}
-use Rattle.player.specs.Step.{Answer, Answer.refused, Answer.ended, Answer.tookOn, Answer.tookBack, onOf, backOf, MeetsOn, MeetsBack}
+use Rattle.state.specs.Outcome.{Answer, Answer.refused, Answer.ended, Answer.tookOn, Answer.tookBack}
+use Rattle.player.specs.Step.{onOf, MeetsOn}
+use Rattle.back.specs.Back.{backOf, MeetsBack}
 use Rattle.model.specs.Model.{Call, Call.on, Call.back, Seen}
 
 -- the bytes that a step back is given, of the records not yet taken back, the latest first

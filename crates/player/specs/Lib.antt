@@ -2,4 +2,3 @@ pub mod Step
 pub mod OutcomeLaws
 pub mod ReadyLaws
 pub mod StepLaws
-pub mod BackLaws

@@ -1,5 +1,5 @@
--- Stepping on and stepping back (document 01, "Opening, stepping on, stepping back" and "Refusal numbers").
-use Prim.Native.Nat.{ℕ, suc, _-_}
+-- Stepping on (document 01, "Opening, stepping on, stepping back" and "Refusal numbers").
+use Prim.Native.Nat.{ℕ, suc}
 use mathlib.Core.List.{List, [], _++_}
 use mathlib.Core.Option.{Option, none, some}
 use mathlib.Core.Path.{_≡_}
@@ -11,30 +11,14 @@ use Rattle.state.specs.State.{rowBytes, stateLength}
 use Rattle.state.specs.declared.Sizes.{Sizes}
 use Rattle.state.specs.declared.State.{State}
 use Rattle.state.specs.World.{World, isOdd, shownOf, hiddenOf}
+use Rattle.state.specs.Outcome.{Report, Answer, Answer.refused, Answer.ended, Answer.tookOn, Outcome, stays, After, inA, inB}
 use Rattle.runs.specs.Runs.{differing}
-use Rattle.record.specs.Record.{recordBytes, Past, restored}
+use Rattle.record.specs.Record.{recordBytes}
 use Rattle.delta.specs.Delta.{shapeOf, readDelta, draw}
 use Rattle.frame.specs.Frame.{Frame, frameAt}
 use Rattle.player.specs.declared.On.{On}
 use Rattle.player.specs.declared.On.the-variants.{Taken, End, Refused}
 use Rattle.player.specs.declared.SteppedOn.{SteppedOn}
-use Rattle.player.specs.declared.Back.{Back}
-use Rattle.player.specs.declared.Back.the-variants.{Taken as BackTaken, Refused as BackRefused}
-use Rattle.player.specs.declared.SteppedBack.{SteppedBack}
-
--- what a taken step on reports: the method, the relative time, the bytes that changed, the record's length
-pub record Report : Type 0 where
-  pub method : ℕ
-  pub time : ℕ
-  pub changed : ℕ
-  pub length : ℕ
-
--- the answers, in the paper's terms
-pub data Answer : Type 0 where
-  refused : ℕ → Answer
-  ended : Answer
-  tookOn : Report → Answer
-  tookBack : Answer
 
 -- 11, 12 and 53 of stepping on, by the lengths of the file, A, B and the work buffer
 unfoldable pub ready : ℕ → State → ℕ → ℕ → ℕ → Res (Unit {0})
@@ -73,19 +57,6 @@ make s shown hidden (some x) = change (s .sizes) x shown hidden >>= λ f. ok (so
 unfoldable pub advance : List ℕ → State → List ℕ → List ℕ → Res (Option Made)
 advance anim s shown hidden = frameAt anim (rowBytes (s .sizes .width)) (s .next) >>= make s shown hidden
 
--- what a call comes to: its answer, the state after it, the picture in the one buffer that it may change, a record that was
--- written, and a frame that stands in the work buffer
-pub record Outcome : Type 0 where
-  pub answer : Answer
-  pub state : State
-  pub picture : List ℕ
-  pub bytes : List ℕ
-  pub work : Option (List ℕ)
-
--- a call that isn't taken leaves all as it came
-abbrev pub stays : State → List ℕ → Answer → Outcome
-stays s p x = record { answer = x; state = s; picture = p; bytes = []; work = none }
-
 -- a record that doesn't fit is 51, and leaves the frame in the work buffer
 unfoldable pub settle : State → List ℕ → ℕ → Res (Option Made) → Outcome
 settle s hidden room (fault n) = stays s hidden (refused n)
@@ -95,26 +66,9 @@ settle s hidden room (ok (some m)) =
     (record { answer = tookOn (m .report); state = record { sizes = s .sizes; frame = suc (s .frame); next = m .next; end = s .end }; picture = m .picture; bytes = m .bytes; work = some (m .picture) })
     (record { answer = refused 51; state = s; picture = hidden; bytes = []; work = some (m .picture) })
 
--- what a call leaves: its answer, what it hands on, a record that was written, and a frame that stands in the work buffer
-pub record After : Type 0 where
-  pub answer : Answer
-  pub world : World
-  pub bytes : List ℕ
-  pub work : Option (List ℕ)
-
--- the one buffer is A, or B
-abbrev pub inA : World → Outcome → After
-inA w o = record { answer = o .answer; world = record { a = o .picture; b = w .b; state = o .state }; bytes = o .bytes; work = o .work }
-
-abbrev pub inB : World → Outcome → After
-inB w o = record { answer = o .answer; world = record { a = w .a; b = o .picture; state = o .state }; bytes = o .bytes; work = o .work }
-
--- stepping on may change the hidden buffer, stepping back the shown one
+-- stepping on may change the hidden buffer
 unfoldable pub onHidden : World → Outcome → After
 onHidden w o = pick (isOdd (w .state .frame)) (inB w o) (inA w o)
-
-unfoldable pub onShown : World → Outcome → After
-onShown w o = pick (isOdd (w .state .frame)) (inA w o) (inB w o)
 
 -- stepping on, with a work buffer of `work` bytes and a record buffer of `room` bytes
 unfoldable pub stepOn : List ℕ → World → ℕ → ℕ → After
@@ -122,30 +76,11 @@ stepOn file w work room =
     onHidden w (settle (w .state) (hiddenOf w) room
     (ready (length file) (w .state) (length (w .a)) (length (w .b)) work >>= λ _. advance (take (w .state .end) file) (w .state) (shownOf w) (hiddenOf w)))
 
--- stepping back: 11, 12, 61, 62
-unfoldable pub retreat : World → List ℕ → Res Past
-retreat w bytes =
-    stateLength (w .state) >>= λ n.
-    need (eqb (length (w .a)) n) 12 >>= λ _.
-    need (eqb (length (w .b)) n) 12 >>= λ _.
-    restored bytes (shownOf w) (w .state .frame) (w .state .next)
-
-unfoldable pub settleBack : State → List ℕ → Res Past → Outcome
-settleBack s shown (fault n) = stays s shown (refused n)
-settleBack s shown (ok p) = record { answer = tookBack; state = record { sizes = s .sizes; frame = s .frame - 1; next = p .place; end = s .end }; picture = p .picture; bytes = []; work = none }
-
-unfoldable pub stepBack : World → List ℕ → After
-stepBack w bytes = onShown w (settleBack (w .state) (shownOf w) (retreat w bytes))
-
--- what the answers say in the paper's terms
+-- what an answer says in the paper's terms
 abbrev pub onOf : On → Answer
 onOf (Taken method time changed len) = tookOn (record { method = method; time = time; changed = changed; length = len })
 onOf End = ended
 onOf (Refused why) = refused (numberOf why)
-
-abbrev pub backOf : Back → Answer
-backOf BackTaken = tookBack
-backOf (BackRefused why) = refused (numberOf why)
 
 -- a work buffer after a call
 abbrev pub workAfter : List ℕ → Option (List ℕ) → List ℕ
@@ -164,14 +99,3 @@ pub record LeavesOn (o : After) (work rec : List ℕ) (r : SteppedOn) (a b work�
 -- the contract of stepping on
 abbrev pub MeetsOn : (file : List ℕ) (w : World) (work rec : List ℕ) (r : SteppedOn) (a b work′ rec′ : List ℕ) → Type 0
 MeetsOn file w work rec r a b work′ rec′ = LeavesOn (stepOn file w (length work) (length rec)) work rec r a b work′ rec′
-
--- answer, state and both pictures after a step back that leaves o
-pub record LeavesBack (o : After) (r : SteppedBack) (a b : List ℕ) : Type 0 where
-  pub answer : backOf (r .answer) ≡ o .answer
-  pub state : r .state ≡ o .world .state
-  pub left : a ≡ o .world .a
-  pub right : b ≡ o .world .b
-
--- the contract of stepping back
-abbrev pub MeetsBack : (w : World) (bytes : List ℕ) (r : SteppedBack) (a b : List ℕ) → Type 0
-MeetsBack w bytes r a b = LeavesBack (stepBack w bytes) r a b

@@ -1,4 +1,4 @@
--- Laws of the steps: the order of their refusals, and what is left in the buffers.
+-- Laws of stepping on: the order of its refusals, and what is left in the buffers.
 use Prim.Native.Nat.{ℕ, suc}
 use native.Mathlib.Omega.{arith}
 use mathlib.Core.Bool.{Bool, true, false}
@@ -22,7 +22,8 @@ use Rattle.record.specs.Record.{recordBytes, Measure, measure, written, Commits
 use Rattle.player.specs.declared.On.the-variants.{Taken, End, Refused}
 use Rattle.player.specs.declared.SteppedOn.{SteppedOn}
 use Rattle.state.specs.World.{World, isOdd, shownOf, hiddenOf}
-use Rattle.player.specs.Step.{Answer.refused, ready, change, Made, makes, make, advance, Outcome, settle, onHidden, stepOn, onOf, workAfter, MeetsOn}
+use Rattle.state.specs.Outcome.{Answer.refused, Outcome}
+use Rattle.player.specs.Step.{ready, change, Made, makes, make, advance, settle, onHidden, stepOn, onOf, workAfter, MeetsOn}
 use Rattle.player.specs.OutcomeLaws.{on-kept}
 use Rattle.player.specs.ReadyLaws.{Fits}
 

@@ -1,13 +1,13 @@
--- `player::step_back`: the tests, and then a record put back into A at an odd frame, into B at an even one.
-use Rattle.player.specs.BackLaws.{back-limits, back-left, back-right, back-odd, back-even}
+-- `back::step_back`: the tests, and then a record put back into A at an odd frame, into B at an even one.
+use Rattle.back.specs.BackLaws.{back-limits, back-left, back-right, back-odd, back-even}
 use Rattle.state.specs.World.{isOdd}
 use Rattle.state.specs.StateLaws.{state-sound}
 use Rattle.state.specs.State.{lengthOf}
 use Rattle.laws.specs.ResultLaws.{told, each-is}
 use borrow.Author.Tests.{eq-eqb, ne-eqb}
 use borrow.Author.Needs.{needs}
-use Rattle.player.proofs.step_back.Statement.{statement}
-use Rattle.player.proofs.step_back.Tie as tie
+use Rattle.back.proofs.step_back.Statement.{statement}
+use Rattle.back.proofs.step_back.Tie as tie
 
 frame-length-requires : tie.Need-frame-length-requires
 frame-length-requires c κs = search needs

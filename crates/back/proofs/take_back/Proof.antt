@@ -1,10 +1,10 @@
--- `player::take_back`: what putting the record back comes to.
-use Rattle.player.specs.BackLaws.{restores-refused, restores-taken}
+-- `back::take_back`: what putting the record back comes to.
+use Rattle.back.specs.BackLaws.{restores-refused, restores-taken}
 use Rattle.restore.specs.Restored.{restoredOf}
 use Rattle.laws.specs.ResultLaws.{told}
 use borrow.Author.Needs.{needs}
-use Rattle.player.proofs.take_back.Statement.{statement}
-use Rattle.player.proofs.take_back.Tie as tie
+use Rattle.back.proofs.take_back.Statement.{statement}
+use Rattle.back.proofs.take_back.Tie as tie
 
 restore-requires : tie.Need-restore-requires
 restore-requires c κs = search needs

@@ -1,24 +1,45 @@
 -- Laws of stepping back: the order of its refusals, and what is left in the buffers.
 use Prim.Native.Nat.{ℕ, _-_}
 use native.Mathlib.Omega.{arith}
-use mathlib.Core.Bool.{true, false}
-use mathlib.Core.List.{List}
-use mathlib.Core.Option.{none}
+use mathlib.Core.Bool.{Bool, true, false}
+use mathlib.Core.List.{List, []}
+use mathlib.Core.Option.{Option, none}
 use mathlib.Core.Path.{_≡_, refl}
 use lib.ListN.{length}
 use borrow.Author.Tests.{eq-eqb, ne-eqb}
-use Rattle.laws.specs.Result.{Res, Res.ok, Res.fault}
+use Rattle.laws.specs.Result.{Res, Res.ok, Res.fault, pick}
 use Rattle.refusal.specs.Number.{numberOf}
 use Rattle.refusal.specs.declared.Refusal.{Refusal}
 use Rattle.refusal.specs.declared.Refusal.the-variants.{BufferLength}
 use Rattle.state.specs.declared.State.{State}
 use Rattle.state.specs.State.{stateLength}
-use Rattle.record.specs.Record.{Past, restored, shownAfter, placeOf}
-use Rattle.player.specs.declared.Back.the-variants.{Taken, Refused}
-use Rattle.player.specs.declared.SteppedBack.{SteppedBack}
 use Rattle.state.specs.World.{World, isOdd, shownOf}
-use Rattle.player.specs.Step.{Answer.refused, retreat, settleBack, onShown, stepBack, backOf, MeetsBack}
-use Rattle.player.specs.OutcomeLaws.{back-kept}
+use Rattle.state.specs.Outcome.{Answer, Answer.refused, Outcome, After, inA, inB}
+use Rattle.record.specs.Record.{Past, restored, shownAfter, placeOf}
+use Rattle.back.specs.declared.Back.the-variants.{Taken, Refused}
+use Rattle.back.specs.declared.SteppedBack.{SteppedBack}
+use Rattle.back.specs.Back.{retreat, settleBack, onShown, stepBack, backOf, MeetsBack}
+
+-- a step that leaves the shown buffer and the state as they were hands all on as it came
+pub back-kept : (w : World) (x : Answer) (k : Option (List ℕ)) → onShown w (record { answer = x; state = w .state; picture = shownOf w; bytes = []; work = k }) ≡ record { answer = x; world = w; bytes = []; work = k }
+unfolding onShown shownOf
+back-kept w x k = go (isOdd (w .state .frame))
+  where
+    kept : List ℕ → Outcome
+    kept p = record { answer = x; state = w .state; picture = p; bytes = []; work = k }
+
+    go : (t : Bool) → _≡_ {A = After} (pick t (inA w (kept (pick t (w .a) (w .b)))) (inB w (kept (pick t (w .a) (w .b))))) (record { answer = x; world = w; bytes = []; work = k })
+    go true = refl
+    go false = refl
+
+-- a step that is taken puts its picture into the shown buffer
+pub back-put : (w : World) (o : Outcome) → onShown w o ≡ record { answer = o .answer; world = record { a = pick (isOdd (w .state .frame)) (o .picture) (w .a); b = pick (isOdd (w .state .frame)) (w .b) (o .picture); state = o .state }; bytes = o .bytes; work = o .work }
+unfolding onShown
+back-put w o = go (isOdd (w .state .frame))
+  where
+    go : (t : Bool) → _≡_ {A = After} (pick t (inA w o) (inB w o)) (record { answer = o .answer; world = record { a = pick t (o .picture) (w .a); b = pick t (w .b) (o .picture); state = o .state }; bytes = o .bytes; work = o .work })
+    go true = refl
+    go false = refl
 
 -- how a step back leaves its one picture
 pub record Restores (s : State) (shown bytes : List ℕ) (r : SteppedBack) (p : List ℕ) : Type 0 where
