@@ -16,11 +16,12 @@ pub fn list(check: &mut Check) -> Checked<()> {
     }
     let mut past: Vec<Vec<u8>> = Vec::new();
     for _ in 0..60 {
-        match check.random.below(10) {
+        match check.random.below(11) {
             0..=3 => step_on(check, &mut player, &mut past)?,
             4..=6 => step_back(check, &mut player, &mut past)?,
             7 => other_back(check, &mut player, &mut past)?,
             8 => rows(check, &mut player)?,
+            9 => on_again(check, &mut player, &past)?,
             _ => other_state(check, &player)?,
         }
     }
@@ -62,6 +63,23 @@ fn step_on(check: &mut Check, player: &mut Player, past: &mut Vec<Vec<u8>>) -> C
     if short {
         player.record = record;
     }
+    Ok(())
+}
+
+/// Takes the latest step back and on again, with record buffers that are one byte too short and just long enough.
+fn on_again(check: &mut Check, player: &mut Player, past: &[Vec<u8>]) -> Checked<()> {
+    let Some(record) = past.last() else { return Ok(()) };
+    let buffer = player.record.clone();
+    if player.step_back(&mut check.pair, record)? != 0 {
+        return Ok(());
+    }
+    for (room, wanted) in [(record.len() - 1, 51), (record.len(), 0)] {
+        player.record.set(&buffer.bytes()[..room]);
+        if player.step_on(&mut check.pair)? != wanted {
+            return Err(format!("a step with a record of {} bytes and a buffer of {room} isn't answered {wanted}", record.len()));
+        }
+    }
+    player.record = buffer;
     Ok(())
 }
 
