@@ -21,7 +21,7 @@ pub fn list(check: &mut Check) -> Checked<()> {
             4..=6 => step_back(check, &mut player, &mut past)?,
             7 => other_back(check, &mut player, &mut past)?,
             8 => rows(check, &mut player)?,
-            9 => on_again(check, &mut player, &past)?,
+            9 => on_again(check, &mut player, &mut past)?,
             _ => other_state(check, &player)?,
         }
     }
@@ -66,13 +66,13 @@ fn step_on(check: &mut Check, player: &mut Player, past: &mut Vec<Vec<u8>>) -> C
     Ok(())
 }
 
-/// Takes the latest step back and on again, with record buffers that are one byte too short and just long enough.
-fn on_again(check: &mut Check, player: &mut Player, past: &[Vec<u8>]) -> Checked<()> {
-    let Some(record) = past.last() else { return Ok(()) };
-    let buffer = player.record.clone();
-    if player.step_back(&mut check.pair, record)? != 0 {
+/// Steps on, back, and on again with record buffers that are one byte too short and just long enough.
+fn on_again(check: &mut Check, player: &mut Player, past: &mut Vec<Vec<u8>>) -> Checked<()> {
+    if player.step_on(&mut check.pair)? != 0 {
         return Ok(());
     }
+    let (record, buffer) = (player.written(), player.record.clone());
+    player.step_back(&mut check.pair, &record)?;
     for (room, wanted) in [(record.len() - 1, 51), (record.len(), 0)] {
         player.record.set(&buffer.bytes()[..room]);
         if player.step_on(&mut check.pair)? != wanted {
@@ -80,6 +80,7 @@ fn on_again(check: &mut Check, player: &mut Player, past: &[Vec<u8>]) -> Checked
         }
     }
     player.record = buffer;
+    past.push(record);
     Ok(())
 }
 
