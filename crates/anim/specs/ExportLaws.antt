@@ -1,7 +1,9 @@
 -- Laws of the exported functions: each answers and leaves what the function that it covers does.
 use Prim.Native.Nat.{ℕ}
+use mathlib.Core.Bool.{Bool, true, false, _&&_}
 use mathlib.Core.List.{List}
 use mathlib.Core.Path.{_≡_, refl, sym, ap, _∙_}
+use lib.Dec.{eqb}
 use lib.ListN.{length}
 use borrow.Author.Tests.{eq-eqb, ne-eqb}
 use Rattle.laws.specs.Result.{Res, Res.ok, Res.fault, answer}
@@ -38,17 +40,14 @@ module _ (file a b state : List ℕ) where
 
 -- stepping on
 module _ (file a b work rec state report : List ℕ) where
-  pub on-no-state : {r : ℕ} → r ≡ 11 → (length state ≡ 48 → ⊥) → StepsOnC file a b work rec state report r a b work rec state report
-  on-no-state e h = rw (ne-eqb (length state) 48 h) (record { answer = e; left = refl; right = refl; drawn = refl; written = refl; stateOut = refl; reportOut = refl })
+  module _ {t : Bool} (e : t ≡ (eqb (length state) 48 && eqb (length report) 32)) where
+    pub on-unsized : {r : ℕ} → t ≡ false → r ≡ 11 → StepsOnC file a b work rec state report r a b work rec state report
+    on-unsized f h = rw (sym e ∙ f) (record { answer = h; left = refl; right = refl; drawn = refl; written = refl; stateOut = refl; reportOut = refl })
 
-  module _ (h : length state ≡ 48) where
-    pub on-no-report : {r : ℕ} → r ≡ 11 → (length report ≡ 32 → ⊥) → StepsOnC file a b work rec state report r a b work rec state report
-    on-no-report e l = rw (eq-eqb (length state) 48 h, ne-eqb (length report) 32 l) (record { answer = e; left = refl; right = refl; drawn = refl; written = refl; stateOut = refl; reportOut = refl })
-
-    module _ (l : length report ≡ 32) {o : SteppedOn} {a′ b′ work′ rec′ : List ℕ} (m : MeetsOn file (worldIn state a b) work rec o a′ b′ work′ rec′) where
-      pub on-sized : {r : ℕ} {state′ report′ : List ℕ} → HandsOn o state report r state′ report′ → StepsOnC file a b work rec state report r a′ b′ work′ rec′ state′ report′
-      on-sized q =
-          rw (eq-eqb (length state) 48 h, eq-eqb (length report) 32 l)
+    module _ {o : SteppedOn} {a′ b′ work′ rec′ : List ℕ} (m : MeetsOn file (worldIn state a b) work rec o a′ b′ work′ rec′) where
+      pub on-sized : {r : ℕ} {state′ report′ : List ℕ} → t ≡ true → HandsOn o state report r state′ report′ → StepsOnC file a b work rec state report r a′ b′ work′ rec′ state′ report′
+      on-sized f q =
+          rw (sym e ∙ f)
           (record { answer = q .answer ∙ rw (m .answer); left = m .left; right = m .right; drawn = m .drawn; written = m .written; stateOut = q .stateOut ∙ rw (m .answer, m .state); reportOut = q .reportOut ∙ rw (m .answer) })
 
 -- what is handed over of a step on, by its answer

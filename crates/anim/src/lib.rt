@@ -1,5 +1,7 @@
 // The C interface: each function is a thin cover of the library's, on numbers and byte slices.
 ghost use mathlib.Core.Path.{_≡_};
+ghost use mathlib.Core.Bool.{_&&_};
+ghost use lib.Dec.{eqb};
 ghost use lib.ListN.{length};
 ghost use Rattle.shown.specs.Row.{placeOf};
 ghost use Rattle.anim.specs.Export.{OpensC, HandsOn, StepsOnC, StepsBackC, rowC, numberOr, placeOr, WritesC, SizesC};
@@ -19,6 +21,16 @@ fn wrong_length() -> u64
 {
     let why = Refusal::OutsideLimits;
     why.number()
+}
+
+// Whether the slices for a state and a report have their lengths.
+fn sized(state: usize, report: usize) -> bool
+    ensures { λ r. ⌜ r ≡ (eqb state 48 && eqb report 32) ⌝ }
+{
+    if state != 48 {
+        return false;
+    }
+    report == 32
 }
 
 // Asks how long A and B must be for a file.
@@ -90,10 +102,7 @@ pub extern "C" fn anim_step_on(
 ) -> u64
     ensures { λ r. ⌜ StepsOnC (now (file .entry)) (now (a .entry)) (now (b .entry)) (now (work .entry)) (now (rec .entry)) (now (state .entry)) (now (report .entry)) r (now (a .exit)) (now (b .exit)) (now (work .exit)) (now (rec .exit)) (now (state .exit)) (now (report .exit)) ⌝ }
 {
-    if state.len() != 48 {
-        return wrong_length();
-    }
-    if report.len() != 32 {
+    if !sized(state.len(), report.len()) {
         return wrong_length();
     }
     let s = player::step_on(file, words::read_state(state), a, b, work, rec);

@@ -2,7 +2,7 @@
 use Prim.Native.Nat.{ℕ}
 use native.Mathlib.Omega.{arith}
 use mathlib.Core.Path.{_≡_, refl, sym, ap, _∙_, subst}
-use mathlib.Core.Bool.{Bool, true, false, not}
+use mathlib.Core.Bool.{Bool, true, false, not, _&&_}
 use mathlib.Core.Option.{Option, none, some}
 use borrow.Author.Tests.{not-true, not-false}
 use Rattle.laws.specs.Result.{Res, Res.ok, Res.fault, _>>=_, need, answer, pick, _>>?_, given}
@@ -84,3 +84,8 @@ answered (fault n) e = let z : _≡_ {A = ℕ} 0 1 = cc in absurd (omega arith)
 pub answer-refused : {A : Type 0} (r : Res A) {n : ℕ} → answer r ≡ fault n → r ≡ fault n
 answer-refused (ok a) e = let z : _≡_ {A = ℕ} 0 1 = cc in absurd (omega arith)
 answer-refused (fault m) {n} e = let q : m ≡ n = cc in rw q
+
+-- two tests that hold together
+pub two-true : (a b : Bool) → (a && b) ≡ true → (a ≡ true) × (b ≡ true)
+two-true true b e = (refl, e)
+two-true false b e = let z : _≡_ {A = ℕ} 0 1 = cc in absurd (omega arith)

@@ -1,14 +1,15 @@
 -- Laws of the listing of a whole file: the order of its tests, what is left in the buffers, and that the text is the file's alone.
 use Prim.Native.Nat.{ℕ, zero, suc, _-_, _<_, _≤_}
 use native.Mathlib.Omega.{arith}
-use mathlib.Core.Bool.{Bool, true, false}
+use mathlib.Core.Bool.{Bool, true, false, _&&_}
 use mathlib.Core.List.{List, [], _++_}
 use mathlib.Core.Path.{_≡_, refl, sym, ap, _∙_}
 use lib.Dec.{leb}
 use lib.ListN.{length, take, drop}
 use lib.Seq.{length-take-le, take-nil}
-use borrow.Author.Tests.{le-leb, lt-leb}
+use borrow.Author.Tests.{le-leb, lt-leb, leb-true}
 use Rattle.laws.specs.Result.{Res, Res.ok, Res.fault, answer, pick}
+use Rattle.laws.specs.ResultLaws.{two-true}
 use Rattle.laws.specs.Loop.{Step.next, Step.done, run, runs}
 use Rattle.laws.specs.Store.{over}
 use Rattle.opening.specs.declared.OpenedFile.{OpenedFile}
@@ -160,31 +161,23 @@ module _ (file a b work rec out : List ℕ) where
   unfolding over
   over-nothing = ap (λ (t : List ℕ). t ++ out) (sym (take-nil (length out)))
 
-  kept : roomy a b work rec ≡ false → MeetsList file a b work rec out 0 a b work rec out
-  kept e =
+  pub too-short : roomy a b work rec ≡ false → MeetsList file a b work rec out 0 a b work rec out
+  too-short e =
       let l = lent-is e in
       let t = text-is e in
       record { text = rw t over-nothing; count = rw t (omega arith); most = omega arith; left = rw l refl; right = rw l refl; drawn = rw l refl; written = rw l refl }
 
-  pub short-a : length a < 16_384 → MeetsList file a b work rec out 0 a b work rec out
-  short-a h = kept (simp (lt-leb 16_384 (length a) h))
+  module _ (e : roomy a b work rec ≡ true) where
+    pub long-enough : (16_384 ≤ length a) × (16_384 ≤ length b) × (16_384 ≤ length work) × (ROOM ≤ length rec)
+    long-enough =
+        let p = two-true (leb 16_384 (length a) && leb 16_384 (length b) && leb 16_384 (length work)) (leb ROOM (length rec)) e in
+        let q = two-true (leb 16_384 (length a) && leb 16_384 (length b)) (leb 16_384 (length work)) (p .0) in
+        let r = two-true (leb 16_384 (length a)) (leb 16_384 (length b)) (q .0) in
+        (leb-true _ _ (r .0), leb-true _ _ (r .1), leb-true _ _ (q .1), leb-true _ _ (p .1))
 
-  module _ (la : 16_384 ≤ length a) where
-    pub short-b : length b < 16_384 → MeetsList file a b work rec out 0 a b work rec out
-    short-b h = kept (simp (le-leb 16_384 (length a) la, lt-leb 16_384 (length b) h))
-
-    module _ (lb : 16_384 ≤ length b) where
-      pub short-work : length work < 16_384 → MeetsList file a b work rec out 0 a b work rec out
-      short-work h = kept (simp (le-leb 16_384 (length a) la, le-leb 16_384 (length b) lb, lt-leb 16_384 (length work) h))
-
-      module _ (lw : 16_384 ≤ length work) where
-        pub short-rec : length rec < ROOM → MeetsList file a b work rec out 0 a b work rec out
-        short-rec h = kept (simp (le-leb 16_384 (length a) la, le-leb 16_384 (length b) lb, le-leb 16_384 (length work) lw, lt-leb ROOM (length rec) h))
-
-        pub meets-list : ROOM ≤ length rec → {r : ℕ} {a′ b′ work′ rec′ out′ : List ℕ} → Lists (listed file (blank a b work rec)) out r a′ b′ work′ rec′ out′ → MeetsList file a b work rec out r a′ b′ work′ rec′ out′
-        meets-list lr {r} {out′ = out′} v =
-            let e : roomy a b work rec ≡ true = simp (le-leb 16_384 (length a) la, le-leb 16_384 (length b) lb, le-leb 16_384 (length work) lw, le-leb ROOM (length rec) lr) in
-            let l = lent-is e in
-            let t = text-is e ∙ sym (text-same file a b work rec) in
-            let n : r ≤ length out′ = omega (arith, v .count, ap length (v .text) ∙ length-over (listed file (blank a b work rec) .text) out) in
-            record { text = rw t (v .text); count = rw t (v .count); most = n; left = rw l (v .left); right = rw l (v .right); drawn = rw l (v .drawn); written = rw l (v .written) }
+    pub meets-list : {r : ℕ} {a′ b′ work′ rec′ out′ : List ℕ} → Lists (listed file (blank a b work rec)) out r a′ b′ work′ rec′ out′ → MeetsList file a b work rec out r a′ b′ work′ rec′ out′
+    meets-list {r} {out′ = out′} v =
+        let l = lent-is e in
+        let t = text-is e ∙ sym (text-same file a b work rec) in
+        let n : r ≤ length out′ = omega (arith, v .count, ap length (v .text) ∙ length-over (listed file (blank a b work rec) .text) out) in
+        record { text = rw t (v .text); count = rw t (v .count); most = n; left = rw l (v .left); right = rw l (v .right); drawn = rw l (v .drawn); written = rw l (v .written) }

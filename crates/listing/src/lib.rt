@@ -1,6 +1,9 @@
 // The listing of a file: what document 01 has the listing program write.
 ghost use mathlib.Core.List.{[], _∷_, _++_};
+ghost use mathlib.Core.Bool.{_&&_};
+ghost use mathlib.Core.Path.{_≡_};
 ghost use Prim.Native.Nat.{_≤_};
+ghost use lib.Dec.{leb};
 ghost use lib.ListN.{length};
 ghost use Rattle.listing.specs.Lines.{decimal, tooLarge, refusedLine, endLine, pictureLine, frameLine};
 ghost use Rattle.listing.specs.Listing.{frames, opens, fronts, listed, blank, Lists, MeetsList};
@@ -234,6 +237,22 @@ fn list_file(
     }
 }
 
+// Whether buffers of these lengths are long enough for every file.
+fn roomy(a: usize, b: usize, work: usize, rec: usize) -> bool
+    ensures { λ r. ⌜ r ≡ (leb 16384 a && leb 16384 b && leb 16384 work && leb 65536 rec) ⌝ }
+{
+    if a < FRAME {
+        return false;
+    }
+    if b < FRAME {
+        return false;
+    }
+    if work < FRAME {
+        return false;
+    }
+    RECORD <= rec
+}
+
 // Lists a file: its text goes to the front of `out`, as far as that goes, and the answer is the number of bytes written.
 // A, B and the work buffer need FRAME bytes each and the record buffer RECORD bytes; with less nothing is listed.
 pub fn list(
@@ -246,16 +265,7 @@ pub fn list(
 ) -> usize
     ensures { λ r. ⌜ MeetsList (now (file .entry)) (now (a .entry)) (now (b .entry)) (now (work .entry)) (now (rec .entry)) (now (out .entry)) r (now (a .exit)) (now (b .exit)) (now (work .exit)) (now (rec .exit)) (now (out .exit)) ⌝ }
 {
-    if a.len() < FRAME {
-        return 0;
-    }
-    if b.len() < FRAME {
-        return 0;
-    }
-    if work.len() < FRAME {
-        return 0;
-    }
-    if rec.len() < RECORD {
+    if !roomy(a.len(), b.len(), work.len(), rec.len()) {
         return 0;
     }
     list_file(file, a, b, work, rec, out)

@@ -4,7 +4,7 @@ use native.Mathlib.Nat.{pow-suc}
 use native.Mathlib.Numerals.{add-one}
 use native.Mathlib.Decide.{ℕ-discrete as decEq}
 use native.Mathlib.Omega.{arith}
-use mathlib.Core.Bool.{Bool, true, false, _&&_}
+use mathlib.Core.Bool.{Bool, true, _&&_}
 use mathlib.Core.List.{List, [], _∷_, _++_, map, zipWith}
 use mathlib.Core.Path.{_≡_, refl, ap, _∙_}
 use lib.Bits.{bitAnd, bitOr, bitXor, xor-lt, xor-block, and-block, and-le-r, or-block, or-lt}
@@ -13,6 +13,7 @@ use lib.ListN.{length, getD, replicate, take, drop, length-drop}
 use lib.Seq.{length-take-le, take-add, drop-cons, drop-drop}
 use borrow.Author.Tests.{eqb-true}
 use Rattle.laws.specs.Bytes.{Bytes}
+use Rattle.laws.specs.ResultLaws.{two-true}
 use Rattle.runs.specs.Word.{wordOf, zeroBytes}
 
 -- a word of four bytes at a place, and of two halves
@@ -80,10 +81,6 @@ zero-of-zero = refl
 every : ℕ → (ℕ → Bool) → Bool
 every zero p = true
 every (suc n) p = p n && every n p
-
-two-true : (a b : Bool) → (a && b) ≡ true → (a ≡ true) × (b ≡ true)
-two-true true b e = (refl, e)
-two-true false b e = let z : _≡_ {A = ℕ} 0 1 = cc in absurd (omega arith)
 
 every-at : (n : ℕ) (p : ℕ → Bool) → every n p ≡ true → (k : ℕ) → k < n → p k ≡ true
 unfolding every

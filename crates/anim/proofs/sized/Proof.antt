@@ -1,0 +1,13 @@
+-- `anim::sized`: one length after the other.
+use borrow.Author.Tests.{eq-eqb, ne-eqb}
+use Rattle.anim.proofs.sized.Statement.{statement}
+use Rattle.anim.proofs.sized.Tie as tie
+
+returns : tie.Need-returns
+returns c = simp (ne-eqb _ _ (c .if1 .taken))
+
+returns-2 : tie.Need-returns-2
+returns-2 c = simp (eq-eqb _ _ (c .if1 .left))
+
+pub sized-spec : {M : Type 1} → statement M
+sized-spec = tie.close (tie.spec returns returns-2)
