@@ -13,7 +13,7 @@ use Rattle.laws.specs.Result.{Res, Res.ok}
 use Rattle.column.specs.Column.{Op, Op.skip, Op.uniq, Op.same, opBytes, opsBytes}
 use Rattle.writer.specs.Write.{columnAt}
 use Rattle.writer.specs.ColumnLaws.{length-column}
-use Rattle.delta.specs.Delta.{Op as Stroke, noRows, Reading, byteAt, skip as skipRows, fill, Kind.same as sames, Kind.skips, Kind.uniq as uniqs, kindOf, readOp, readOps, put, draw}
+use Rattle.delta.specs.Delta.{Op as Stroke, noRows, Reading, byteAt, skip as skipRows, fill, Kind.skips, Kind.uniq as uniqs, kindOf, readOp, readOps, put, draw}
 use Rattle.delta.specs.declared.Shape.{Shape}
 use Rattle.roundtrip.specs.OpLaws.{reach, passed, reachAll, passedAll, Valid, ValidAll}
 
