@@ -1,5 +1,5 @@
 -- Laws of the listing of a whole file: the order of its tests, what is left in the buffers, and that the text is the file's alone.
-use Prim.Native.Nat.{ℕ, zero, suc, _-_, _<_, _≤_}
+use Prim.Native.Nat.{ℕ, zero, suc, _-_, _<_, _≤_, min}
 use native.Mathlib.Omega.{arith}
 use mathlib.Core.Bool.{Bool, true, false, _&&_}
 use mathlib.Core.List.{List, [], _++_}
@@ -17,9 +17,9 @@ use Rattle.opening.specs.Open.{Film, MeetsOpen, openingOf, pictureAfter, stateA
 use Rattle.state.specs.World.{World}
 use Rattle.state.specs.Outcome.{Answer, Answer.refused, Answer.ended, Answer.tookOn, Answer.tookBack}
 use Rattle.player.specs.Step.{stepOn}
-use Rattle.listing.specs.Lines.{pictureLine, refusedLine, tooLarge}
-use Rattle.listing.specs.TextLaws.{Adds, adds-front, length-over}
-use Rattle.listing.specs.Listing.{Scene, says, leaves, lineOn, listStep, frames, shows, opens, ROOM, front, behind, fronts, sized, listed, blank, listing, roomy, lent, lentText, Lists, MeetsList}
+use Rattle.lines.specs.Lines.{pictureLine, refusedLine, tooLarge}
+use Rattle.lines.specs.TextLaws.{Adds, adds-at, adds-front, length-over}
+use Rattle.listing.specs.Listing.{Scene, says, leaves, lineOn, listStep, frames, shows, opens, ROOM, front, behind, fronts, Planned, Planned.single, Planned.pictures, sized, planned, follow, listed, blank, listing, roomy, lent, lentText, Lists, MeetsList}
 
 -- what the work and the record buffer hold makes no difference to pictures, state and text
 record Alike (c d : Scene) : Type 0 where
@@ -53,32 +53,21 @@ module _ (file a b work rec : List ℕ) where
   shown-text n (ok F) = frames-alike file n ROOM _ _ _ _ _ _ .text
   shown-text n (fault m) = refl
 
-  sized-text : (q : Res ℕ) → sized file (blank a b work rec) q .text ≡ sized file (blank [] [] [] []) q .text
-  unfolding fronts
-  sized-text (fault n) = refl
-  sized-text (ok n) = go (leb n 16_384)
-    where
-      go : (t : Bool) → pick t (fronts file n (blank a b work rec)) (says (blank a b work rec) tooLarge) .text
-          ≡ pick t (fronts file n (blank [] [] [] [])) (says (blank [] [] [] []) tooLarge) .text
-      go true = shown-text n (opening file n n)
-      go false = refl
-
   pub text-same : listed file (blank a b work rec) .text ≡ listing file
-  unfolding listed listing
-  text-same = go (leb (length file) 65_536)
+  unfolding listed listing fronts
+  text-same = go (planned file)
     where
-      go : (t : Bool) → pick t (sized file (blank a b work rec) (firstSize file)) (says (blank a b work rec) tooLarge) .text
-          ≡ pick t (sized file (blank [] [] [] []) (firstSize file)) (says (blank [] [] [] []) tooLarge) .text
-      go true = sized-text (firstSize file)
-      go false = refl
+      go : (p : Planned) → follow file (blank a b work rec) p .text ≡ follow file (blank [] [] [] []) p .text
+      go (single line) = refl
+      go (pictures n) = shown-text n (opening file n n)
 
 -- one line is the whole text
-pub lists-line : {c : Scene} {line out : List ℕ} {n : ℕ} {out′ : List ℕ} (a b work rec : List ℕ) → c ≡ says (blank a b work rec) line → Adds out 0 line out′ n → Lists c out n a b work rec out′
-lists-line a b work rec e v = let t = adds-front v in rw e (record { text = t .0; count = t .1; left = refl; right = refl; drawn = refl; written = refl })
+pub lists-line : {c : Scene} {line out : List ℕ} {n : ℕ} {out′ : List ℕ} (a b work rec : List ℕ) → c ≡ says (blank a b work rec) line → Adds out (min 0 (length out)) line out′ n → Lists c out n a b work rec out′
+lists-line a b work rec e v = let t = adds-front (adds-at (omega arith) v) in rw e (record { text = t .0; count = t .1; left = refl; right = refl; drawn = refl; written = refl })
 
 -- an opening that is refused, and one that isn't
 module _ (file a b work rec : List ℕ) {r : OpenedFile} {a′ b′ : List ℕ} (m : MeetsOpen file a b r a′ b′) where
-  pub opens-refused : {i : ℕ} {out : List ℕ} {n : ℕ} {out′ : List ℕ} → openingOf (r .answer) ≡ fault i → Adds out 0 (refusedLine i) out′ n → Lists (opens file a b work rec) out n a′ b′ work rec out′
+  pub opens-refused : {i : ℕ} {out : List ℕ} {n : ℕ} {out′ : List ℕ} → openingOf (r .answer) ≡ fault i → Adds out (min 0 (length out)) (refusedLine i) out′ n → Lists (opens file a b work rec) out n a′ b′ work rec out′
   unfolding opens shows
   opens-refused {i} {out} {n} {out′} e v = go (opening file (length a) (length b)) (sym (m .answer) ∙ e) (m .left) (m .right)
     where
@@ -97,27 +86,47 @@ module _ (file a b work rec : List ℕ) {r : OpenedFile} {a′ b′ : List ℕ} 
       go (fault j) d l k s = let z : _≡_ {A = ℕ} 0 1 = cc in absurd (omega arith)
 
 -- the tests of a file, in order
-module _ (file : List ℕ) (c : Scene) where
-  pub file-large : 65_536 < length file → listed file c ≡ says c tooLarge
-  unfolding listed
+module _ (file : List ℕ) where
+  pub file-large : 65_536 < length file → single tooLarge ≡ planned file
+  unfolding planned
   file-large h = rw (lt-leb (length file) 65_536 h) refl
 
   module _ (h : length file ≤ 65_536) where
-    pub size-refused : {n : ℕ} → firstSize file ≡ fault n → listed file c ≡ says c (refusedLine n)
-    unfolding listed
+    pub size-refused : {n : ℕ} → firstSize file ≡ fault n → single (refusedLine n) ≡ planned file
+    unfolding planned
     size-refused e = rw (le-leb (length file) 65_536 h, e) refl
 
     module _ {n : ℕ} (e : firstSize file ≡ ok n) where
-      pub frame-large : 16_384 < n → listed file c ≡ says c tooLarge
-      unfolding listed
+      pub frame-large : 16_384 < n → single tooLarge ≡ planned file
+      unfolding planned
       frame-large k = rw (le-leb (length file) 65_536 h, e) (rw (lt-leb n 16_384 k) refl)
 
-      frame-fits : n ≤ 16_384 → listed file c ≡ fronts file n c
-      unfolding listed
+      pub frame-fits : n ≤ 16_384 → pictures n ≡ planned file
+      unfolding planned
       frame-fits k = rw (le-leb (length file) 65_536 h, e) (rw (le-leb n 16_384 k) refl)
 
-      pub lists-fits : n ≤ 16_384 → {out : List ℕ} {r : ℕ} {a b work rec out′ : List ℕ} → Lists (fronts file n c) out r a b work rec out′ → Lists (listed file c) out r a b work rec out′
-      lists-fits k v = rw (frame-fits k) v
+-- a file that is listed by one line, and one that is listed frame by frame
+pub lists-single : (file a b work rec : List ℕ) {line out : List ℕ} {n : ℕ} {out′ : List ℕ} → planned file ≡ single line → Adds out (min 0 (length out)) line out′ n → Lists (listed file (blank a b work rec)) out n a b work rec out′
+unfolding listed
+lists-single file a b work rec e v = lists-line a b work rec (ap (follow file (blank a b work rec)) e) v
+
+pub lists-pictures : (file : List ℕ) (c : Scene) {n : ℕ} → planned file ≡ pictures n → {out : List ℕ} {r : ℕ} {a b work rec out′ : List ℕ} → Lists (fronts file n c) out r a b work rec out′ → Lists (listed file c) out r a b work rec out′
+unfolding listed
+lists-pictures file c e v = rw e v
+
+-- such frames are short enough
+pub pictures-fit : (file : List ℕ) {n : ℕ} → planned file ≡ pictures n → n ≤ 16_384
+unfolding planned
+pictures-fit file {n} = go (leb (length file) 65_536) (firstSize file)
+  where
+    fits : (m : ℕ) (t : Bool) → leb m 16_384 ≡ t → pick t (pictures m) (single tooLarge) ≡ pictures n → n ≤ 16_384
+    fits m true e d = let f : m ≡ n = cc in rw f at (leb-true m 16_384 e)
+    fits m false e d = let z : _≡_ {A = ℕ} 0 1 = cc in absurd (omega arith)
+
+    go : (t : Bool) (q : Res ℕ) → pick t (sized q) (single tooLarge) ≡ pictures n → n ≤ 16_384
+    go true (ok m) d = fits m (leb m 16_384) refl d
+    go true (fault m) d = let z : _≡_ {A = ℕ} 0 1 = cc in absurd (omega arith)
+    go false q d = let z : _≡_ {A = ℕ} 0 1 = cc in absurd (omega arith)
 
 -- buffers whose front parts a file with frames of n bytes needs
 pub record Holds (n a b work rec : ℕ) : Type 0 where

@@ -2,7 +2,7 @@
 -- and `end N` or `refused N` as the last line. Files of more than 65,536 bytes and frames of more than 16,384 bytes are too large;
 -- the file's length is looked at before all else, the frame's right after 24.
 use Prim.Native.Nat.{ℕ, _-_, _≤_, min}
-use mathlib.Core.Bool.{Bool, _&&_}
+use mathlib.Core.Bool.{Bool, true, false, _&&_}
 use mathlib.Core.List.{List, [], _++_}
 use mathlib.Core.Path.{_≡_}
 use lib.Dec.{leb}
@@ -15,7 +15,9 @@ use Rattle.opening.specs.Open.{Film, opening, firstSize, zeros}
 use Rattle.state.specs.World.{World}
 use Rattle.state.specs.Outcome.{Answer, Answer.refused, Answer.ended, Answer.tookOn, Answer.tookBack, After}
 use Rattle.player.specs.Step.{stepOn, workAfter}
-use Rattle.listing.specs.Lines.{refusedLine, endLine, pictureLine, frameLine, tooLarge}
+use Rattle.lines.specs.Lines.{refusedLine, endLine, pictureLine, frameLine, tooLarge, lineOf}
+use Rattle.listing.specs.declared.Plan.{Plan}
+use Rattle.listing.specs.declared.Plan.the-variants.{Single, Frames}
 
 -- what stands while a file is listed: both pictures and the state, the work and the record buffer, and the text so far
 pub record Scene : Type 0 where
@@ -32,12 +34,22 @@ says c line = record { world = c .world; work = c .work; rec = c .rec; text = c 
 abbrev pub leaves : Scene → After → Scene
 leaves c o = record { world = o .world; work = workAfter (c .work) (o .work); rec = o .bytes ++ drop (length (o .bytes)) (c .rec); text = c .text }
 
--- its line, which is the last one unless the step was taken; no step on answers as a step back
+-- the line of a step's answer, with the frame reached; no step on answers as a step back
+abbrev pub stepLine : Answer → ℕ → List ℕ
+stepLine (tookOn r) n = frameLine n r
+stepLine ended n = endLine n
+stepLine (refused k) n = refusedLine k
+stepLine tookBack n = []
+
+-- whether a step on was taken; the line is the last one unless it was
+abbrev pub taken : Answer → Bool
+taken (tookOn r) = true
+taken ended = false
+taken (refused k) = false
+taken tookBack = false
+
 abbrev pub lineOn : Answer → Scene → Step Scene Scene
-lineOn (tookOn r) c = next (says c (frameLine (c .world .state .frame) r))
-lineOn ended c = done (says c (endLine (c .world .state .frame)))
-lineOn (refused n) c = done (says c (refusedLine n))
-lineOn tookBack c = done c
+lineOn x c = pick (taken x) (next (says c (stepLine x (c .world .state .frame)))) (done (says c (stepLine x (c .world .state .frame))))
 
 -- one step on, with a work buffer of `size` bytes and a record buffer of `room` bytes
 abbrev pub listStep : List ℕ → ℕ → ℕ → Scene → Step Scene Scene
@@ -88,13 +100,29 @@ behind n c d = record {
 unfoldable pub fronts : List ℕ → ℕ → Scene → Scene
 fronts file n c = behind n c (shows file n ROOM (front n c) (opening file n n))
 
+-- how a file is listed: by one line, or frame by frame with frames of so many bytes
+pub data Planned : Type 0 where
+  single : List ℕ → Planned
+  pictures : ℕ → Planned
+
 -- by the length of the first picture's frame
-abbrev pub sized : List ℕ → Scene → Res ℕ → Scene
-sized file c (ok n) = pick (leb n 16_384) (fronts file n c) (says c tooLarge)
-sized file c (fault n) = says c (refusedLine n)
+abbrev pub sized : Res ℕ → Planned
+sized (ok n) = pick (leb n 16_384) (pictures n) (single tooLarge)
+sized (fault n) = single (refusedLine n)
+
+unfoldable pub planned : List ℕ → Planned
+planned file = pick (leb (length file) 65_536) (sized (firstSize file)) (single tooLarge)
+
+abbrev pub planOf : Plan → Planned
+planOf (Single line) = single (lineOf line)
+planOf (Frames n) = pictures n
+
+abbrev pub follow : List ℕ → Scene → Planned → Scene
+follow file c (single line) = says c line
+follow file c (pictures n) = fronts file n c
 
 unfoldable pub listed : List ℕ → Scene → Scene
-listed file c = pick (leb (length file) 65_536) (sized file c (firstSize file)) (says c tooLarge)
+listed file c = follow file c (planned file)
 
 -- the text of a file: what the buffers hold makes no difference (`text-same`)
 unfoldable pub listing : List ℕ → List ℕ

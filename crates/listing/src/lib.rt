@@ -1,21 +1,20 @@
 // The listing of a file: what document 01 has the listing program write.
-ghost use mathlib.Core.List.{[], _∷_, _++_};
 ghost use mathlib.Core.Bool.{_&&_};
 ghost use mathlib.Core.Path.{_≡_};
 ghost use Prim.Native.Nat.{_≤_};
 ghost use lib.Dec.{leb};
 ghost use lib.ListN.{length};
-ghost use Rattle.listing.specs.Lines.{decimal, tooLarge, refusedLine, endLine, pictureLine, frameLine};
-ghost use Rattle.listing.specs.Listing.{frames, opens, fronts, listed, blank, Lists, MeetsList};
+ghost use Rattle.lines.specs.Lines.{pictureLine, lineOf};
+ghost use Rattle.player.specs.Step.{onOf};
+ghost use Rattle.listing.specs.Listing.{stepLine, taken, frames, opens, planned, planOf, fronts, listed, blank, Lists, MeetsList};
 ghost use Rattle.listing.specs.FileLaws.{Holds};
-ghost use Rattle.listing.specs.TextLaws.{Adds};
-ghost use Rattle.refusal.specs.Number.{numberOf};
-use buffer::copy;
+use lines::Line;
+use lines::put_line;
 use opening::Opening;
 use opening::Size;
 use player::On;
+use player::SteppedOn;
 use refusal::Refusal;
-use state::Sizes;
 use state::State;
 
 // The longest file that is listed.
@@ -27,107 +26,45 @@ pub const FRAME: usize = 16384;
 // The length that the record buffer needs: every record of such a frame fits, with at most 2 * FRAME + 16 bytes.
 pub const RECORD: usize = 65536;
 
-// Adds a byte, if there is room for it.
-fn put_byte(out: &mut [u8], at: usize, byte: u8) -> usize
-    requires { ⌜ at ≤ length (now out) ⌝ }
-    ensures { λ r. ⌜ Adds (now (out .entry)) at (byte ∷ []) (now (out .exit)) r ⌝ }
+// The line of a step on.
+fn step_line(s: SteppedOn) -> Line
+    ensures { λ r. ⌜ lineOf r ≡ stepLine (onOf (s .answer)) (s .state .frame) ⌝ }
 {
-    if at < out.len() {
-        out[at] = byte;
-        return at + 1;
+    let state = s.state;
+    let answer = s.answer;
+    match answer {
+        On::Refused(why) => Line::Refused(why),
+        On::End => Line::End(state.frame),
+        On::Taken {
+            method,
+            time,
+            changed,
+            record,
+        } => Line::Frame {
+            frame: state.frame,
+            method,
+            time,
+            changed,
+            record,
+        },
     }
-    at
 }
 
-// Adds a text, as far as the buffer goes.
-fn put_text(out: &mut [u8], at: usize, text: &[u8]) -> usize
-    requires { ⌜ at ≤ length (now out) ⌝ }
-    ensures { λ r. ⌜ Adds (now (out .entry)) at (now (text .entry)) (now (out .exit)) r ⌝ }
+// Whether a step on was taken.
+fn taken(s: SteppedOn) -> bool
+    ensures { λ r. ⌜ r ≡ taken (onOf (s .answer)) ⌝ }
 {
-    let size = out.len();
-    copy(&mut out[at..], text);
-    if size - at < text.len() {
-        return size;
+    let answer = s.answer;
+    match answer {
+        On::Taken {
+            method: _,
+            time: _,
+            changed: _,
+            record: _,
+        } => true,
+        On::End => false,
+        On::Refused(_) => false,
     }
-    at + text.len()
-}
-
-// Adds a number in decimal.
-fn put_number(out: &mut [u8], at: usize, number: usize) -> usize
-    requires { ⌜ at ≤ length (now out) ⌝ }
-    ensures { λ r. ⌜ Adds (now (out .entry)) at (decimal number) (now (out .exit)) r ⌝ }
-{
-    if number < 10 {
-        return put_byte(out, at, 48 + number as u8);
-    }
-    let next = put_number(out, at, number / 10);
-    put_byte(out, next, 48 + (number % 10) as u8)
-}
-
-// Adds a word and a number.
-fn put_field(out: &mut [u8], at: usize, word: &[u8], number: usize) -> usize
-    requires { ⌜ at ≤ length (now out) ⌝ }
-    ensures { λ r. ⌜ Adds (now (out .entry)) at (now (word .entry) ++ decimal number) (now (out .exit)) r ⌝ }
-{
-    let next = put_text(out, at, word);
-    put_number(out, next, number)
-}
-
-// Adds the last line of a file that is refused.
-fn put_refused(out: &mut [u8], at: usize, why: Refusal) -> usize
-    requires { ⌜ at ≤ length (now out) ⌝ }
-    ensures { λ r. ⌜ Adds (now (out .entry)) at (refusedLine (numberOf why)) (now (out .exit)) r ⌝ }
-{
-    let number = why.number();
-    let next = put_field(out, at, b"refused ", number as usize);
-    put_byte(out, next, b'\n')
-}
-
-// Adds the last line of a file that ends at a frame.
-fn put_end(out: &mut [u8], at: usize, frame: usize) -> usize
-    requires { ⌜ at ≤ length (now out) ⌝ }
-    ensures { λ r. ⌜ Adds (now (out .entry)) at (endLine frame) (now (out .exit)) r ⌝ }
-{
-    let next = put_field(out, at, b"end ", frame);
-    put_byte(out, next, b'\n')
-}
-
-// Adds the only line of a file that is too large.
-fn put_too_large(out: &mut [u8]) -> usize
-    ensures { λ r. ⌜ Adds (now (out .entry)) 0 tooLarge (now (out .exit)) r ⌝ }
-{
-    put_text(out, 0, b"too large\n")
-}
-
-// Adds the first line: the picture's sizes.
-fn put_picture(out: &mut [u8], sizes: Sizes) -> usize
-    ensures { λ r. ⌜ Adds (now (out .entry)) 0 (pictureLine sizes) (now (out .exit)) r ⌝ }
-{
-    let mut at = put_field(out, 0, b"picture ", sizes.width);
-    at = put_field(out, at, b"x", sizes.height);
-    at = put_field(out, at, b"x", sizes.planes);
-    put_byte(out, at, b'\n')
-}
-
-// Adds a frame's line: what stepping on reported of it.
-fn put_frame(
-    out: &mut [u8],
-    from: usize,
-    frame: usize,
-    method: usize,
-    time: usize,
-    changed: usize,
-    rec: usize,
-) -> usize
-    requires { ⌜ from ≤ length (now out) ⌝ }
-    ensures { λ r. ⌜ Adds (now (out .entry)) from (frameLine frame (record { method = method; time = time; changed = changed; length = rec })) (now (out .exit)) r ⌝ }
-{
-    let mut at = put_field(out, from, b"frame ", frame);
-    at = put_field(out, at, b" method ", method);
-    at = put_field(out, at, b" time ", time);
-    at = put_field(out, at, b" changed ", changed);
-    at = put_field(out, at, b" record ", rec);
-    put_byte(out, at, b'\n')
 }
 
 // Lists an opened file: the picture's line, then a line for each step on until the end or a refusal.
@@ -143,24 +80,15 @@ fn list_frames(
     ensures { λ r. ⌜ Lists (frames (now (file .entry)) (length (now (work .entry))) (length (now (rec .entry))) (record { world = record { a = now (a .entry); b = now (b .entry); state = start }; work = now (work .entry); rec = now (rec .entry); text = pictureLine (start .sizes) })) (now (out .entry)) r (now (a .exit)) (now (b .exit)) (now (work .exit)) (now (rec .exit)) (now (out .exit)) ⌝ }
 {
     let mut state = start;
-    let mut at = put_picture(out, start.sizes);
+    let sizes = start.sizes;
+    let mut at = put_line(out, 0, Line::Picture(sizes));
     loop {
         let s = player::step_on(file, state, a, b, work, rec);
-        let reached = s.state;
-        let answer = s.answer;
-        match answer {
-            On::Refused(why) => return put_refused(out, at, why),
-            On::End => return put_end(out, at, reached.frame),
-            On::Taken {
-                method,
-                time,
-                changed,
-                record,
-            } => {
-                at = put_frame(out, at, reached.frame, method, time, changed, record);
-                state = reached;
-            }
+        at = put_line(out, at, step_line(s));
+        if !taken(s) {
+            return at;
         }
+        state = s.state;
     }
 }
 
@@ -179,7 +107,7 @@ fn list_film(
     let state = o.state;
     let answer = o.answer;
     match answer {
-        Opening::Refused(why) => put_refused(out, 0, why),
+        Opening::Refused(why) => put_line(out, 0, Line::Refused(why)),
         Opening::Opened => list_frames(file, state, a, b, work, rec, out),
     }
 }
@@ -207,6 +135,31 @@ fn list_front(
     )
 }
 
+// How a file is listed: by one line, or frame by frame with frames of so many bytes.
+enum Plan {
+    Single(Line),
+    Frames(usize),
+}
+
+// How a file is listed, by its length and its frames' length.
+fn plan_for(file: &[u8]) -> Plan
+    ensures { λ r. ⌜ planOf r ≡ planned (now (file .entry)) ⌝ }
+{
+    if FILE < file.len() {
+        return Plan::Single(Line::TooLarge);
+    }
+    let s = opening::frame_size(file);
+    match s {
+        Size::Refused(why) => Plan::Single(Line::Refused(why)),
+        Size::Bytes(n) => {
+            if FRAME < n {
+                return Plan::Single(Line::TooLarge);
+            }
+            Plan::Frames(n)
+        }
+    }
+}
+
 // Lists a file with buffers that are long enough.
 fn list_file(
     file: &[u8],
@@ -222,18 +175,10 @@ fn list_file(
     requires { ⌜ 65536 ≤ length (now rec) ⌝ }
     ensures { λ r. ⌜ Lists (listed (now (file .entry)) (blank (now (a .entry)) (now (b .entry)) (now (work .entry)) (now (rec .entry)))) (now (out .entry)) r (now (a .exit)) (now (b .exit)) (now (work .exit)) (now (rec .exit)) (now (out .exit)) ⌝ }
 {
-    if FILE < file.len() {
-        return put_too_large(out);
-    }
-    let s = opening::frame_size(file);
-    match s {
-        Size::Refused(why) => put_refused(out, 0, why),
-        Size::Bytes(n) => {
-            if FRAME < n {
-                return put_too_large(out);
-            }
-            list_front(file, n, a, b, work, rec, out)
-        }
+    let p = plan_for(file);
+    match p {
+        Plan::Single(line) => put_line(out, 0, line),
+        Plan::Frames(n) => list_front(file, n, a, b, work, rec, out),
     }
 }
 

@@ -12,8 +12,8 @@ open-requires c κs = search needs
 enum-known-answer : tie.Need-enum-known-answer
 enum-known-answer c = search needs
 
-put-refused-requires : tie.Need-put-refused-requires
-put-refused-requires c κs = search needs
+put-line-requires : tie.Need-put-line-requires
+put-line-requires c κs = search needs
 
 enum-told : tie.Need-enum-told
 enum-told c = search needs
@@ -31,7 +31,7 @@ same-length-3 : tie.Need-same-length-3
 same-length-3 c = search needs
 
 returns : tie.Need-returns
-returns c = opens-refused _ _ _ _ _ (c .before .before .before .before .before .before .before .before .before .before .before .before .«open» .ensures) (ap openingOf (c .before .before .before .before .before .answer .given .1)) (c .before .before .put-refused .ensures)
+returns c = opens-refused _ _ _ _ _ (c .before .before .before .before .before .before .before .before .before .before .before .before .«open» .ensures) (ap openingOf (c .before .before .before .before .before .answer .given .1)) (c .before .before .put-line .ensures)
 
 same-length-4 : tie.Need-same-length-4
 same-length-4 c = search needs
@@ -57,7 +57,7 @@ list-film-spec =
     (tie.spec
     open-requires
     enum-known-answer
-    put-refused-requires
+    put-line-requires
     enum-told
     list-frames-requires
     same-length

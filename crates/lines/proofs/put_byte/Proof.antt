@@ -1,8 +1,8 @@
--- `listing::put_byte`: a byte where there is room for it.
-use Rattle.listing.specs.TextLaws.{adds-byte, adds-nothing}
+-- `lines::put_byte`: a byte where there is room for it.
+use Rattle.lines.specs.TextLaws.{adds-byte, adds-nothing}
 use borrow.Author.Needs.{needs}
-use Rattle.listing.proofs.put_byte.Statement.{statement}
-use Rattle.listing.proofs.put_byte.Tie as tie
+use Rattle.lines.proofs.put_byte.Statement.{statement}
+use Rattle.lines.proofs.put_byte.Tie as tie
 
 slice-write-out : tie.Need-slice-write-out
 slice-write-out c = search needs

@@ -25,8 +25,8 @@ use Rattle.anhd.specs.declared.Items.{Items}
 use Rattle.delta.specs.Delta.{shapeOf, readPicture, readDelta}
 use Rattle.frame.specs.Frame.{ANHD, DLTA, Frame, frameIn, frameOr, frameAt}
 use Rattle.state.specs.Outcome.{Report}
-use Rattle.listing.specs.Lines.{decimal, frameLine, refusedLine, endLine, pictureLine}
-use Rattle.listing.specs.TextLaws.{decimal-digit, decimal-more}
+use Rattle.lines.specs.Lines.{decimal, frameLine, refusedLine, endLine, pictureLine}
+use Rattle.lines.specs.TextLaws.{decimal-digit, decimal-more}
 
 -- a number below 10 to the k has at most k digits
 tenth : (k n : ℕ) → n < 10 ^ suc (suc k) → n / 10 < 10 ^ suc k

@@ -21,8 +21,8 @@ use Rattle.record.specs.RunList.{runBytes, runsBytes, listBytes}
 use Rattle.record.specs.Record.{recordBytes}
 use Rattle.state.specs.World.{isOdd, shownOf, hiddenOf}
 use Rattle.player.specs.Step.{ready, change, makes, advance, settle, onHidden, stepOn}
-use Rattle.listing.specs.Lines.{ascii, decimal, endLine, pictureLine, frameLine}
-use Rattle.listing.specs.Listing.{frames, listed, fronts, shows, listing}
+use Rattle.lines.specs.Lines.{ascii, decimal, endLine, pictureLine, frameLine}
+use Rattle.listing.specs.Listing.{frames, planned, listed, fronts, shows, listing}
 
 -- FORM ANIM; the first picture, 16 × 2 pixels in one plane, all zero; then frame 2, whose FORM stands at 64
 abbrev sample : List ℕ
@@ -36,5 +36,5 @@ sample =
     ++ ascii "DLTA" ++ (0 ∷ 0 ∷ 0 ∷ 69 ∷ 0 ∷ 0 ∷ 0 ∷ 64 ∷ []) ++ replicate 60 0 ++ (1 ∷ 0x82 ∷ 0xAA ∷ 0xBB ∷ 0 ∷ 0 ∷ [])
 
 sample-text : listing sample ≡ ascii "picture 16x2x1\nframe 2 method 5 time 3 changed 2 record 9\nend 2\n"
-unfolding listing listed fronts shows frames decimal endLine pictureLine frameLine stepOn onHidden settle hiddenOf shownOf isOdd ready advance change makes recordBytes differing runBytes runsBytes listBytes opening firstOf firstSize firstPlaces placesIn frameAt frameIn readDelta readPicture readPlanes readPlane pointer readColumns readColumn readOps readOp byteAt skip fill draw put frameHeader body drawRows place rowsFrom rowAt header findBoth nextFrame animEnd find chunkAt runsOf changed kept writeNumber writeGroups stateLength frameLength frameBytes rowBytes runs be32 be16
+unfolding listing listed planned fronts shows frames decimal endLine pictureLine frameLine stepOn onHidden settle hiddenOf shownOf isOdd ready advance change makes recordBytes differing runBytes runsBytes listBytes opening firstOf firstSize firstPlaces placesIn frameAt frameIn readDelta readPicture readPlanes readPlane pointer readColumns readColumn readOps readOp byteAt skip fill draw put frameHeader body drawRows place rowsFrom rowAt header findBoth nextFrame animEnd find chunkAt runsOf changed kept writeNumber writeGroups stateLength frameLength frameBytes rowBytes runs be32 be16
 sample-text = refl

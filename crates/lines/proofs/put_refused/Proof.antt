@@ -1,9 +1,9 @@
--- `listing::put_refused`: a word and a number, then the line's end.
-use Rattle.listing.specs.Lines.{refusedLine}
-use Rattle.listing.specs.TextLaws.{adds-then}
+-- `lines::put_refused`: a word and a number, then the line's end.
+use Rattle.lines.specs.Lines.{refusedLine}
+use Rattle.lines.specs.TextLaws.{adds-then}
 use borrow.Author.Needs.{needs}
-use Rattle.listing.proofs.put_refused.Statement.{statement}
-use Rattle.listing.proofs.put_refused.Tie as tie
+use Rattle.lines.proofs.put_refused.Statement.{statement}
+use Rattle.lines.proofs.put_refused.Tie as tie
 
 number-requires : tie.Need-number-requires
 number-requires c κs = search needs

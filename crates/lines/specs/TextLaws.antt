@@ -6,10 +6,10 @@ use mathlib.Core.List.{List, [], _∷_, _++_, append-assoc, append-nil}
 use mathlib.Core.Path.{_≡_, refl, sym, ap, _∙_}
 use lib.Dec.{ltb}
 use lib.ListN.{length, set, take, drop, length-append, length-take, length-drop, drop-of-length-le}
-use lib.Seq.{take-all, take-nil, take-at, drop-at, take-append-add, drop-append-add, drop-drop, set-split, length-take-le}
+use lib.Seq.{take-all, take-nil, drop-nil, take-at, drop-at, take-append-add, drop-append-add, drop-drop, set-split, length-take-le}
 use borrow.Author.Tests.{lt-ltb, le-ltb, ltb-false}
 use Rattle.laws.specs.Store.{over}
-use Rattle.listing.specs.Lines.{digits, decimal}
+use Rattle.lines.specs.Lines.{digits, decimal}
 
 -- bytes added to a buffer at a place, as far as it goes, and the place after them
 pub record Adds (out : List ℕ) (at : ℕ) (bytes out′ : List ℕ) (next : ℕ) : Type 0 where
@@ -102,6 +102,20 @@ adds-text out at size bytes {y} h l e p =
     let k : length (drop at out) ≤ size - at = simp length-drop (omega arith) in
     let f : y ++ drop (size - at) (drop at out) ≡ over bytes (drop at out) = rw (drop-of-length-le (drop at out) {i = size - at} k) (append-nil y ∙ e ∙ rw (take-all (size - at) (drop at out) k) refl) in
     record { from = h; place = p; left = ap (λ (t : List ℕ). take at out ++ t) f }
+
+-- at a place within the buffer, and past its end
+pub adds-within : {out : List ℕ} {at : ℕ} {bytes out′ : List ℕ} {next : ℕ} → at ≤ length out → Adds out at bytes out′ next → Adds out (min at (length out)) bytes out′ next
+adds-within {out} {at} h v = let e : min at (length out) ≡ at = omega arith in rw e v
+
+pub adds-past : {out : List ℕ} {at : ℕ} (bytes : List ℕ) → length out < at → Adds out (min at (length out)) bytes out (length out)
+unfolding over
+adds-past {out} {at} bytes h =
+    let e : min at (length out) ≡ length out = omega arith in
+    let d : drop (length out) out ≡ [] = drop-of-length-le out {i = length out} (omega arith) in
+    rw e (record { from = omega arith; place = omega arith; left = rw d (sym (ap (λ (t : List ℕ). take (length out) out ++ t) (drop-nil (length bytes)) ∙ append-nil (take (length out) out) ∙ take-all (length out) out (omega arith))) })
+
+pub adds-at : {out : List ℕ} {at : ℕ} {bytes out′ : List ℕ} {next : ℕ} → at ≤ length out → Adds out (min at (length out)) bytes out′ next → Adds out at bytes out′ next
+adds-at {out} {at} h v = let e : min at (length out) ≡ at = omega arith in rw e at v
 
 -- at the front of a buffer
 pub adds-front : {out bytes out′ : List ℕ} {next : ℕ} → Adds out 0 bytes out′ next → (out′ ≡ over bytes out) × (next ≡ min (length bytes) (length out))

@@ -8,6 +8,9 @@ use mathlib.Core.Path.{_≡_, refl}
 use lib.Dec.{ltb}
 use Rattle.state.specs.declared.Sizes.{Sizes}
 use Rattle.state.specs.Outcome.{Report}
+use Rattle.refusal.specs.Number.{numberOf}
+use Rattle.lines.specs.declared.Line.{Line}
+use Rattle.lines.specs.declared.Line.the-variants.{TooLarge, Picture, Frame, End, Refused}
 
 -- the bytes of a text
 abbrev pub ascii : String → List ℕ
@@ -45,6 +48,14 @@ pictureLine z = field "picture " (z .width) ++ field "x" (z .height) ++ field "x
 unfoldable pub frameLine : ℕ → Report → List ℕ
 frameLine n r =
     field "frame " n ++ field " method " (r .method) ++ field " time " (r .time) ++ field " changed " (r .changed) ++ field " record " (r .length) ++ newline
+
+-- the text of each line
+abbrev pub lineOf : Line → List ℕ
+lineOf TooLarge = tooLarge
+lineOf (Picture z) = pictureLine z
+lineOf (Frame n method time changed size) = frameLine n (record { method = method; time = time; changed = changed; length = size })
+lineOf (End n) = endLine n
+lineOf (Refused why) = refusedLine (numberOf why)
 
 -- the papers' sample, line by line
 sample-picture : pictureLine (record { width = 16; height = 2; planes = 1 }) ≡ ascii "picture 16x2x1\n"

@@ -1,10 +1,10 @@
--- `listing::put_text`: a copy to the rest of the buffer.
+-- `lines::put_text`: a copy to the rest of the buffer.
 use mathlib.Core.Path.{refl}
 use native.Mathlib.Omega.{arith}
-use Rattle.listing.specs.TextLaws.{adds-text}
+use Rattle.lines.specs.TextLaws.{adds-text}
 use borrow.Author.Needs.{needs}
-use Rattle.listing.proofs.put_text.Statement.{statement}
-use Rattle.listing.proofs.put_text.Tie as tie
+use Rattle.lines.proofs.put_text.Statement.{statement}
+use Rattle.lines.proofs.put_text.Tie as tie
 
 sub-copy : tie.Need-sub-copy
 sub-copy c = search needs

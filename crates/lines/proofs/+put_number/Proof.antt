@@ -1,16 +1,16 @@
--- `listing::put_number`: the digits before the last one, then that one. The measure is the number.
+-- `lines::put_number`: the digits before the last one, then that one. The measure is the number.
 use native.Mathlib.Omega.{arith}
-use Rattle.listing.specs.TextLaws.{adds-room, adds-then, adds-as, decimal-digit, decimal-more}
+use Rattle.lines.specs.TextLaws.{adds-room, adds-then, adds-as, decimal-digit, decimal-more}
 use borrow.Author.Needs.{needs}
 use Prim.Native.Nat.{ℕ, _<_}
 use borrow.Fn.Kinds.{In}
 use borrow.Fn.PlainCycle.{Measures, is, falls, and}
-use Rattle.listing.proofs.put_number.Reads as put-number
-use Rattle.listing.proofs.put_number.Kinds as put-number-kinds
-use Rattle.listing.proofs.+put_number.Lts-put_number as put-number-lts
-use Rattle.listing.proofs.put_byte.Reads as put-byte-reads
-use Rattle.listing.proofs.+put_number.{statement}
-use Rattle.listing.proofs.+put_number.Tie.{close}
+use Rattle.lines.proofs.put_number.Reads as put-number
+use Rattle.lines.proofs.put_number.Kinds as put-number-kinds
+use Rattle.lines.proofs.+put_number.Lts-put_number as put-number-lts
+use Rattle.lines.proofs.put_byte.Reads as put-byte-reads
+use Rattle.lines.proofs.+put_number.{statement}
+use Rattle.lines.proofs.+put_number.Tie.{close}
 
 abbrev μ-put-number : Measures 1 put-number-kinds.ps ℕ
 μ-put-number κs a = a .1 .1 .0

@@ -30,12 +30,12 @@ use Rattle.state.specs.Outcome.{Answer.refused, Answer.tookOn, Outcome, After}
 use Rattle.player.specs.Step.{ready, change, Made, makes, make, advance, settle, stepOn}
 use Rattle.player.specs.OutcomeLaws.{on-put}
 use Rattle.player.specs.ReadyLaws.{ready-passed}
-use Rattle.listing.specs.Lines.{frameLine, endLine, refusedLine, pictureLine, tooLarge}
-use Rattle.listing.specs.Listing.{Scene, says, leaves, lineOn, listStep, frames, shows, ROOM, front, behind, fronts, sized, listed, blank, listing}
+use Rattle.lines.specs.Lines.{frameLine, endLine, refusedLine, pictureLine, tooLarge}
+use Rattle.listing.specs.Listing.{Scene, leaves, lineOn, listStep, frames, shows, ROOM, fronts, Planned.single, Planned.pictures, sized, planned, follow, listed, blank, listing}
 use Rattle.changes.specs.CountLaws.{differing-short}
 use Rattle.record.specs.RoomLaws.{record-short}
-use Rattle.listing.proofs.ShortLaws.{Holds, frame-holds, delta-long, Tells, frame-line-short, end-line-short, refused-line-short, picture-line-short}
-use Rattle.listing.proofs.LowLaws.{Low, Low.low-fault, size-low, opening-low, on-low}
+use Rattle.listing_laws.specs.ShortLaws.{Holds, frame-holds, delta-long, Tells, frame-line-short, end-line-short, refused-line-short, picture-line-short}
+use Rattle.listing_laws.specs.LowLaws.{Low, Low.low-fault, size-low, opening-low, on-low}
 
 -- what a frame that is made comes to
 record Makes (file : ℕ) (s : State) (m : Made) : Type 0 where
@@ -188,19 +188,19 @@ module _ (file : List ℕ) (bytes : Bytes file) where
       frames-short file bytes h n _ (record { left = w; right = w; frame = omega arith; place = p; text = t })
   shows-short h n k (fault m) (low-fault l) g a b work rec = omega (arith, refused-line-short m l)
 
-  sized-short : length file ≤ 65_536 → (q : Res ℕ) → Low q → Short (sized file (blank [] [] [] []) q)
+  sized-short : length file ≤ 65_536 → (q : Res ℕ) → Low q → Short (follow file (blank [] [] [] []) (sized q))
   unfolding fronts
   sized-short h (ok n) l = go (leb n 16_384) refl
     where
-      go : (t : Bool) → leb n 16_384 ≡ t → Short (pick t (behind n (blank [] [] [] []) (shows file n ROOM (front n (blank [] [] [] [])) (opening file n n))) (says (blank [] [] [] []) tooLarge))
+      go : (t : Bool) → leb n 16_384 ≡ t → Short (follow file (blank [] [] [] []) (pick t (pictures n) (single tooLarge)))
       go true e = shows-short h n (leb-true n 16_384 e) (opening file n n) (opening-low file n n) (opening-begins file n) _ _ _ _
       go false e = omega arith
   sized-short h (fault m) (low-fault l) = omega (arith, refused-line-short m l)
 
   pub listing-short : length (listing file) ≤ 65_536
-  unfolding listing listed
+  unfolding listing listed planned
   listing-short = go (leb (length file) 65_536) refl
     where
-      go : (t : Bool) → leb (length file) 65_536 ≡ t → Short (pick t (sized file (blank [] [] [] []) (firstSize file)) (says (blank [] [] [] []) tooLarge))
+      go : (t : Bool) → leb (length file) 65_536 ≡ t → Short (follow file (blank [] [] [] []) (pick t (sized (firstSize file)) (single tooLarge)))
       go true e = sized-short (leb-true (length file) 65_536 e) (firstSize file) (size-low file)
       go false e = omega arith

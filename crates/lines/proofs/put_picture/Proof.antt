@@ -1,9 +1,9 @@
--- `listing::put_picture`: three words and numbers, then the line's end.
-use Rattle.listing.specs.Lines.{pictureLine}
-use Rattle.listing.specs.TextLaws.{adds-then}
+-- `lines::put_picture`: three words and numbers, then the line's end.
+use Rattle.lines.specs.Lines.{pictureLine}
+use Rattle.lines.specs.TextLaws.{adds-then}
 use borrow.Author.Needs.{needs}
-use Rattle.listing.proofs.put_picture.Statement.{statement}
-use Rattle.listing.proofs.put_picture.Tie as tie
+use Rattle.lines.proofs.put_picture.Statement.{statement}
+use Rattle.lines.proofs.put_picture.Tie as tie
 
 slice-aggregate-put-field : tie.Need-slice-aggregate-put-field
 slice-aggregate-put-field c = search needs

@@ -1,8 +1,8 @@
--- `listing::put_field`: a text, then a number.
-use Rattle.listing.specs.TextLaws.{adds-then}
+-- `lines::put_field`: a text, then a number.
+use Rattle.lines.specs.TextLaws.{adds-then}
 use borrow.Author.Needs.{needs}
-use Rattle.listing.proofs.put_field.Statement.{statement}
-use Rattle.listing.proofs.put_field.Tie as tie
+use Rattle.lines.proofs.put_field.Statement.{statement}
+use Rattle.lines.proofs.put_field.Tie as tie
 
 put-text-requires : tie.Need-put-text-requires
 put-text-requires c κs = search needs

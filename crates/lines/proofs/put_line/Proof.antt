@@ -1,0 +1,98 @@
+-- `lines::put_line`: a place past the end, then the line by its case.
+use Rattle.lines.specs.TextLaws.{adds-within, adds-past}
+use borrow.Author.Needs.{needs}
+use Rattle.lines.proofs.put_line.Statement.{statement}
+use Rattle.lines.proofs.put_line.Tie as tie
+
+returns : tie.Need-returns
+returns c = adds-past _ (c .if1 .taken)
+
+enum-told : tie.Need-enum-told
+enum-told c = search needs
+
+slice-aggregate-put-text : tie.Need-slice-aggregate-put-text
+slice-aggregate-put-text c = search needs
+
+put-text-requires : tie.Need-put-text-requires
+put-text-requires c κs = search needs
+
+enum-known-line : tie.Need-enum-known-line
+enum-known-line c = search needs
+
+put-picture-requires : tie.Need-put-picture-requires
+put-picture-requires c κs = search needs
+
+enum-known-line-2 : tie.Need-enum-known-line-2
+enum-known-line-2 c = search needs
+
+put-frame-requires : tie.Need-put-frame-requires
+put-frame-requires c κs = search needs
+
+enum-known-line-3 : tie.Need-enum-known-line-3
+enum-known-line-3 c = search needs
+
+put-end-requires : tie.Need-put-end-requires
+put-end-requires c κs = search needs
+
+enum-known-line-4 : tie.Need-enum-known-line-4
+enum-known-line-4 c = search needs
+
+put-refused-requires : tie.Need-put-refused-requires
+put-refused-requires c κs = search needs
+
+same-length : tie.Need-same-length
+same-length c = search needs
+
+returns-2 : tie.Need-returns-2
+returns-2 c = rw (c .before .before .before .before .before .enum-told .given .1) (adds-within (c .before .before .before .before .before .before .before .if1 .left) (c .before .before .put-text .ensures))
+
+same-length-2 : tie.Need-same-length-2
+same-length-2 c = search needs
+
+returns-3 : tie.Need-returns-3
+returns-3 c = rw (c .before .before .before .before .before .line .given .1) (adds-within (c .before .before .before .before .before .before .before .if1 .left) (c .before .before .put-picture .ensures))
+
+same-length-3 : tie.Need-same-length-3
+same-length-3 c = search needs
+
+returns-4 : tie.Need-returns-4
+returns-4 c = rw (c .before .before .before .before .before .line2 .given .1) (adds-within (c .before .before .before .before .before .before .before .if1 .left) (c .before .before .put-frame .ensures))
+
+same-length-4 : tie.Need-same-length-4
+same-length-4 c = search needs
+
+returns-5 : tie.Need-returns-5
+returns-5 c = rw (c .before .before .before .before .before .line3 .given .1) (adds-within (c .before .before .before .before .before .before .before .if1 .left) (c .before .before .put-end .ensures))
+
+same-length-5 : tie.Need-same-length-5
+same-length-5 c = search needs
+
+returns-6 : tie.Need-returns-6
+returns-6 c = rw (c .before .before .before .before .before .line4 .given .1) (adds-within (c .before .before .before .before .before .before .before .if1 .left) (c .before .before .put-refused .ensures))
+
+pub put-line-spec : {M : Type 1} → statement M
+put-line-spec =
+    tie.close
+    (tie.spec
+    returns
+    enum-told
+    slice-aggregate-put-text
+    put-text-requires
+    enum-known-line
+    put-picture-requires
+    enum-known-line-2
+    put-frame-requires
+    enum-known-line-3
+    put-end-requires
+    enum-known-line-4
+    put-refused-requires
+    same-length
+    returns-2
+    same-length-2
+    returns-3
+    same-length-3
+    returns-4
+    same-length-4
+    returns-5
+    same-length-5
+    returns-6)

@@ -1,0 +1,5 @@
+pub mod Sample
+pub mod RoomLaws
+pub mod ShortLaws
+pub mod LowLaws
+pub mod TextRoom
