@@ -2,7 +2,8 @@
 //!
 //!     bench [--times] [--turns N] [--only WORD,WORD]
 //!
-//! The table has ratios, library / plain Rust; with --times microseconds stand beside them.
+//! A case is run N times (25 unless said), and for a fifth of a second at least. The table has ratios,
+//! library / plain Rust; with --times microseconds stand beside them.
 //! With --only a case is run if it has all the words: open or step or write, the width, light or heavy or noise,
 //! and the items' bytes of the method (1, 2, 4), or packed or plain for opening.
 use crosscheck::files;
@@ -11,12 +12,15 @@ use crosscheck::plain::{self, Sizes, State};
 use crosscheck::random::Random;
 use crosscheck::{cover, library};
 use std::hint::black_box;
-use std::time::Instant;
+use std::time::{Duration, Instant};
 
 const SIZES: [Sizes; 3] =
     [Sizes { width: 320, height: 200, planes: 5 }, Sizes { width: 640, height: 512, planes: 8 }, Sizes { width: 1024, height: 1024, planes: 8 }];
 const CHANGES: [&str; 3] = ["light", "heavy", "noise"];
 const METHODS: [(&str, usize); 3] = [("method 5", 1), ("7 short", 2), ("7 long", 4)];
+
+/// How long a case is run at least, so that the best times of short calls settle.
+const SETTLED: Duration = Duration::from_millis(200);
 
 /// The best time of each side, in seconds.
 #[derive(Clone, Copy)]
@@ -46,6 +50,12 @@ fn time<T>(best: &mut f64, run: impl FnOnce() -> T) -> T {
     let answer = black_box(run());
     *best = best.min(start.elapsed().as_secs_f64());
     answer
+}
+
+/// Turns of a case: so many, and until its times have settled.
+fn turns(least: usize) -> impl Iterator<Item = usize> {
+    let start = Instant::now();
+    (0..).take_while(move |&turn| turn < least || start.elapsed() < SETTLED)
 }
 
 /// A picture with runs and noise, as drawings have them.
@@ -110,11 +120,11 @@ impl Side {
     }
 }
 
-fn opening(turns: usize, file: &[u8], sizes: Sizes) -> Best {
+fn opening(least: usize, file: &[u8], sizes: Sizes) -> Best {
     let mut best = Best::new();
     let (mut l, mut p) = (Side::new(sizes), Side::new(sizes));
     let mut state = [0; 48];
-    for _ in 0..turns {
+    for _ in turns(least) {
         let x = time(&mut best.library, || library::open(black_box(file), &mut l.a, &mut l.b, &mut state));
         let y = time(&mut best.plain, || plain::open(black_box(file), &mut p.a, &mut p.b));
         assert!(x == 0 && y == Ok(cover::state_in(&state)) && l.a == p.a && l.b == p.b);
@@ -123,13 +133,13 @@ fn opening(turns: usize, file: &[u8], sizes: Sizes) -> Best {
 }
 
 /// A step on and back again: the best time of each.
-fn steps(turns: usize, file: &[u8], sizes: Sizes) -> (Best, Best) {
+fn steps(least: usize, file: &[u8], sizes: Sizes) -> (Best, Best) {
     let (mut on, mut back) = (Best::new(), Best::new());
     let (mut l, mut p) = (Side::new(sizes), Side::new(sizes));
     let (mut state, mut report) = ([0; 48], [0; 32]);
     assert_eq!(library::open(file, &mut l.a, &mut l.b, &mut state), 0);
     let mut now: State = plain::open(file, &mut p.a, &mut p.b).expect("it opens");
-    for _ in 0..turns {
+    for _ in turns(least) {
         let x = time(&mut on.library, || library::step_on(black_box(file), &mut state, &mut l.a, &mut l.b, &mut l.work, &mut l.record, &mut report));
         let y = time(&mut on.plain, || plain::step_on(black_box(file), &mut now, &mut p.a, &mut p.b, &mut p.work, &mut p.record));
         let length = y.expect("a step").expect("a frame").record as usize;
@@ -141,12 +151,12 @@ fn steps(turns: usize, file: &[u8], sizes: Sizes) -> (Best, Best) {
     (on, back)
 }
 
-fn writing(turns: usize, old: &[u8], new: &[u8], sizes: Sizes) -> Best {
+fn writing(least: usize, old: &[u8], new: &[u8], sizes: Sizes) -> Best {
     let mut best = Best::new();
     let [w, h, p] = [sizes.width as u64, sizes.height as u64, sizes.planes as u64];
     let (mut out, mut other) = (vec![0; delta_room(sizes)], vec![0; delta_room(sizes)]);
     let mut length = [0; 8];
-    for _ in 0..turns {
+    for _ in turns(least) {
         let x = time(&mut best.library, || library::write_delta(black_box(old), new, &mut out, &mut length, w, h, p));
         let y = time(&mut best.plain, || plain::write_delta(black_box(old), new, &mut other, w, h, p));
         assert!(x == 0 && y == Ok(u64::from_le_bytes(length) as usize) && out == other);
@@ -187,14 +197,6 @@ impl Words {
     fn wants(&self, case: &[&str]) -> bool {
         self.only.iter().all(|word| case.contains(&word.as_str()))
     }
-
-    fn turns(&self, sizes: Sizes) -> usize {
-        if sizes.frame() < 100_000 {
-            8 * self.turns
-        } else {
-            self.turns
-        }
-    }
 }
 
 /// The lines of each table.
@@ -211,7 +213,7 @@ fn bench_opening(words: &Words, tables: &mut Tables, sizes: Sizes, old: &[u8]) {
     for (kind, compression, body) in [("packed", 1, files::packed_body(old, sizes)), ("plain", 0, files::plain_body(old, sizes))] {
         let file = file_of(sizes, compression, &body, None);
         let wanted = words.wants(&["open", &sizes.width.to_string(), kind]);
-        line += &cell(words, wanted.then(|| opening(words.turns(sizes), &file, sizes)));
+        line += &cell(words, wanted.then(|| opening(words.turns, &file, sizes)));
     }
     tables.open.push(line);
 }
@@ -224,13 +226,13 @@ fn bench_change(words: &Words, tables: &mut Tables, sizes: Sizes, old: &[u8], ne
     for (_, items) in METHODS {
         let steps = words.wants(&["step", &width, change, &items.to_string()]).then(|| {
             let delta = method_delta(old, new, sizes, items);
-            steps(words.turns(sizes), &file_of(sizes, 0, &body, Some((items, &delta))), sizes)
+            steps(words.turns, &file_of(sizes, 0, &body, Some((items, &delta))), sizes)
         });
         on_line += &cell(words, steps.map(|s| s.0));
         back_line += &cell(words, steps.map(|s| s.1));
     }
     let wanted = words.wants(&["write", &width, change]);
-    let written = wanted.then(|| writing(words.turns(sizes), old, new, sizes));
+    let written = wanted.then(|| writing(words.turns, old, new, sizes));
     tables.on.push(on_line);
     tables.back.push(back_line);
     tables.write.push(start + &cell(words, written));
