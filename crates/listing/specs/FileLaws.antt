@@ -135,8 +135,8 @@ pub record Holds (n a b work rec : ℕ) : Type 0 where
   pub drawn : n ≤ work
   pub written : ROOM ≤ rec
 
-pub holds-less : {n a b work rec : ℕ} → 16_384 ≤ a → 16_384 ≤ b → 16_384 ≤ work → ROOM ≤ rec → n ≤ 16_384 → Holds n a b work rec
-holds-less ha hb hw hr k = record { left = omega arith; right = omega arith; drawn = omega arith; written = hr }
+pub holds-less : {n m a b work rec : ℕ} → n ≤ m → Holds m a b work rec → Holds n a b work rec
+holds-less k h = record { left = omega (arith, h .left); right = omega (arith, h .right); drawn = omega (arith, h .drawn); written = h .written }
 
 -- what is listed with the front parts of the buffers; the bytes behind them stay
 pub lists-front : (file a b work rec : List ℕ) {n : ℕ} → Holds n (length a) (length b) (length work) (length rec) → {out : List ℕ} {r : ℕ} {a′ b′ work′ rec′ out′ : List ℕ}
@@ -177,12 +177,12 @@ module _ (file a b work rec out : List ℕ) where
       record { text = rw t over-nothing; count = rw t (omega arith); most = omega arith; left = rw l refl; right = rw l refl; drawn = rw l refl; written = rw l refl }
 
   module _ (e : roomy a b work rec ≡ true) where
-    pub long-enough : (16_384 ≤ length a) × (16_384 ≤ length b) × (16_384 ≤ length work) × (ROOM ≤ length rec)
+    pub long-enough : Holds 16_384 (length a) (length b) (length work) (length rec)
     long-enough =
         let p = two-true (leb 16_384 (length a) && leb 16_384 (length b) && leb 16_384 (length work)) (leb ROOM (length rec)) e in
         let q = two-true (leb 16_384 (length a) && leb 16_384 (length b)) (leb 16_384 (length work)) (p .0) in
         let r = two-true (leb 16_384 (length a)) (leb 16_384 (length b)) (q .0) in
-        (leb-true _ _ (r .0), leb-true _ _ (r .1), leb-true _ _ (q .1), leb-true _ _ (p .1))
+        record { left = leb-true _ _ (r .0); right = leb-true _ _ (r .1); drawn = leb-true _ _ (q .1); written = leb-true _ _ (p .1) }
 
     pub meets-list : {r : ℕ} {a′ b′ work′ rec′ out′ : List ℕ} → Lists (listed file (blank a b work rec)) out r a′ b′ work′ rec′ out′ → MeetsList file a b work rec out r a′ b′ work′ rec′ out′
     meets-list {r} {out′ = out′} v =

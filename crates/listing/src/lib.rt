@@ -1,7 +1,6 @@
 // The listing of a file: what document 01 has the listing program write.
 ghost use mathlib.Core.Bool.{_&&_};
 ghost use mathlib.Core.Path.{_≡_};
-ghost use Prim.Native.Nat.{_≤_};
 ghost use lib.Dec.{leb};
 ghost use lib.ListN.{length};
 ghost use Rattle.lines.specs.Lines.{pictureLine, lineOf};
@@ -14,7 +13,6 @@ use opening::Opening;
 use opening::Size;
 use player::On;
 use player::SteppedOn;
-use refusal::Refusal;
 use state::State;
 
 // The longest file that is listed.
@@ -169,10 +167,7 @@ fn list_file(
     rec: &mut [u8],
     out: &mut [u8],
 ) -> usize
-    requires { ⌜ 16384 ≤ length (now a) ⌝ }
-    requires { ⌜ 16384 ≤ length (now b) ⌝ }
-    requires { ⌜ 16384 ≤ length (now work) ⌝ }
-    requires { ⌜ 65536 ≤ length (now rec) ⌝ }
+    requires { ⌜ Holds 16384 (length (now a)) (length (now b)) (length (now work)) (length (now rec)) ⌝ }
     ensures { λ r. ⌜ Lists (listed (now (file .entry)) (blank (now (a .entry)) (now (b .entry)) (now (work .entry)) (now (rec .entry)))) (now (out .entry)) r (now (a .exit)) (now (b .exit)) (now (work .exit)) (now (rec .exit)) (now (out .exit)) ⌝ }
 {
     let p = plan_for(file);

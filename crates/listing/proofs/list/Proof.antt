@@ -15,8 +15,7 @@ returns c = let k = c .before .before .before .before .before .before .before .b
 list-file-requires : tie.Need-list-file-requires
 list-file-requires c κs =
     let k = c .before .before .before .before .before .before .before .before .before .before .before .before .before .args in
-    let l = long-enough (k .file .now) (k .a .now) (k .b .now) (k .work .now) (k .rec .now) (k .out .now) (sym (c .before .before .before .before .before .before .roomy .ensures) ∙ not-false _ (c .before .before .before .before .before .if1 .left)) in
-    (l .0, (l .1, (l .2, l .3)))
+    long-enough (k .file .now) (k .a .now) (k .b .now) (k .work .now) (k .rec .now) (k .out .now) (sym (c .before .before .before .before .before .before .roomy .ensures) ∙ not-false _ (c .before .before .before .before .before .if1 .left))
 
 same-length : tie.Need-same-length
 same-length c = search needs

@@ -19,7 +19,7 @@ enum-known-p-2 : tie.Need-enum-known-p-2
 enum-known-p-2 c = search needs
 
 list-front-requires : tie.Need-list-front-requires
-list-front-requires c κs = let p = c .before .before .before .before .before .before .before .before .before .before .before .before .before .before .before .pre in holds-less (p .0) (p .1 .0) (p .1 .1 .0) (p .1 .1 .1) (pictures-fit _ (told planOf (c .before .before .before .before .before .before .before .before .plan-for .ensures) (c .before .before .before .before .before .before .p2 .given .1)))
+list-front-requires c κs = holds-less (pictures-fit _ (told planOf (c .before .before .before .before .before .before .before .before .plan-for .ensures) (c .before .before .before .before .before .before .p2 .given .1))) (c .before .before .before .before .before .before .before .before .before .before .before .before .before .before .before .pre)
 
 same-length : tie.Need-same-length
 same-length c = c .before .before .put-line .kept .0
