@@ -5,7 +5,7 @@ use native.Mathlib.Omega.{arith}
 use mathlib.Core.Bool.{Bool, true, false}
 use mathlib.Core.List.{List, [], _++_}
 use mathlib.Core.Option.{Option, none, some}
-use mathlib.Core.Path.{_≡_, refl, ap, _∙_}
+use mathlib.Core.Path.{_≡_, refl, sym, ap, _∙_}
 use lib.Dec.{leb, ltb, eqb}
 use lib.ListN.{length, drop}
 use lib.Seq.{take-append-seam}
@@ -18,13 +18,13 @@ use Rattle.back.specs.declared.SteppedBack.{SteppedBack}
 use Rattle.frame.specs.Frame.{Frame}
 use Rattle.state.specs.World.{World, isOdd}
 use Rattle.state.specs.Outcome.{Answer, Answer.refused, Answer.ended, Answer.tookOn, Answer.tookBack}
-use Rattle.player.specs.Step.{onOf, MeetsOn, change, stepOn}
+use Rattle.player.specs.Step.{onOf, MeetsOn, stepOn}
 use Rattle.back.specs.Back.{MeetsBack, stepBack}
 use Rattle.opening.specs.declared.OpenedFile.{OpenedFile}
-use Rattle.opening.specs.Open.{Film, opening, stateAfter, pictureAfter, openingOf, MeetsOpen}
-use Rattle.model.specs.Model.{Call, Seen, here, placeAt, picture, recordAt, stands, reportAt, answerFor, answerAt, answerOn, answerFirst, moved, leaves, model}
+use Rattle.opening.specs.Open.{Film as OpenedFilm, opening, stateAfter, pictureAfter, openingOf, MeetsOpen}
+use Rattle.model.specs.Model.{Call, Seen, Film, here, built, placeAt, picture, recordAt, stands, reportAt, answerFor, answerAt, answerOn, answerFirst, moved, leaves, model, modelOf}
 use Rattle.model.specs.Trace.{given, recordIn, untaken, seenOn, seenBack, Trace, Trace.none-left, Trace.stepped-on, Trace.stepped-back}
-use Rattle.model.proofs.Opened.{Opened, size, OpenedAs, opening-opened}
+use Rattle.model.proofs.Opened.{Opened, size, filmOf, OpenedAs, opening-opened}
 use Rattle.model.proofs.Reached.{Reached, records, Comes, Reached.first, Reached.next}
 use Rattle.model.proofs.StepsOn.{on-comes}
 use Rattle.model.proofs.StepsBack.{back-first, back-taken}
@@ -55,7 +55,7 @@ reports F m work room = tests (eqb work (size F)) (ltb (suc m) 1_000_000) (here 
     drawn-to x (fault n) = off n
 
     at-place : (o : Res (Option Frame)) → Reports F m (answerAt F m room o)
-    at-place (ok (some x)) = drawn-to x (change (F .sizes) x (picture F (suc m)) (picture F m))
+    at-place (ok (some x)) = drawn-to x (built F x (picture F m))
     at-place (ok none) = end
     at-place (fault n) = off n
 
@@ -86,7 +86,7 @@ on-forward F m work room e = tests (eqb work (size F)) (ltb (suc m) 1_000_000) (
     drawn-to x (fault n) q = let z : _≡_ {A = ℕ} 0 1 = cc in omega arith
 
     at-place : (o : Res (Option Frame)) → answerAt F m room o ≡ tookBack → ⊥
-    at-place (ok (some x)) q = drawn-to x (change (F .sizes) x (picture F (suc m)) (picture F m)) q
+    at-place (ok (some x)) q = drawn-to x (built F x (picture F m)) q
     at-place (ok none) q = let z : _≡_ {A = ℕ} 0 1 = cc in omega arith
     at-place (fault n) q = let z : _≡_ {A = ℕ} 0 1 = cc in omega arith
 
@@ -156,14 +156,13 @@ opened-stands F = refl
 -- demand 3
 pub demand-3 : (file a b : List ℕ) (r : OpenedFile) (a′ b′ : List ℕ) → MeetsOpen file a b r a′ b′ → openingOf (r .answer) ≡ ok tt
     → (calls : List Call) (seen : List Seen) → Trace file (record { a = a′; b = b′; state = r .state }) [] calls seen
-    → (F : Film) × (opening file (length a) (length b) ≡ ok F) × (seen ≡ model F 0 calls)
+    → modelOf file calls ≡ ok seen
 unfolding records
-demand-3 file a b r a′ b′ h e calls seen t = go (opening file (length a) (length b)) refl (h .answer) (h .state) (h .left) (h .right) (opening-opened file (length a) (length b))
+demand-3 file a b r a′ b′ h e calls seen t = go (opening file (length a) (length b)) (h .answer) (h .state) (h .left) (h .right) (opening-opened file (length a) (length b))
   where
-    go : (x : Res Film) → opening file (length a) (length b) ≡ x → openingOf (r .answer) ≡ answer x → r .state ≡ stateAfter x → a′ ≡ pictureAfter a x → b′ ≡ pictureAfter b x → Each (OpenedAs file) x
-        → (F : Film) × (opening file (length a) (length b) ≡ ok F) × (seen ≡ model F 0 calls)
-    go (ok F) q _ s l u (each k) =
-        let w : _≡_ {A = World} (record { a = a′; b = b′; state = r .state }) (stands F 0) = (λ i. record { a = l i; b = u i; state = s i }) ∙ opened-stands F in
+    go : (x : Res OpenedFilm) → openingOf (r .answer) ≡ answer x → r .state ≡ stateAfter x → a′ ≡ pictureAfter a x → b′ ≡ pictureAfter b x → Each (OpenedAs file) x → modelOf file calls ≡ ok seen
+    go (ok F) _ s l u (each k) =
+        let w : _≡_ {A = World} (record { a = a′; b = b′; state = r .state }) (stands (filmOf F) 0) = (λ i. record { a = l i; b = u i; state = s i }) ∙ opened-stands (filmOf F) in
         let t′ : Trace (F .file) (record { a = a′; b = b′; state = r .state }) [] calls seen = rw (k .same) t in
-        (F, q, from-there F (k .opened) t′ 0 first w refl)
-    go (fault n) q x s l u k = let z : _≡_ {A = ℕ} 0 1 = cc in absurd (omega arith)
+        rw (k .read) (ap (λ (o : List Seen). ok o) (sym (from-there (filmOf F) (k .opened) t′ 0 first w refl)))
+    go (fault n) x s l u k = let z : _≡_ {A = ℕ} 0 1 = cc in absurd (omega arith)

@@ -9,17 +9,16 @@ use lib.ListN.{length}
 use borrow.Author.Tests.{eq-eqb, ne-eqb}
 use Rattle.laws.specs.Result.{Res.ok}
 use Rattle.laws.specs.ResultLaws.{Each.each, each-any, each-is}
-use Rattle.state.specs.declared.Sizes.{Sizes}
 use Rattle.delta.specs.Delta.{shapeOf, readDelta}
 use Rattle.delta.specs.DeltaLaws.{draw-length}
 use Rattle.frame.specs.Frame.{Frame}
 use Rattle.state.specs.World.{isOdd}
-use Rattle.player.specs.Step.{change}
+use Rattle.model.specs.Model.{Film, built}
 
-pub change-length : (z : Sizes) (x : Frame) (shown hidden g : List ℕ) → change z x shown hidden ≡ ok g → length g ≡ length hidden
-unfolding change
-change-length z x shown hidden g e =
-    each-is {P = λ (l : List ℕ). length l ≡ length hidden} e (each-any (readDelta (shapeOf z (x .header .items)) (x .dlta)) λ ops. each (draw-length (shapeOf z (x .header .items)) (x .dlta) ops hidden))
+pub built-length : (F : Film) (x : Frame) (p g : List ℕ) → built F x p ≡ ok g → length g ≡ length p
+unfolding built
+built-length F x p g e =
+    each-is {P = λ (l : List ℕ). length l ≡ length p} e (each-any (readDelta (shapeOf (F .sizes) (x .header .items)) (x .dlta)) λ ops. each (draw-length (shapeOf (F .sizes) (x .header .items)) (x .dlta) ops p))
 
 pub odd-suc : (n : ℕ) → isOdd (suc n) ≡ not (isOdd n)
 unfolding isOdd

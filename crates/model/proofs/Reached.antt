@@ -13,23 +13,21 @@ use Rattle.frame.specs.Frame.{Frame}
 use Rattle.frame.specs.FrameLaws.{Rises, frame-rises}
 use Rattle.state.specs.World.{isOdd, shownOf, hiddenOf}
 use Rattle.state.specs.Outcome.{Answer, After}
-use Rattle.player.specs.Step.{change}
-use Rattle.opening.specs.Open.{Film}
-use Rattle.model.specs.Model.{here, past, drawn, placeAt, picture, recordAt, stands}
-use Rattle.model.proofs.Laws.{change-length}
+use Rattle.model.specs.Model.{Film, here, past, built, drawn, placeAt, picture, recordAt, stands}
+use Rattle.model.proofs.Laws.{built-length}
 use Rattle.model.proofs.Opened.{Opened, size}
 
 -- frame m + 1 can be reached
 pub data Reached (F : Film) : ℕ → Type 0 where
   first : Reached F zero
-  next : {m : ℕ} (x : Frame) (g : List ℕ) → Reached F m → here F (placeAt F m) ≡ ok (some x) → change (F .sizes) x (picture F (suc m)) (picture F m) ≡ ok g → suc m < 1_000_000 → Reached F (suc m)
+  next : {m : ℕ} (x : Frame) (g : List ℕ) → Reached F m → here F (placeAt F m) ≡ ok (some x) → built F x (picture F m) ≡ ok g → suc m < 1_000_000 → Reached F (suc m)
 
 -- what a frame that is there makes of the place and of the picture
 pub place-next : (F : Film) (m : ℕ) (x : Frame) → here F (placeAt F m) ≡ ok (some x) → placeAt F (suc m) ≡ x .next
 unfolding placeAt past
 place-next F m x e = rw e
 
-pub picture-next : (F : Film) (m : ℕ) (x : Frame) (g : List ℕ) → here F (placeAt F m) ≡ ok (some x) → change (F .sizes) x (picture F (suc m)) (picture F m) ≡ ok g → picture F (suc (suc m)) ≡ g
+pub picture-next : (F : Film) (m : ℕ) (x : Frame) (g : List ℕ) → here F (placeAt F m) ≡ ok (some x) → built F x (picture F m) ≡ ok g → picture F (suc (suc m)) ≡ g
 unfolding picture drawn
 picture-next F m x g e c = rw (e, c)
 
@@ -48,7 +46,7 @@ good F o (next {m = m} x g p e c h) = go (good F o p) (frame-rises (take (F .end
     go : Good F m → Rises (take (F .end) (F .file)) (placeAt F m) x → Good F (suc m)
     go k r = record {
       hidden = k .shown;
-      shown = rw (picture-next F m x g e c) (change-length (F .sizes) x (picture F (suc m)) (picture F m) g c ∙ k .hidden);
+      shown = rw (picture-next F m x g e c) (built-length F x (picture F m) g c ∙ k .hidden);
       low = rw (place-next F m x e) (omega (arith, k .low, r .rises));
       high = rw (place-next F m x e) (omega (arith, r .ends, length-take (F .end) (F .file)));
       few = h;

@@ -1,19 +1,26 @@
 -- The model of demand 3 (document 01, "Opening, stepping on, stepping back"). It is fed the file and the calls in order, and holds
 -- a number n, at first 1. Here m is n − 1: picture m + 1 is shown at n, and picture m hidden, where picture 0 is picture 1 too.
+-- It shares the reading of chunks, BMHD, BODY, ANHD and deltas and the bytes of a record with opening and the steps, and nothing else.
 use Prim.Native.Nat.{ℕ, zero, suc}
 use mathlib.Core.List.{List, [], _∷_}
 use mathlib.Core.Option.{Option, none, some}
 use lib.Dec.{leb, ltb, eqb}
 use lib.ListN.{length, take}
-use Rattle.laws.specs.Result.{Res, Res.ok, Res.fault, pick, orKeep}
+use Rattle.laws.specs.Result.{Res, Res.ok, Res.fault, _>>=_, orRefuse, pick, orKeep}
+use Rattle.state.specs.declared.Sizes.{Sizes}
 use Rattle.state.specs.State.{rowBytes, frameBytes}
+use Rattle.iff.specs.Chunk.{bytesOf}
+use Rattle.iff.specs.Pair.{findBoth}
+use Rattle.form.specs.Form.{chunksOf, animEnd, nextFrame}
+use Rattle.bmhd.specs.Header.{header}
+use Rattle.ilbm.specs.Body.{body}
+use Rattle.delta.specs.Delta.{shapeOf, readDelta, draw}
 use Rattle.runs.specs.Runs.{differing}
 use Rattle.record.specs.Record.{recordBytes, Past, pastOf}
 use Rattle.frame.specs.Frame.{Frame, frameAt}
-use Rattle.opening.specs.Open.{Film}
+use Rattle.opening.specs.Open.{BMHD, BODY}
 use Rattle.state.specs.World.{World, isOdd}
 use Rattle.state.specs.Outcome.{Report, Answer, Answer.refused, Answer.ended, Answer.tookOn, Answer.tookBack}
-use Rattle.player.specs.Step.{change}
 
 -- a call, with what it is lent besides the file, the pictures and the state: the lengths of the work and record buffers, or bytes
 pub data Call : Type 0 where
@@ -26,6 +33,26 @@ pub record Seen : Type 0 where
   pub world : World
   pub bytes : List ℕ
 
+-- what a file fixes for every call: its end place, the sizes of its pictures, the place past frame 1's FORM and pad, and picture 1
+pub record Film : Type 0 where
+  pub file : List ℕ
+  pub end : ℕ
+  pub sizes : Sizes
+  pub start : ℕ
+  pub first : List ℕ
+
+-- picture 1 is frame 1's BODY unpacked; frame 1 is the first FORM ILBM of FORM ANIM
+unfoldable pub film : List ℕ → Res Film
+film file =
+    animEnd file >>= λ end.
+    nextFrame (take end file) 12 >>= λ o.
+    orRefuse 23 o >>= λ x.
+    findBoth BMHD BODY (chunksOf (take end file) x) >>= λ q.
+    orRefuse 23 q >>= λ p.
+    header (bytesOf (chunksOf (take end file) x) (p .first)) >>= λ z.
+    body (z .packed) (z .sizes) (bytesOf (chunksOf (take end file) x) (p .second)) >>= λ f.
+    ok (record { file = file; end = end; sizes = z .sizes; start = x .next; first = f })
+
 -- the frame that stands at a place
 abbrev pub here : Film → ℕ → Res (Option Frame)
 here F at = frameAt (take (F .end) (F .file)) (rowBytes (F .sizes .width)) at
@@ -36,22 +63,28 @@ past at (ok (some x)) = x .next
 past at (ok none) = at
 past at (fault n) = at
 
--- what that frame makes of the shown and the hidden picture
-unfoldable pub drawn : Film → List ℕ → List ℕ → Res (Option Frame) → List ℕ
-drawn F shown hidden (ok (some x)) = orKeep hidden (change (F .sizes) x shown hidden)
-drawn F shown hidden (ok none) = hidden
-drawn F shown hidden (fault n) = hidden
+-- what a frame's delta makes of a picture
+unfoldable pub built : Film → Frame → List ℕ → Res (List ℕ)
+built F x p =
+    readDelta (shapeOf (F .sizes) (x .header .items)) (x .dlta) >>= λ ops.
+    ok (draw (shapeOf (F .sizes) (x .header .items)) (x .dlta) ops p)
+
+-- what the frame at a place makes of it; the picture stays where there is no frame, or its delta is refused
+unfoldable pub drawn : Film → List ℕ → Res (Option Frame) → List ℕ
+drawn F p (ok (some x)) = orKeep p (built F x p)
+drawn F p (ok none) = p
+drawn F p (fault n) = p
 
 -- the place past frame m + 1
 unfoldable pub placeAt : Film → ℕ → ℕ
 placeAt F zero = F .start
 placeAt F (suc m) = past (placeAt F m) (here F (placeAt F m))
 
--- picture 1 is frame 1's BODY unpacked; picture k is what frame k's delta makes of the picture two frames back, or of picture 1 for frame 2
+-- picture k is what frame k's delta makes of the picture two frames back, or of picture 1 for frame 2
 unfoldable pub picture : Film → ℕ → List ℕ
 picture F zero = F .first
 picture F (suc zero) = F .first
-picture F (suc (suc k)) = drawn F (picture F (suc k)) (picture F k) (here F (placeAt F k))
+picture F (suc (suc k)) = drawn F (picture F k) (here F (placeAt F k))
 
 -- the record of the step from frame m + 1 to frame m + 2: the hidden picture before and after
 unfoldable pub recordAt : Film → ℕ → List ℕ
@@ -82,9 +115,10 @@ answerFor F m room x (fault n) = refused n
 unfoldable pub answerAt : Film → ℕ → ℕ → Res (Option Frame) → Answer
 answerAt F m room (fault n) = refused n
 answerAt F m room (ok none) = ended
-answerAt F m room (ok (some x)) = answerFor F m room x (change (F .sizes) x (picture F (suc m)) (picture F m))
+answerAt F m room (ok (some x)) = answerFor F m room x (built F x (picture F m))
 
--- a step on from frame m + 1: the first refusal in the order 12, 53, those of the frame, 51; or End; or it is taken
+-- a step on from frame m + 1: the first refusal in the order 12, 53, those of the frame, 51; or End; or it is taken. Its state is
+-- within the limits and its pictures have a frame's length, so that neither 11 nor 12 for A or B can be met.
 unfoldable pub answerOn : Film → ℕ → ℕ → ℕ → Answer
 answerOn F m work room =
     pick (eqb work (frameBytes (F .sizes)))
@@ -109,7 +143,7 @@ leaves F m ended = []
 leaves F m (tookOn r) = recordAt F m
 leaves F m tookBack = []
 
--- what is seen after each call
+-- what is seen after each call, from frame m + 1 on
 unfoldable pub model : Film → ℕ → List Call → List Seen
 model F m [] = []
 model F m (on work room ∷ cs) =
@@ -117,3 +151,7 @@ model F m (on work room ∷ cs) =
     record { answer = x; world = stands F (moved m x); bytes = leaves F m x } ∷ model F (moved m x) cs
 model F zero (back bytes ∷ cs) = record { answer = answerFirst (pastOf bytes (F .first)); world = stands F zero; bytes = [] } ∷ model F zero cs
 model F (suc m) (back bytes ∷ cs) = record { answer = tookBack; world = stands F m; bytes = [] } ∷ model F m cs
+
+-- what is seen of a file after each call
+abbrev pub modelOf : List ℕ → List Call → Res (List Seen)
+modelOf file calls = film file >>= λ F. ok (model F 0 calls)
