@@ -1,4 +1,5 @@
--- Demand 1: a refused call changes neither picture, nor the state, nor the record buffer.
+-- Demand 1: a refused call changes neither picture, nor the state, nor the record buffer, nor the work buffer, but that a 51 on stepping
+-- on leaves the would-be frame there. End changes nothing.
 use Prim.Native.Nat.{ℕ, suc}
 use native.Mathlib.Omega.{arith}
 use mathlib.Core.Bool.{Bool, true, false}
@@ -8,29 +9,33 @@ use mathlib.Core.Path.{_≡_, refl, sym, ap, _∙_}
 use lib.Dec.{leb}
 use lib.ListN.{length, take}
 use Rattle.laws.specs.Result.{Res, Res.ok, Res.fault, _>>=_, pick, answer}
+use Rattle.laws.specs.ResultLaws.{none-some, some-same}
 use Rattle.opening.specs.declared.OpenedFile.{OpenedFile}
 use Rattle.opening.specs.Open.{Film, opening, zeros, stateAfter, pictureAfter, openingOf, MeetsOpen}
 use Rattle.record.specs.Record.{Past}
 use Rattle.player.specs.declared.SteppedOn.{SteppedOn}
 use Rattle.back.specs.declared.SteppedBack.{SteppedBack}
+use Rattle.state.specs.declared.State.{State}
 use Rattle.state.specs.World.{World, shownOf, hiddenOf}
-use Rattle.state.specs.Outcome.{Answer, Answer.refused, Answer.ended, Answer.tookOn, Outcome, After}
-use Rattle.player.specs.Step.{onOf, MeetsOn, ready, Made, advance, settle, onHidden, stepOn}
+use Rattle.state.specs.Outcome.{Report, Answer, Answer.refused, Answer.ended, Answer.tookOn, Answer.tookBack, Outcome, After}
+use Rattle.player.specs.Step.{onOf, MeetsOn, workAfter, ready, Made, advance, settle, onHidden, stepOn}
 use Rattle.back.specs.Back.{backOf, MeetsBack, retreat, settleBack, onShown, stepBack}
 use Rattle.player.specs.OutcomeLaws.{on-kept, on-put}
 use Rattle.back.specs.BackLaws.{back-kept, back-put}
 
--- what a call left as it came: what it hands on, and the record buffer, into which nothing was written
-pub record Untouched (w : World) (o : After) : Type 0 where
-  pub world : o .world ≡ w
-  pub bytes : o .bytes ≡ []
+-- what a call left as it came: what it hands on, the record buffer, into which nothing was written, and the work buffer unless it is 51
+record Untouched (w : World) (o : After) : Type 0 where
+  world : o .world ≡ w
+  bytes : o .bytes ≡ []
+  work : (o .answer ≡ refused 51 → ⊥) → o .work ≡ none
 
-kept-on : (w : World) (x : Answer) (k : Option (List ℕ)) → Untouched w (onHidden w (record { answer = x; state = w .state; picture = hiddenOf w; bytes = []; work = k }))
-kept-on w x k = rw (on-kept w x k) (record { world = refl; bytes = refl })
+kept-on : (w : World) (x : Answer) (k : Option (List ℕ)) → ((x ≡ refused 51 → ⊥) → k ≡ none) → Untouched w (onHidden w (record { answer = x; state = w .state; picture = hiddenOf w; bytes = []; work = k }))
+kept-on w x k h = rw (on-kept w x k) (record { world = refl; bytes = refl; work = h })
 
-pub refused-on : (file : List ℕ) (w : World) (work room n : ℕ) → stepOn file w work room .answer ≡ refused n → Untouched w (stepOn file w work room)
+-- a step that isn't taken
+untaken-on : (file : List ℕ) (w : World) (work room : ℕ) → ((r : Report) → stepOn file w work room .answer ≡ tookOn r → ⊥) → Untouched w (stepOn file w work room)
 unfolding stepOn settle
-refused-on file w work room n e = go (ready (length file) (w .state) (length (w .a)) (length (w .b)) work >>= λ _. advance (take (w .state .end) file) (w .state) (shownOf w) (hiddenOf w)) e
+untaken-on file w work room h = go (ready (length file) (w .state) (length (w .a)) (length (w .b)) work >>= λ _. advance (take (w .state .end) file) (w .state) (shownOf w) (hiddenOf w)) h
   where
     took : Made → Outcome
     took m = record { answer = tookOn (m .report); state = record { sizes = w .state .sizes; frame = suc (w .state .frame); next = m .next; end = w .state .end }; picture = m .picture; bytes = m .bytes; work = some (m .picture) }
@@ -38,46 +43,68 @@ refused-on file w work room n e = go (ready (length file) (w .state) (length (w 
     unfit : Made → Outcome
     unfit m = record { answer = refused 51; state = w .state; picture = hiddenOf w; bytes = []; work = some (m .picture) }
 
-    fits : (m : Made) (t : Bool) → onHidden w (pick t (took m) (unfit m)) .answer ≡ refused n → Untouched w (onHidden w (pick t (took m) (unfit m)))
-    fits m true q = let k = rw (on-put w (took m)) at q in let z : _≡_ {A = ℕ} 0 1 = cc in absurd (omega arith)
-    fits m false q = kept-on w (refused 51) (some (m .picture))
+    fits : (m : Made) (t : Bool) → ((r : Report) → onHidden w (pick t (took m) (unfit m)) .answer ≡ tookOn r → ⊥) → Untouched w (onHidden w (pick t (took m) (unfit m)))
+    fits m true q = absurd (q (m .report) (ap (λ (o : After). o .answer) (on-put w (took m))))
+    fits m false q = kept-on w (refused 51) (some (m .picture)) λ k. absurd (k refl)
 
-    go : (r : Res (Option Made)) → onHidden w (settle (w .state) (hiddenOf w) room r) .answer ≡ refused n → Untouched w (onHidden w (settle (w .state) (hiddenOf w) room r))
-    go (fault k) q = kept-on w (refused k) none
-    go (ok none) q = kept-on w ended none
+    go : (r : Res (Option Made)) → ((p : Report) → onHidden w (settle (w .state) (hiddenOf w) room r) .answer ≡ tookOn p → ⊥) → Untouched w (onHidden w (settle (w .state) (hiddenOf w) room r))
+    go (fault k) q = kept-on w (refused k) none λ _. refl
+    go (ok none) q = kept-on w ended none λ _. refl
     go (ok (some m)) q = fits m (leb (length (m .bytes)) room) q
 
-pub refused-back : (w : World) (bytes : List ℕ) (n : ℕ) → stepBack w bytes .answer ≡ refused n → Untouched w (stepBack w bytes)
+untaken-back : (w : World) (bytes : List ℕ) → (stepBack w bytes .answer ≡ tookBack → ⊥) → Untouched w (stepBack w bytes)
 unfolding stepBack settleBack
-refused-back w bytes n e = go (retreat w bytes) e
+untaken-back w bytes h = go (retreat w bytes) h
   where
-    go : (r : Res Past) → onShown w (settleBack (w .state) (shownOf w) r) .answer ≡ refused n → Untouched w (onShown w (settleBack (w .state) (shownOf w) r))
-    go (fault k) q = rw (back-kept w (refused k) none) (record { world = refl; bytes = refl })
-    go (ok p) q = let k = rw (back-put w (settleBack (w .state) (shownOf w) (ok p))) at q in let z : _≡_ {A = ℕ} 0 1 = cc in absurd (omega arith)
+    go : (r : Res Past) → (onShown w (settleBack (w .state) (shownOf w) r) .answer ≡ tookBack → ⊥) → Untouched w (onShown w (settleBack (w .state) (shownOf w) r))
+    go (fault k) q = rw (back-kept w (refused k) none) (record { world = refl; bytes = refl; work = λ _. refl })
+    go (ok p) q = absurd (q (ap (λ (o : After). o .answer) (back-put w (settleBack (w .state) (shownOf w) (ok p)))))
+
+-- the number with which a call is refused, if it is
+abbrev pub refusalOf : Answer → Option ℕ
+refusalOf (refused n) = some n
+refusalOf ended = none
+refusalOf (tookOn r) = none
+refusalOf tookBack = none
+
+abbrev pub openRefusal : Res (Unit {0}) → Option ℕ
+openRefusal (ok u) = none
+openRefusal (fault n) = some n
 
 -- a refused opening leaves both buffers, and answers six zeros for the state
-pub refused-open : (file : List ℕ) (a b n : ℕ) (p : List ℕ) → answer (opening file a b) ≡ fault n
-    → (pictureAfter p (opening file a b) ≡ p) × (stateAfter (opening file a b) ≡ zeros)
-refused-open file a b n p e = go (opening file a b) e
-  where
-    go : (r : Res Film) → answer r ≡ fault n → (pictureAfter p r ≡ p) × (stateAfter r ≡ zeros)
-    go (fault k) q = (refl, refl)
-    go (ok F) q = let z : _≡_ {A = ℕ} 0 1 = cc in absurd (omega arith)
+refused-open : (n : ℕ) (a b a′ b′ : List ℕ) (s : State) (q : Res Film) → openRefusal (answer q) ≡ some n → s ≡ stateAfter q → a′ ≡ pictureAfter a q → b′ ≡ pictureAfter b q
+    → _≡_ {A = World} (record { a = a′; b = b′; state = s }) (record { a = a; b = b; state = zeros })
+refused-open n a b a′ b′ s (fault k) e p l u = λ i. record { a = l i; b = u i; state = p i }
+refused-open n a b a′ b′ s (ok F) e p l u = none-some e
 
--- the same of calls that met their contracts: the buffers and the state afterwards are those from before
-pub demand-1-on : (file : List ℕ) (w : World) (work rec : List ℕ) (r : SteppedOn) (a b work′ rec′ : List ℕ) → MeetsOn file w work rec r a b work′ rec′ → (n : ℕ) → onOf (r .answer) ≡ refused n
-    → (a ≡ w .a) × (b ≡ w .b) × (r .state ≡ w .state) × (rec′ ≡ rec)
-demand-1-on file w work rec r a b work′ rec′ m n e =
-    let u = refused-on file w (length work) (length rec) n (sym (m .answer) ∙ e) in
-    (m .left ∙ ap (λ (x : World). x .a) (u .world), m .right ∙ ap (λ (x : World). x .b) (u .world), m .state ∙ ap (λ (x : World). x .state) (u .world), m .written ∙ rw (u .bytes))
+-- a call that met its contract: pictures and state, work and record buffer before it, its refusal if any, and the same after it. Before
+-- opening the state is six zeros; opening and stepping back are lent neither work nor record buffer.
+pub data Met : World → (work rec : List ℕ) → Option ℕ → World → (work′ rec′ : List ℕ) → Type 0 where
+  opens : (file a b : List ℕ) (r : OpenedFile) (a′ b′ : List ℕ) → MeetsOpen file a b r a′ b′
+      → Met (record { a = a; b = b; state = zeros }) [] [] (openRefusal (openingOf (r .answer))) (record { a = a′; b = b′; state = r .state }) [] []
+  steps-on : (file : List ℕ) (w : World) (work rec : List ℕ) (r : SteppedOn) (a b work′ rec′ : List ℕ) → MeetsOn file w work rec r a b work′ rec′
+      → Met w work rec (refusalOf (onOf (r .answer))) (record { a = a; b = b; state = r .state }) work′ rec′
+  steps-back : (w : World) (bytes : List ℕ) (r : SteppedBack) (a b : List ℕ) → MeetsBack w bytes r a b
+      → Met w [] [] (refusalOf (backOf (r .answer))) (record { a = a; b = b; state = r .state }) [] []
 
-pub demand-1-back : (w : World) (bytes : List ℕ) (r : SteppedBack) (a b : List ℕ) → MeetsBack w bytes r a b → (n : ℕ) → backOf (r .answer) ≡ refused n
-    → (a ≡ w .a) × (b ≡ w .b) × (r .state ≡ w .state)
-demand-1-back w bytes r a b m n e =
-    let u = refused-back w bytes n (sym (m .answer) ∙ e) in
-    (m .left ∙ ap (λ (x : World). x .a) (u .world), m .right ∙ ap (λ (x : World). x .b) (u .world), m .state ∙ ap (λ (x : World). x .state) (u .world))
+-- demand 1
+pub demand-1 : {w w′ : World} {work rec work′ rec′ : List ℕ} {o : Option ℕ} → Met w work rec o w′ work′ rec′ → (n : ℕ) → o ≡ some n
+    → (w′ ≡ w) × (rec′ ≡ rec) × ((n ≡ 51 → ⊥) → work′ ≡ work)
+demand-1 (opens file a b r a′ b′ m) n e =
+    (refused-open n a b a′ b′ (r .state) (opening file (length a) (length b)) (ap openRefusal (sym (m .answer)) ∙ e) (m .state) (m .left) (m .right), refl, λ h. refl)
+demand-1 (steps-on file w work rec r a b work′ rec′ m) n e =
+    let u = untaken-on file w (length work) (length rec) λ p q. none-some (sym (ap refusalOf (m .answer ∙ q)) ∙ e) in
+    ((λ i. record { a = m .left i; b = m .right i; state = m .state i }) ∙ u .world, m .written ∙ rw (u .bytes), λ h. m .drawn ∙ ap (workAfter work) (u .work λ q. h (some-same (sym e ∙ ap refusalOf (m .answer ∙ q)))))
+demand-1 (steps-back w bytes r a b m) n e =
+    let u = untaken-back w bytes λ q. none-some (sym (ap refusalOf (m .answer ∙ q)) ∙ e) in
+    ((λ i. record { a = m .left i; b = m .right i; state = m .state i }) ∙ u .world, refl, λ h. refl)
 
-pub demand-1-open : (file a b : List ℕ) (r : OpenedFile) (a′ b′ : List ℕ) → MeetsOpen file a b r a′ b′ → (n : ℕ) → openingOf (r .answer) ≡ fault n → (a′ ≡ a) × (b′ ≡ b) × (r .state ≡ zeros)
-demand-1-open file a b r a′ b′ m n e =
-    let k = sym (m .answer) ∙ e in
-    (m .left ∙ refused-open file (length a) (length b) n a k .0, m .right ∙ refused-open file (length a) (length b) n b k .0, m .state ∙ refused-open file (length a) (length b) n a k .1)
+-- End
+not-taken : {p : Report} → ended ≡ tookOn p → ⊥
+not-taken e = let z : _≡_ {A = ℕ} 0 1 = cc in omega arith
+
+pub end-keeps : (file : List ℕ) (w : World) (work rec : List ℕ) (r : SteppedOn) (a b work′ rec′ : List ℕ) → MeetsOn file w work rec r a b work′ rec′ → onOf (r .answer) ≡ ended
+    → (_≡_ {A = World} (record { a = a; b = b; state = r .state }) w) × (rec′ ≡ rec) × (work′ ≡ work)
+end-keeps file w work rec r a b work′ rec′ m e =
+    let u = untaken-on file w (length work) (length rec) λ p q. not-taken (sym e ∙ m .answer ∙ q) in
+    ((λ i. record { a = m .left i; b = m .right i; state = m .state i }) ∙ u .world, m .written ∙ rw (u .bytes), m .drawn ∙ ap (workAfter work) (u .work λ q. none-some (sym (ap refusalOf e) ∙ ap refusalOf (m .answer ∙ q))))
