@@ -13,7 +13,7 @@ use Rattle.number.specs.Number.{readNumber, groups, lastGroup, writeNumber, wri
 use Rattle.runs.specs.Runs.{kept, changed, runsOf, differing}
 use Rattle.record.specs.RunList.{runBytes, runsBytes, listBytes}
 use Rattle.record.specs.Record.{recordBytes}
-use Rattle.iff.specs.Chunk.{chunkAt, find}
+use Rattle.iff.specs.Chunk.{chunkAt, find, contents}
 use Rattle.form.specs.Form.{animEnd, nextFrame}
 use Rattle.bmhd.specs.Header.{header}
 use Rattle.ilbm.specs.ByteRun.{unpackRow, packetAt}
@@ -23,7 +23,7 @@ use Rattle.anhd.specs.declared.Items.the-variants.{Bytes, Shorts}
 use Rattle.delta.specs.Delta.{byteAt, skip, fill, readOp, readOps, readColumn, readColumns, pointer, readPlane, readPlanes, readPicture, readDelta, put, draw, readFrame, newFrame}
 use Rattle.column.specs.Column.{join, groupsOf, loose, stretch, restOf, uniqs, cut, cutAll, opsOf, columnOps, opBytes, opsBytes, columnBytes}
 use Rattle.writer.specs.Write.{columnAt, columnIn, columnsBytes, equal, planeBytes, be32Bytes, pointerOf, pointersBytes, listsBytes, deltaBytes, written}
-use Rattle.iff.specs.Pair.{findBoth}
+use Rattle.iff.specs.Both.{hasBoth}
 use Rattle.frame.specs.Frame.{frameIn, frameAt}
 use Rattle.opening.specs.Open.{placesIn, firstPlaces, firstOf, opening}
 use Rattle.state.specs.World.{isOdd, shownOf, hiddenOf}
@@ -120,5 +120,5 @@ table =
 
 -- every example comes to what the paper says
 pub bench : map (λ (r : Row). r .comes) table ≡ map (λ (r : Row). r .says) table
-unfolding table film runs be16 be32 rowBytes frameBytes frameLength stateLength readNumber groups lastGroup writeNumber writeGroups kept changed runsOf differing runBytes runsBytes listBytes recordBytes chunkAt find animEnd nextFrame header unpackRow packetAt body rowsFrom rowAt place drawRows frameHeader byteAt skip fill readOp readOps readColumn readColumns pointer readPlane readPlanes readPicture readDelta put draw readFrame newFrame join groupsOf loose stretch restOf uniqs cut cutAll opsOf columnOps opBytes opsBytes columnBytes columnAt columnIn columnsBytes equal planeBytes be32Bytes pointerOf pointersBytes listsBytes deltaBytes written findBoth frameIn frameAt placesIn firstPlaces firstOf opening isOdd shownOf hiddenOf ready change makes advance settle onHidden stepOn
+unfolding table film runs be16 be32 rowBytes frameBytes frameLength stateLength readNumber groups lastGroup writeNumber writeGroups kept changed runsOf differing runBytes runsBytes listBytes recordBytes chunkAt find animEnd nextFrame header unpackRow packetAt body rowsFrom rowAt place drawRows frameHeader byteAt skip fill readOp readOps readColumn readColumns pointer readPlane readPlanes readPicture readDelta put draw readFrame newFrame join groupsOf loose stretch restOf uniqs cut cutAll opsOf columnOps opBytes opsBytes columnBytes columnAt columnIn columnsBytes equal planeBytes be32Bytes pointerOf pointersBytes listsBytes deltaBytes written hasBoth contents frameIn frameAt placesIn firstPlaces firstOf opening isOdd shownOf hiddenOf ready change makes advance settle onHidden stepOn
 bench = refl

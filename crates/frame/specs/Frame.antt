@@ -2,12 +2,13 @@
 -- walked, the frame walked whole, then 31 to 36 in table order.
 use Prim.Native.Nat.{ℕ}
 use mathlib.Core.List.{List}
+use lib.ListN.{take, drop}
 use mathlib.Core.Option.{Option, none, some}
-use Rattle.laws.specs.Result.{Res, Res.ok, Res.fault, _>>=_, orRefuse}
+use Rattle.laws.specs.Result.{Res, Res.ok, Res.fault, _>>=_, need}
 use Rattle.refusal.specs.Number.{numberOf}
-use Rattle.iff.specs.Chunk.{bytesOf, contentsOf}
+use Rattle.iff.specs.Chunk.{contents}
+use Rattle.iff.specs.Both.{hasBoth}
 use Rattle.form.specs.Form.{Frame as Form, chunksOf, nextFrame}
-use Rattle.iff.specs.Pair.{findBoth}
 use Rattle.anhd.specs.Anhd.{frameHeader}
 use Rattle.anhd.specs.declared.FrameHeader.{FrameHeader}
 use Rattle.frame.specs.declared.Next.{Next}
@@ -19,8 +20,10 @@ ANHD = 0x414E4844
 abbrev pub DLTA : ℕ
 DLTA = 0x444C5441
 
--- a later frame: the place after it, its header, and the contents of its DLTA
+-- a later frame: where its chunks start, their length, the place after it, its header, and the contents of its DLTA
 pub record Frame : Type 0 where
+  pub start : ℕ
+  pub size : ℕ
   pub next : ℕ
   pub header : FrameHeader
   pub dlta : List ℕ
@@ -28,10 +31,10 @@ pub record Frame : Type 0 where
 -- the frame in a FORM ILBM, for rows of B bytes
 unfoldable pub frameIn : List ℕ → ℕ → Form → Res Frame
 frameIn s B x =
-    findBoth ANHD DLTA (chunksOf s x) >>= λ o.
-    orRefuse 31 o >>= λ p.
-    frameHeader B (bytesOf (chunksOf s x) (p .first)) >>= λ h.
-    ok (record { next = x .next; header = h; dlta = bytesOf (chunksOf s x) (p .second) })
+    hasBoth ANHD DLTA (chunksOf s x) >>= λ t.
+    need t 31 >>= λ _.
+    frameHeader B (contents ANHD (chunksOf s x)) >>= λ h.
+    ok (record { start = x .start; size = x .size; next = x .next; header = h; dlta = contents DLTA (chunksOf s x) })
 
 abbrev pub frameOr : List ℕ → ℕ → Option Form → Res (Option Frame)
 frameOr s B none = ok none
@@ -41,8 +44,8 @@ frameOr s B (some x) = frameIn s B x >>= λ f. ok (some f)
 unfoldable pub frameAt : List ℕ → ℕ → ℕ → Res (Option Frame)
 frameAt s B at = nextFrame s at >>= frameOr s B
 
--- what an answer says in the paper's terms: the DLTA's contents are a part of FORM ANIM
+-- what an answer says in the paper's terms: the DLTA's contents are a part of the frame's chunks
 abbrev pub nextOf : List ℕ → Next → Res (Option Frame)
-nextOf s (Later nx header start len) = ok (some (record { next = nx; header = header; dlta = contentsOf s (ok (some (record { start = start; size = len }))) }))
+nextOf s (Later nx header start len) = ok (some (record { start = start; size = len; next = nx; header = header; dlta = contents DLTA (take len (drop start s)) }))
 nextOf s Last = ok none
 nextOf s (Refused why) = fault (numberOf why)

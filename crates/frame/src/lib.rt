@@ -1,4 +1,4 @@
-// The next frame of an animation: where it stands, its header, and the contents of its delta.
+// The next frame of an animation: where it stands, and its header.
 ghost use mathlib.Core.Path.{_≡_};
 ghost use Prim.Native.Nat.{_+_, _≤_};
 ghost use lib.ListN.{length};
@@ -8,14 +8,13 @@ use anhd::Anhd;
 use anhd::FrameHeader;
 use form::Form;
 use iff::Both;
-use iff::Found;
 use refusal::Refusal;
 
 pub const ANHD: usize = 0x414E4844;
 
 pub const DLTA: usize = 0x444C5441;
 
-// The next frame: the place after it, its header, and where the contents of its DLTA stand in FORM ANIM.
+// The next frame: the place after it, its header, and where its chunks stand in FORM ANIM, its DLTA among them.
 pub enum Next {
     Later {
         next: usize,
@@ -38,19 +37,15 @@ fn frame_in(anim: &[u8], start: usize, len: usize, next: usize, row: usize) -> N
     match b {
         Both::Broken(why) => Next::Refused(why),
         Both::Missing => Next::Refused(Refusal::NoDelta),
-        Both::At { first, second } => {
-            let found = Found::At {
-                start: first.start,
-                len: first.len,
-            };
-            let h = anhd::read_header(iff::contents(chunks, found), row);
+        Both::There => {
+            let h = anhd::read_header(iff::contents(chunks, ANHD), row);
             match h {
                 Anhd::Unread(why) => Next::Refused(why),
                 Anhd::Header(header) => Next::Later {
                     next,
                     header,
-                    start: start + second.start,
-                    len: second.len,
+                    start,
+                    len,
                 },
             }
         }

@@ -73,11 +73,14 @@ find id s = runs (walkStep id s) (λ w. length s - w .at) (fault 21) (record { a
 abbrev pub bytesOf : List ℕ → Part → List ℕ
 bytesOf s p = take (p .size) (drop (p .start) s)
 
--- the contents that were found, as a part of the parent; an empty part where there are none
-abbrev pub contentsOf : List ℕ → Res (Option Part) → List ℕ
-contentsOf s (ok (some p)) = pick (leb (p .start + p .size) (length s)) (bytesOf s p) []
-contentsOf s (ok none) = []
-contentsOf s (fault n) = []
+-- the contents of the first chunk of an id, as a part of the parent; an empty part where there is none
+abbrev pub foundIn : List ℕ → Res (Option Part) → List ℕ
+foundIn s (ok (some p)) = bytesOf s p
+foundIn s (ok none) = []
+foundIn s (fault n) = []
+
+unfoldable pub contents : ℕ → List ℕ → List ℕ
+contents id s = foundIn s (find id s)
 
 -- what the answers say in the paper's terms
 abbrev pub standingOf : Standing → Res (Option Chunk)

@@ -12,7 +12,7 @@ use Rattle.laws.specs.ResultLaws.{Each, Each.each, Each.no-value, each-need, ea
 use Rattle.laws.specs.Loop.{Step.next}
 use Rattle.laws.specs.LoopLaws.{Comes, Comes.comes-next, Comes.comes-done, runs-holds}
 use Rattle.laws.specs.Bytes.{be32}
-use Rattle.iff.specs.Chunk.{Chunk, padded, chunkAt, Part, partOf, Walk, orPart, walkOn, walkStep, find, contentsOf}
+use Rattle.iff.specs.Chunk.{Chunk, padded, chunkAt, Part, partOf, Walk, orPart, walkOn, walkStep, find, bytesOf, contents}
 
 -- a chunk at a place lies within the parent, and the next place is past it
 pub record Within (s : List ℕ) (at : ℕ) (c : Chunk) : Type 0 where
@@ -53,8 +53,13 @@ find-lies id s =
     (λ w p. walk-lies s id w p (chunkAt s (w .at)) (chunk-within s (w .at))) (record { at = 0; answer = ok none }) (each all-none)
 
 -- so its contents are as long as it says
-pub contents-found : (id : ℕ) (s : List ℕ) (p : Part) → find id s ≡ ok (some p) → contentsOf s (find id s) ≡ take (p .size) (drop (p .start) s)
-contents-found id s p e = let l : Lies s p = each-some e (find-lies id s) in rw (e, le-leb _ _ (l .ends))
+pub contents-found : (id : ℕ) (s : List ℕ) (p : Part) → find id s ≡ ok (some p) → contents id s ≡ bytesOf s p
+unfolding contents
+contents-found id s p e = rw e
 
-pub contents-length : (id : ℕ) (s : List ℕ) (p : Part) → find id s ≡ ok (some p) → length (contentsOf s (find id s)) ≡ p .size
+pub contents-length : (id : ℕ) (s : List ℕ) (p : Part) → find id s ≡ ok (some p) → length (contents id s) ≡ p .size
 contents-length id s p e = let l : Lies s p = each-some e (find-lies id s) in rw (contents-found id s p e) (simp (length-take, length-drop) (omega arith))
+
+-- and a chunk that a parent has leaves room for its header
+pub contents-room : (id : ℕ) (s : List ℕ) (p : Part) → find id s ≡ ok (some p) → length (contents id s) + 8 ≤ length s
+contents-room id s p e = let l : Lies s p = each-some e (find-lies id s) in omega (arith, contents-length id s p e, l .starts, l .ends)

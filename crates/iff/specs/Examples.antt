@@ -7,7 +7,7 @@ use lib.ListN.{take, replicate}
 use Rattle.laws.specs.Result.{Res.ok, Res.fault}
 use Rattle.laws.specs.Loop.{runs}
 use Rattle.laws.specs.Bytes.{be32}
-use Rattle.iff.specs.Chunk.{FORM, chunkAt, find, contentsOf}
+use Rattle.iff.specs.Chunk.{FORM, chunkAt, find, contents}
 
 -- four bytes, the highest first
 abbrev pub word : ℕ → List ℕ
@@ -27,8 +27,8 @@ body : find BODY parent ≡ ok (some (record { start = 20; size = 1 }))
 unfolding find runs chunkAt be32
 body = refl
 
-body-contents : contentsOf parent (find BODY parent) ≡ 9 ∷ []
-unfolding find runs chunkAt be32
+body-contents : contents BODY parent ≡ 9 ∷ []
+unfolding contents find runs chunkAt be32
 body-contents = refl
 
 -- the first of two counts

@@ -1,4 +1,4 @@
 pub mod Chunk
 pub mod ChunkLaws
-pub mod Pair
+pub mod Both
 pub mod Examples

@@ -1,7 +1,7 @@
-// Chunks of an IFF file: what stands at a place, and the first chunk of an id.
+// Chunks of an IFF file: what stands at a place, and the first chunk of an id, whose contents are a part of the lent slice.
 ghost use mathlib.Core.Path.{_≡_};
-ghost use Rattle.iff.specs.Chunk.{chunkAt, standingOf, find, foundOf, orPart, contentsOf};
-ghost use Rattle.iff.specs.Pair.{findBoth, bothOf};
+ghost use Rattle.iff.specs.Chunk.{chunkAt, standingOf, find, foundOf, orPart, contents};
+ghost use Rattle.iff.specs.Both.{hasBoth, bothOf};
 use buffer::number32;
 use refusal::Refusal;
 
@@ -25,15 +25,9 @@ pub enum Found {
     Broken(Refusal),
 }
 
-// Where the contents of a chunk stand in the parent.
-pub struct Part {
-    pub start: usize,
-    pub len: usize,
-}
-
-// What a search for two chunks finds.
+// Whether a parent has two chunks.
 pub enum Both {
-    At { first: Part, second: Part },
+    There,
     Missing,
     Broken(Refusal),
 }
@@ -98,45 +92,36 @@ pub fn find(s: &[u8], wanted: usize) -> Found
     }
 }
 
-// The first chunk of each of two ids.
-pub fn find_both(s: &[u8], first: usize, second: usize) -> Both
-    ensures { λ r. ⌜ bothOf r ≡ findBoth first second (now (s .entry)) ⌝ }
+// The contents of the first chunk of an id, as a part of the parent; an empty part where there is none.
+pub fn contents(s: &[u8], wanted: usize) -> &[u8]
+    ensures { λ r. ⌜ now r ≡ contents wanted (now (s .entry)) ⌝ }
 {
-    let p = find(s, first);
-    match p {
-        Found::Broken(why) => Both::Broken(why),
-        Found::Missing => Both::Missing,
+    let f = find(s, wanted);
+    match f {
         Found::At { start, len } => {
-            let first = Part { start, len };
-            let q = find(s, second);
-            match q {
-                Found::Broken(why) => Both::Broken(why),
-                Found::Missing => Both::Missing,
-                Found::At { start, len } => Both::At {
-                    first,
-                    second: Part { start, len },
-                },
-            }
-        }
-    }
-}
-
-// The contents that were found, as a part of the parent; an empty part where there are none.
-pub fn contents(s: &[u8], found: Found) -> &[u8]
-    ensures { λ r. ⌜ now r ≡ contentsOf (now (s .entry)) (foundOf found) ⌝ }
-{
-    match found {
-        Found::At { start, len } => {
-            if s.len() < start {
-                return &s[..0];
-            }
-            if s.len() - start < len {
-                return &s[..0];
-            }
             let end = start + len;
             &s[start..end]
         }
         Found::Missing => &s[..0],
         Found::Broken(_) => &s[..0],
+    }
+}
+
+// Whether a parent has a chunk of each of two ids.
+pub fn find_both(s: &[u8], first: usize, second: usize) -> Both
+    ensures { λ r. ⌜ bothOf r ≡ hasBoth first second (now (s .entry)) ⌝ }
+{
+    let p = find(s, first);
+    match p {
+        Found::Broken(why) => Both::Broken(why),
+        Found::Missing => Both::Missing,
+        Found::At { start: _, len: _ } => {
+            let q = find(s, second);
+            match q {
+                Found::Broken(why) => Both::Broken(why),
+                Found::Missing => Both::Missing,
+                Found::At { start: _, len: _ } => Both::There,
+            }
+        }
     }
 }

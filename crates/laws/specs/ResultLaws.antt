@@ -12,6 +12,11 @@ pub data Each {A : Type 0} (P : A → Type 0) : Res A → Type 0 where
   each : {a : A} → P a → Each P (ok a)
   no-value : {n : ℕ} → Each P (fault n)
 
+-- a result is the value that it comes to
+pub each-self : {A : Type 0} (r : Res A) → Each (λ (a : A). r ≡ ok a) r
+each-self (ok a) = each refl
+each-self (fault n) = no-value
+
 pub each-bind : {A B : Type 0} {P : A → Type 0} {Q : B → Type 0} {r : Res A} {f : A → Res B} → Each P r → ((a : A) → P a → Each Q (f a)) → Each Q (r >>= f)
 each-bind (each {a = a} p) q = q a p
 each-bind no-value q = no-value

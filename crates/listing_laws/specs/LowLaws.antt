@@ -11,16 +11,16 @@ use Rattle.laws.specs.LoopLaws.{Comes, Comes.comes-next, Comes.comes-done, come
 use Rattle.state.specs.declared.Sizes.{Sizes}
 use Rattle.state.specs.declared.State.{State}
 use Rattle.state.specs.State.{within, rowBytes, frameLength, stateLength}
-use Rattle.iff.specs.Chunk.{FORM, Chunk, Part, Walk, padded, chunkAt, bytesOf, orPart, partOf, walkOn, walkStep, find}
+use Rattle.iff.specs.Chunk.{FORM, Chunk, Part, Walk, padded, chunkAt, orPart, partOf, walkOn, walkStep, find, contents}
 use Rattle.form.specs.Form.{animEnd, Frame as Form, chunksOf, passOn, frameStep, nextFrame, ANIM, ILBM}
-use Rattle.iff.specs.Pair.{andFind, findBoth}
+use Rattle.iff.specs.Both.{andHas, hasBoth}
 use Rattle.bmhd.specs.Header.{sizesAt, refusedAs, header}
 use Rattle.anhd.specs.Anhd.{bitsOk, columnsOk, itemsOf, frameHeader}
 use Rattle.anhd.specs.declared.Items.{Items}
 use Rattle.ilbm.specs.ByteRun.{Row, Kind, Kind.copies, Kind.nothing, Kind.repeats, kindOf, packetAs, packetAt, withPacket, unpackOn, unpackRow}
 use Rattle.ilbm.specs.Body.{rowAt, rowsFrom, body}
 use Rattle.delta.specs.Delta.{shapeOf, Reading, byteAt, skip, fill, Kind as OpKind, Kind.same, Kind.skips, Kind.uniq, kindOf as opKindOf, opAs, readOp, readOps, readColumn, readColumns, pointer, readPlane, readPlanes, readPicture, readDelta}
-use Rattle.frame.specs.Frame.{Frame, frameIn, frameOr, frameAt}
+use Rattle.frame.specs.Frame.{ANHD, Frame, frameIn, frameOr, frameAt}
 use Rattle.opening.specs.Open.{placesIn, firstPlaces, bmhdAt, bodyAt, firstSize, firstOf, opening}
 use Rattle.player.specs.Step.{ready, change, make, advance}
 
@@ -67,11 +67,11 @@ find-low id s = runs-holds (walkStep id s) (λ w. length s - w .at) (fault 21) (
     step w h (ok none) k = comes-done h
     step w h (fault n) (low-fault k) = comes-done (low-fault k)
 
-both-low : (x y : ℕ) (s : List ℕ) → Low (findBoth x y s)
-unfolding findBoth
+both-low : (x y : ℕ) (s : List ℕ) → Low (hasBoth x y s)
+unfolding hasBoth
 both-low x y s = low-bind (find-low x s) go
   where
-    go : (o : Option Part) → Low (andFind y s o)
+    go : (o : Option Part) → Low (andHas y s o)
     go (some p) = low-bind (find-low y s) λ q. low
     go none = low
 
@@ -94,7 +94,7 @@ places-low file =
     low-need (leb (length file) 2_147_483_647) 13 _ (lit< tt)
     (low-bind (low-need (leb 12 (length file)) 21 _ (lit< tt) (low-need (eqb (be32 file 0) FORM && eqb (be32 file 8) ANIM) 22 _ (lit< tt)
     (low-need (leb 4 (be32 file 4)) 21 _ (lit< tt) (low-need (leb (be32 file 4 + 8) (length file)) 21 _ (lit< tt) low)))) λ end.
-    low-bind (form-low (take end file) 12) λ o. low-bind (low-refuse 23 o (lit< tt)) λ x. low-bind (both-low _ _ (chunksOf (take end file) x)) λ q. low-bind (low-refuse 23 q (lit< tt)) λ p. low)
+    low-bind (form-low (take end file) 12) λ o. low-bind (low-refuse 23 o (lit< tt)) λ x. low-bind (both-low _ _ (chunksOf (take end file) x)) λ t. low-need t 23 _ (lit< tt) low)
 
 length-low : (z : Sizes) → Low (frameLength z)
 unfolding frameLength
@@ -128,8 +128,8 @@ frame-low s B at = low-bind (form-low s at) go
     go none = low
     go (some x) =
         low-bind
-        (low-bind (both-low _ _ (chunksOf s x)) λ o. low-bind (low-refuse 31 o (lit< tt)) λ p.
-        low-bind (anhd-low (bytesOf (chunksOf s x) (p .first))) λ h. low)
+        (low-bind (both-low _ _ (chunksOf s x)) λ t. low-need t 31 _ (lit< tt)
+        (low-bind (anhd-low (contents ANHD (chunksOf s x))) λ h. low))
         λ f. low
 
 -- the first picture's BODY

@@ -8,9 +8,9 @@ use Rattle.laws.specs.Loop.{runs}
 use Rattle.state.specs.State.{rowBytes, frameBytes, frameLength, stateLength}
 use Rattle.number.specs.Number.{writeGroups, writeNumber}
 use Rattle.runs.specs.Runs.{kept, changed, runsOf, differing}
-use Rattle.iff.specs.Chunk.{chunkAt, find}
+use Rattle.iff.specs.Chunk.{chunkAt, find, contents}
 use Rattle.form.specs.Form.{animEnd, nextFrame}
-use Rattle.iff.specs.Pair.{findBoth}
+use Rattle.iff.specs.Both.{hasBoth}
 use Rattle.bmhd.specs.Header.{header}
 use Rattle.ilbm.specs.Body.{rowAt, rowsFrom, place, draw as drawRows, body}
 use Rattle.anhd.specs.Anhd.{frameHeader}
@@ -36,5 +36,5 @@ sample =
     ++ ascii "DLTA" ++ (0 ∷ 0 ∷ 0 ∷ 69 ∷ 0 ∷ 0 ∷ 0 ∷ 64 ∷ []) ++ replicate 60 0 ++ (1 ∷ 0x82 ∷ 0xAA ∷ 0xBB ∷ 0 ∷ 0 ∷ [])
 
 sample-text : listing sample ≡ ascii "picture 16x2x1\nframe 2 method 5 time 3 changed 2 record 9\nend 2\n"
-unfolding listing listed planned fronts shows frames decimal endLine pictureLine frameLine stepOn onHidden settle hiddenOf shownOf isOdd ready advance change makes recordBytes differing runBytes runsBytes listBytes opening firstOf firstSize firstPlaces placesIn frameAt frameIn readDelta readPicture readPlanes readPlane pointer readColumns readColumn readOps readOp byteAt skip fill draw put frameHeader body drawRows place rowsFrom rowAt header findBoth nextFrame animEnd find chunkAt runsOf changed kept writeNumber writeGroups stateLength frameLength frameBytes rowBytes runs be32 be16
+unfolding listing listed planned fronts shows frames decimal endLine pictureLine frameLine stepOn onHidden settle hiddenOf shownOf isOdd ready advance change makes recordBytes differing runBytes runsBytes listBytes opening firstOf firstSize firstPlaces placesIn frameAt frameIn readDelta readPicture readPlanes readPlane pointer readColumns readColumn readOps readOp byteAt skip fill draw put frameHeader body drawRows place rowsFrom rowAt header hasBoth contents nextFrame animEnd find chunkAt runsOf changed kept writeNumber writeGroups stateLength frameLength frameBytes rowBytes runs be32 be16
 sample-text = refl

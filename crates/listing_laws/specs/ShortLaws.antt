@@ -5,20 +5,21 @@ use native.Mathlib.Omega.{arith}
 use native.Mathlib.Decide.{decLt}
 use mathlib.Core.List.{List, [], _∷_}
 use mathlib.Core.Option.{Option, none, some}
-use mathlib.Core.Path.{ap, _∙_}
-use mathlib.Core.Bool.{_||_}
+use mathlib.Core.Path.{_≡_, refl, ap, _∙_}
+use mathlib.Core.Bool.{Bool, true, false, _||_}
 use lib.Dec.{leb, eqb, lit<}
 use lib.ListN.{length, getD, drop, length-append, length-take}
 use borrow.Author.Tests.{leb-true}
 use Rattle.laws.specs.Bytes.{bytes-take, be32, Bytes, be32-bound, bytes-drop}
-use Rattle.laws.specs.Result.{Res, Res.ok, Res.fault, _>>=_, orRefuse}
-use Rattle.laws.specs.ResultLaws.{Each, Each.each, Each.no-value, each-bind, each-need, All, All.all-some, All.all-none, all-value}
+use Rattle.laws.specs.Result.{Res, Res.ok, Res.fault, _>>=_, need}
+use Rattle.laws.specs.ResultLaws.{Each, Each.each, Each.no-value, each-self, each-bind, each-need, All, All.all-some, All.all-none, all-value}
 use Rattle.state.specs.declared.Sizes.{Sizes}
 use Rattle.state.specs.StateLaws.{Sound}
-use Rattle.iff.specs.Chunk.{bytesOf}
+use Rattle.iff.specs.Chunk.{Part, find, foundIn, contents}
+use Rattle.iff.specs.ChunkLaws.{contents-room}
+use Rattle.iff.specs.Both.{isThere, andHas, hasBoth}
 use Rattle.form.specs.Form.{Frame as Form, chunksOf}
 use Rattle.form.specs.FormLaws.{Follows, frame-follows}
-use Rattle.iff.specs.Pair.{Pair, BothLie, both-lie}
 use Rattle.anhd.specs.Anhd.{bitsOk, columnsOk, itemsOf, frameHeader}
 use Rattle.anhd.specs.declared.FrameHeader.{FrameHeader}
 use Rattle.anhd.specs.declared.Items.{Items}
@@ -62,23 +63,45 @@ header-holds B s h =
     each-need (bitsOk (getD s 0 0) (be32 s 20)) 35 _ λ _. each-need (columnsOk (itemsOf (getD s 0 0) (be32 s 20)) B) 36 _ λ _.
     each (h 0, be32-bound s 14 h)
 
+-- the contents of a chunk are bytes, and the second of two that are there has room for its header
+contents-bytes : (id : ℕ) (s : List ℕ) → Bytes s → Bytes (contents id s)
+unfolding contents
+contents-bytes id s h = go (find id s)
+  where
+    go : (q : Res (Option Part)) → Bytes (foundIn s q)
+    go (ok (some p)) = bytes-take (p .size) _ (bytes-drop (p .start) s h)
+    go (ok none) = bytes-take 0 s h
+    go (fault n) = bytes-take 0 s h
+
+second-room : (x y : ℕ) (s : List ℕ) → hasBoth x y s ≡ ok true → length (contents y s) + 8 ≤ length s
+unfolding hasBoth
+second-room x y s e = go (find x s) e
+  where
+    last : (q : Res (Option Part)) → find y s ≡ q → (q >>= λ k. ok (isThere k)) ≡ ok true → length (contents y s) + 8 ≤ length s
+    last (ok (some q)) f e = contents-room y s q f
+    last (ok none) f e = let z : _≡_ {A = ℕ} 0 1 = cc in absurd (omega arith)
+    last (fault n) f e = let z : _≡_ {A = ℕ} 0 1 = cc in absurd (omega arith)
+
+    go : (p : Res (Option Part)) → (p >>= andHas y s) ≡ ok true → length (contents y s) + 8 ≤ length s
+    go (ok (some p)) e = last (find y s) refl e
+    go (ok none) e = let z : _≡_ {A = ℕ} 0 1 = cc in absurd (omega arith)
+    go (fault n) e = let z : _≡_ {A = ℕ} 0 1 = cc in absurd (omega arith)
+
 pub frame-holds : (s : List ℕ) (B at : ℕ) → Bytes s → Each (All (Holds at)) (frameAt s B at)
 unfolding frameAt frameIn
 frame-holds s B at h = each-bind (frame-follows s at) form
   where
-    pair : (x : Form) → Follows s at x → (q : Option Pair) → All (BothLie (chunksOf s x)) q
-        → Each (Holds at) (orRefuse 31 q >>= λ p. frameHeader B (bytesOf (chunksOf s x) (p .first)) >>= λ e. ok (record { next = x .next; header = e; dlta = bytesOf (chunksOf s x) (p .second) }))
-    pair x f none l = no-value
-    pair x f (some p) l =
-        let b = all-value l in
-        each-bind (header-holds B (bytesOf (chunksOf s x) (p .first)) (bytes-take (p .first .size) _ (bytes-drop (p .first .start) _ (bytes-take (x .size) _ (bytes-drop (x .start) s h))))) λ e k.
-        let t : at + 20 + length (bytesOf (chunksOf s x) (p .second)) ≤ x .next =
-        omega (arith, length-take (p .second .size) (drop (p .second .start) (chunksOf s x)), length-take (x .size) (drop (x .start) s), b .second .starts, b .second .ends, f .starts, f .holds) in
+    there : (x : Form) → Follows s at x → (t : Bool) → hasBoth ANHD DLTA (chunksOf s x) ≡ ok t
+        → Each (Holds at) (need t 31 >>= λ _. frameHeader B (contents ANHD (chunksOf s x)) >>= λ e. ok (record { start = x .start; size = x .size; next = x .next; header = e; dlta = contents DLTA (chunksOf s x) }))
+    there x f false e = no-value
+    there x f true e =
+        each-bind (header-holds B (contents ANHD (chunksOf s x)) (contents-bytes ANHD (chunksOf s x) (bytes-take (x .size) _ (bytes-drop (x .start) s h)))) λ y k.
+        let t : at + 20 + length (contents DLTA (chunksOf s x)) ≤ x .next = omega (arith, second-room ANHD DLTA (chunksOf s x) e, length-take (x .size) (drop (x .start) s), f .starts, f .holds) in
         each (record { method = k .0; time = k .1; takes = t })
 
     form : (o : Option Form) → All (Follows s at) o → Each (All (Holds at)) (frameOr s B o)
     form none l = each all-none
-    form (some x) l = each-bind (each-bind (both-lie ANHD DLTA (chunksOf s x)) (pair x (all-value l))) λ y k. each (all-some k)
+    form (some x) l = each-bind (each-bind (each-self (hasBoth ANHD DLTA (chunksOf s x))) (there x (all-value l))) λ y k. each (all-some k)
 
 -- what is reported of a step is small enough to be told in so many digits
 pub record Tells (r : Report) : Type 0 where

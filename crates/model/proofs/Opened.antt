@@ -2,6 +2,7 @@
 -- and places within the file.
 use Prim.Native.Nat.{ℕ, _-_, _≤_}
 use native.Mathlib.Omega.{arith}
+use mathlib.Core.Bool.{Bool, true, false}
 use mathlib.Core.List.{List, []}
 use mathlib.Core.Option.{Option, none, some}
 use mathlib.Core.Path.{_≡_, refl, sym, ap, _∙_}
@@ -9,9 +10,9 @@ use lib.Dec.{leb, eqb}
 use lib.ListN.{length, take}
 use lib.Seq.{length-take-le}
 use Rattle.laws.specs.Result.{Res, Res.ok, Res.fault, _>>=_, need, orRefuse}
-use Rattle.laws.specs.ResultLaws.{Each, Each.each, Each.no-value, each-bind, each-need, each-is}
+use Rattle.laws.specs.ResultLaws.{Each, Each.each, Each.no-value, each-self, each-bind, each-need, each-is}
 use Rattle.laws.specs.Store.{part-of-part}
-use Rattle.iff.specs.Pair.{Pair, findBoth}
+use Rattle.iff.specs.Both.{hasBoth}
 use Rattle.form.specs.Form.{Frame, chunksOf, animEnd, nextFrame}
 use Rattle.form.specs.FormLaws.{anim-closes}
 use Rattle.bmhd.specs.declared.Header.{Header}
@@ -47,32 +48,27 @@ pub record OpenedAs (file : List ℕ) (F : OpenedFilm) : Type 0 where
   pub read : film file ≡ ok (filmOf F)
   pub opened : Opened (filmOf F)
 
--- a result is what it comes to
-each-self : {A : Type 0} (r : Res A) → Each (λ (a : A). r ≡ ok a) r
-each-self (ok a) = each refl
-each-self (fault n) = no-value
-
 -- where the first picture was found
 record Found (file : List ℕ) (p : Places) : Type 0 where
   ends : animEnd file ≡ ok (p .end)
   form : nextFrame (take (p .end) file) 12 ≡ ok (some (p .form))
-  parts : findBoth BMHD BODY (chunksOf (take (p .end) file) (p .form)) ≡ ok (some (p .parts))
+  parts : hasBoth BMHD BODY (chunksOf (take (p .end) file) (p .form)) ≡ ok true
 
 places-found : (file : List ℕ) → Each (Found file) (firstPlaces file)
 unfolding firstPlaces placesIn
 places-found file = each-need (leb (length file) 2_147_483_647) 13 _ λ _. each-bind (each-self (animEnd file)) λ end e. each-bind (each-self (nextFrame (take end file) 12)) (form end e (length-take-le end file (each-is e (anim-closes file) .most)))
   where
-    pair : (end : ℕ) → animEnd file ≡ ok end → length (take end file) ≡ end → (x : Frame) → nextFrame (take end file) 12 ≡ ok (some x) → (q : Option Pair) → findBoth BMHD BODY (chunksOf (take end file) x) ≡ ok q
-        → Each (Found file) (orRefuse 23 q >>= λ p. ok (record { end = length (take end file); form = x; parts = p }))
-    pair end e n x h none k = no-value
-    pair end e n x h (some p) k =
-        let c : Found file (record { end = length (take end file); form = x; parts = p }) = rw n (record { ends = e; form = h; parts = k }) in
+    pair : (end : ℕ) → animEnd file ≡ ok end → length (take end file) ≡ end → (x : Frame) → nextFrame (take end file) 12 ≡ ok (some x) → (t : Bool) → hasBoth BMHD BODY (chunksOf (take end file) x) ≡ ok t
+        → Each (Found file) (need t 23 >>= λ _. ok (record { end = length (take end file); form = x }))
+    pair end e n x h false k = no-value
+    pair end e n x h true k =
+        let c : Found file (record { end = length (take end file); form = x }) = rw n (record { ends = e; form = h; parts = k }) in
         each c
 
     form : (end : ℕ) → animEnd file ≡ ok end → length (take end file) ≡ end → (o : Option Frame) → nextFrame (take end file) 12 ≡ ok o
-        → Each (Found file) (orRefuse 23 o >>= λ x. findBoth BMHD BODY (chunksOf (take end file) x) >>= λ q. orRefuse 23 q >>= λ p. ok (record { end = length (take end file); form = x; parts = p }))
+        → Each (Found file) (orRefuse 23 o >>= λ x. hasBoth BMHD BODY (chunksOf (take end file) x) >>= λ t. need t 23 >>= λ _. ok (record { end = length (take end file); form = x }))
     form end e n none h = no-value
-    form end e n (some x) h = each-bind (each-self (findBoth BMHD BODY (chunksOf (take end file) x))) (pair end e n x h)
+    form end e n (some x) h = each-bind (each-self (hasBoth BMHD BODY (chunksOf (take end file) x))) (pair end e n x h)
 
 -- the first picture, without the lengths of A and B
 abbrev firstIn : Res Header → List ℕ → Res First

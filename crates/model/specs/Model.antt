@@ -6,11 +6,11 @@ use mathlib.Core.List.{List, [], _∷_}
 use mathlib.Core.Option.{Option, none, some}
 use lib.Dec.{leb, ltb, eqb}
 use lib.ListN.{length, take}
-use Rattle.laws.specs.Result.{Res, Res.ok, Res.fault, _>>=_, orRefuse, pick, orKeep}
+use Rattle.laws.specs.Result.{Res, Res.ok, Res.fault, _>>=_, need, orRefuse, pick, orKeep}
 use Rattle.state.specs.declared.Sizes.{Sizes}
 use Rattle.state.specs.State.{rowBytes, frameBytes}
-use Rattle.iff.specs.Chunk.{bytesOf}
-use Rattle.iff.specs.Pair.{findBoth}
+use Rattle.iff.specs.Chunk.{contents}
+use Rattle.iff.specs.Both.{hasBoth}
 use Rattle.form.specs.Form.{chunksOf, animEnd, nextFrame}
 use Rattle.bmhd.specs.Header.{header}
 use Rattle.ilbm.specs.Body.{body}
@@ -47,10 +47,10 @@ film file =
     animEnd file >>= λ end.
     nextFrame (take end file) 12 >>= λ o.
     orRefuse 23 o >>= λ x.
-    findBoth BMHD BODY (chunksOf (take end file) x) >>= λ q.
-    orRefuse 23 q >>= λ p.
-    header (bytesOf (chunksOf (take end file) x) (p .first)) >>= λ z.
-    body (z .packed) (z .sizes) (bytesOf (chunksOf (take end file) x) (p .second)) >>= λ f.
+    hasBoth BMHD BODY (chunksOf (take end file) x) >>= λ t.
+    need t 23 >>= λ _.
+    header (contents BMHD (chunksOf (take end file) x)) >>= λ z.
+    body (z .packed) (z .sizes) (contents BODY (chunksOf (take end file) x)) >>= λ f.
     ok (record { file = file; end = end; sizes = z .sizes; start = x .next; first = f })
 
 -- the frame that stands at a place

@@ -10,9 +10,9 @@ use Rattle.refusal.specs.Number.{numberOf}
 use Rattle.state.specs.State.{opened}
 use Rattle.state.specs.declared.Sizes.{Sizes}
 use Rattle.state.specs.declared.State.{State}
-use Rattle.iff.specs.Chunk.{bytesOf}
+use Rattle.iff.specs.Chunk.{contents}
+use Rattle.iff.specs.Both.{hasBoth}
 use Rattle.form.specs.Form.{Frame, chunksOf, animEnd, nextFrame}
-use Rattle.iff.specs.Pair.{Pair, findBoth}
 use Rattle.bmhd.specs.Header.{header}
 use Rattle.ilbm.specs.Body.{body}
 use Rattle.opening.specs.declared.Opening.{Opening}
@@ -27,22 +27,21 @@ BMHD = 0x424D4844
 abbrev pub BODY : ℕ
 BODY = 0x424F4459
 
--- where the first picture stands: the end place of FORM ANIM, the first FORM ILBM in it, and in that its BMHD and its BODY
+-- where the first picture stands: the end place of FORM ANIM, and the first FORM ILBM in it
 pub record Places : Type 0 where
   pub end : ℕ
   pub form : Frame
-  pub parts : Pair
 
 -- 21 or 23 as the chunks of FORM ANIM are walked
 unfoldable pub placesIn : List ℕ → Res Places
 placesIn s =
     nextFrame s 12 >>= λ o.
     orRefuse 23 o >>= λ x.
-    findBoth BMHD BODY (chunksOf s x) >>= λ q.
-    orRefuse 23 q >>= λ p.
-    ok (record { end = length s; form = x; parts = p })
+    hasBoth BMHD BODY (chunksOf s x) >>= λ t.
+    need t 23 >>= λ _.
+    ok (record { end = length s; form = x })
 
--- 13, 21 for under 12 bytes, 22, 21 for the outer length before that
+-- before them 13, 21 for under 12 bytes, 22, 21 for the outer length
 unfoldable pub firstPlaces : List ℕ → Res Places
 firstPlaces file =
     need (leb (length file) 2_147_483_647) 13 >>= λ _.
@@ -51,10 +50,10 @@ firstPlaces file =
 
 -- the contents of its BMHD and of its BODY
 abbrev pub bmhdAt : List ℕ → Places → List ℕ
-bmhdAt file p = bytesOf (chunksOf file (p .form)) (p .parts .first)
+bmhdAt file p = contents BMHD (chunksOf file (p .form))
 
 abbrev pub bodyAt : List ℕ → Places → List ℕ
-bodyAt file p = bytesOf (chunksOf file (p .form)) (p .parts .second)
+bodyAt file p = contents BODY (chunksOf file (p .form))
 
 -- the length of the first picture's frame, or what refuses it up to and including 24
 unfoldable pub firstSize : List ℕ → Res ℕ
@@ -85,6 +84,7 @@ pub record Film : Type 0 where
 abbrev pub film : List ℕ → ℕ → ℕ → First → Film
 film file end start p = record { file = file; end = end; sizes = p .sizes; start = start; first = p .picture }
 
+-- opening a file, with buffers A and B of so many bytes
 unfoldable pub opening : List ℕ → ℕ → ℕ → Res Film
 opening file a b =
     firstPlaces file >>= λ p.

@@ -2,25 +2,24 @@
 use Prim.Native.Nat.{ℕ, _+_, _-_, _<_, _≤_}
 use native.Mathlib.Nat.{add-sub-cancel-left}
 use native.Mathlib.Omega.{arith}
-use mathlib.Core.List.{List, []}
+use mathlib.Core.Bool.{true, false}
+use mathlib.Core.List.{List}
 use mathlib.Core.Option.{Option, none, some}
 use mathlib.Core.Path.{_≡_, refl, sym}
 use lib.Dec.{leb}
 use lib.ListN.{length, take, drop}
 use lib.Seq.{length-take-le}
 use borrow.Author.Tests.{eq-eqb, ne-eqb, le-leb, lt-leb, leb-true}
-use Rattle.laws.specs.Result.{Res, Res.ok, Res.fault, _>>=_, orRefuse, answer, orKeep}
-use Rattle.laws.specs.Store.{part-of-part}
-use Rattle.laws.specs.ResultLaws.{answer-refused, answered, Each, Each.each, Each.no-value, each-need, each-bind, each-is, All, all-value}
+use Rattle.laws.specs.Result.{Res, Res.ok, Res.fault, _>>=_, need, orRefuse, answer, orKeep}
+use Rattle.laws.specs.ResultLaws.{answer-refused, answered, Each, Each.each, Each.no-value, each-any, each-need, each-bind, each-is, All, all-value}
 use Rattle.refusal.specs.Number.{numberOf}
 use Rattle.refusal.specs.declared.Refusal.{Refusal}
 use Rattle.state.specs.declared.State.{State}
 use Rattle.state.specs.State.{opened}
-use Rattle.iff.specs.declared.Part.{Part}
-use Rattle.iff.specs.Chunk.{contentsOf}
+use Rattle.iff.specs.Chunk.{contents}
+use Rattle.iff.specs.Both.{hasBoth}
 use Rattle.form.specs.Form.{Frame, chunksOf, animEnd, nextFrame}
 use Rattle.form.specs.FormLaws.{Closes, anim-closes, Follows, frame-follows}
-use Rattle.iff.specs.Pair.{Pair, findBoth, BothLie, both-lie}
 use Rattle.bmhd.specs.declared.Header.{Header}
 use Rattle.bmhd.specs.Header.{header}
 use Rattle.bmhd.specs.HeaderLaws.{header-sizes}
@@ -33,16 +32,8 @@ use Rattle.opening.specs.Open.{BMHD, BODY, Places, placesIn, firstPlaces
 
 -- what the walk's answer says in the paper's terms
 abbrev pub placesOf : Found → Res Places
-placesOf (At end nx chunks header body) = ok (record {
-  end = end;
-  form = record { start = chunks .start; size = chunks .len; next = nx };
-  parts = record { first = record { start = header .start; size = header .len }; second = record { start = body .start; size = body .len } };
-})
+placesOf (At end nx start len) = ok (record { end = end; form = record { start = start; size = len; next = nx } })
 placesOf (Nowhere why) = fault (numberOf why)
-
--- a part of the chunks that stand in a part of the file
-abbrev pub partOf : List ℕ → Part → Part → List ℕ
-partOf file c p = contentsOf (contentsOf file (ok (some (record { start = c .start; size = c .len })))) (ok (some (record { start = p .start; size = p .len })))
 
 -- the walk through FORM ANIM
 module _ (s : List ℕ) where
@@ -55,16 +46,16 @@ module _ (s : List ℕ) where
   anim-empty e = rw e
 
   module _ (start size nx : ℕ) (e : nextFrame s 12 ≡ ok (some (record { start = start; size = size; next = nx }))) where
-    pub form-broken : {n : ℕ} → findBoth BMHD BODY (take (start + size - start) (drop start s)) ≡ fault n → placesIn s ≡ fault n
+    pub form-broken : {n : ℕ} → hasBoth BMHD BODY (take (start + size - start) (drop start s)) ≡ fault n → placesIn s ≡ fault n
     unfolding placesIn
     form-broken h = rw e (rw (rw (add-sub-cancel-left start size) at h))
 
-    pub form-missing : findBoth BMHD BODY (take (start + size - start) (drop start s)) ≡ ok none → placesIn s ≡ fault 23
+    pub form-missing : hasBoth BMHD BODY (take (start + size - start) (drop start s)) ≡ ok false → placesIn s ≡ fault 23
     unfolding placesIn
     form-missing h = rw e (rw (rw (add-sub-cancel-left start size) at h))
 
-    pub form-whole : {p : Pair} → findBoth BMHD BODY (take (start + size - start) (drop start s)) ≡ ok (some p)
-        → placesIn s ≡ ok (record { end = length s; form = record { start = start; size = size; next = nx }; parts = p })
+    pub form-whole : hasBoth BMHD BODY (take (start + size - start) (drop start s)) ≡ ok true
+        → placesIn s ≡ ok (record { end = length s; form = record { start = start; size = size; next = nx } })
     unfolding placesIn
     form-whole h = rw e (rw (rw (add-sub-cancel-left start size) at h))
 
@@ -90,7 +81,6 @@ pub record Lies (file : List ℕ) (p : Places) : Type 0 where
   pub starts : 12 ≤ p .form .next
   pub stops : p .form .next ≤ p .end
   pub chunks : p .form .start + p .form .size ≤ p .form .next
-  pub parts : BothLie (chunksOf file (p .form)) (p .parts)
 
 pub places-lie : (file : List ℕ) → Each (Lies file) (firstPlaces file)
 unfolding firstPlaces placesIn
@@ -100,33 +90,17 @@ places-lie file =
     let n : length (take end file) ≡ end = length-take-le end file (c .most) in
     each-bind (frame-follows (take end file) 12) (form end c (leb-true (length file) 2_147_483_647 l) n)
   where
-    pair : (end : ℕ) (c : Closes file end) (l : length file ≤ 2_147_483_647) (n : length (take end file) ≡ end) (x : Frame) → Follows (take end file) 12 x
-        → (q : Option Pair) → All (BothLie (chunksOf (take end file) x)) q → Each (Lies file) (orRefuse 23 q >>= λ p. ok (record { end = length (take end file); form = x; parts = p }))
-    pair end c l n x k none b = no-value
-    pair end c l n x k (some p) b =
-        let i : chunksOf (take end file) x ≡ chunksOf file x = part-of-part (x .start) (x .size) end file (omega (arith, k .holds, k .ends)) in
-        let u : length (take end file) ≤ length file = omega (arith, c .most) in
-        let v : 12 ≤ x .next = omega (arith, k .rises) in
-        each (record { short = l; ends = u; starts = v; stops = k .ends; chunks = k .holds; parts = rw i at (all-value b) })
-
     form : (end : ℕ) (c : Closes file end) (l : length file ≤ 2_147_483_647) (n : length (take end file) ≡ end) (o : Option Frame) → All (Follows (take end file) 12) o
-        → Each (Lies file) (orRefuse 23 o >>= λ x. findBoth BMHD BODY (chunksOf (take end file) x) >>= λ q. orRefuse 23 q >>= λ p. ok (record { end = length (take end file); form = x; parts = p }))
+        → Each (Lies file) (orRefuse 23 o >>= λ x. hasBoth BMHD BODY (chunksOf (take end file) x) >>= λ t. need t 23 >>= λ _. ok (record { end = length (take end file); form = x }))
     form end c l n none b = no-value
-    form end c l n (some x) b = each-bind (both-lie BMHD BODY (chunksOf (take end file) x)) (pair end c l n x (all-value b))
+    form end c l n (some x) b =
+        let k = all-value b in
+        each-any (hasBoth BMHD BODY (chunksOf (take end file) x)) λ t. each-any (need t 23) λ _.
+        each (record { short = l; ends = omega (arith, c .most); starts = omega (arith, k .rises); stops = k .ends; chunks = k .holds })
 
--- the contents of the two chunks, as they are lent
-module _ (file : List ℕ) {p : Places} (e : firstPlaces file ≡ ok p) where
-  lies : Lies file p
-  lies = each-is e (places-lie file)
-
-  form-is : contentsOf file (ok (some (record { start = p .form .start; size = p .form .size }))) ≡ chunksOf file (p .form)
-  form-is = let k = lies in rw (le-leb (p .form .start + p .form .size) (length file) (omega (arith, k .chunks, k .stops, k .ends)))
-
-  pub bmhd-is : contentsOf (contentsOf file (ok (some (record { start = p .form .start; size = p .form .size })))) (ok (some (p .parts .first))) ≡ bmhdAt file p
-  bmhd-is = rw form-is (rw (le-leb (p .parts .first .start + p .parts .first .size) (length (chunksOf file (p .form))) (lies .parts .first .ends)))
-
-  pub body-is : contentsOf (contentsOf file (ok (some (record { start = p .form .start; size = p .form .size })))) (ok (some (p .parts .second))) ≡ bodyAt file p
-  body-is = rw form-is (rw (le-leb (p .parts .second .start + p .parts .second .size) (length (chunksOf file (p .form))) (lies .parts .second .ends)))
+-- the chunks of the first picture are a part of the file
+pub chunks-inside : (file : List ℕ) {p : Places} → firstPlaces file ≡ ok p → p .form .start + p .form .size ≤ length file
+chunks-inside file e = let k : Lies file _ = each-is e (places-lie file) in omega (arith, k .chunks, k .stops, k .ends)
 
 -- the length of the frame
 module _ (file : List ℕ) where
@@ -134,11 +108,9 @@ module _ (file : List ℕ) where
   unfolding firstSize
   size-nowhere e = rw e
 
-  pub size-header : {p : Places} (h : List ℕ) {q : Res Header} → firstPlaces file ≡ ok p
-      → h ≡ contentsOf (contentsOf file (ok (some (record { start = p .form .start; size = p .form .size })))) (ok (some (p .parts .first)))
-      → header h ≡ q → firstSize file ≡ (q >>= λ z. ok (z .length))
+  pub size-header : {p : Places} {h : List ℕ} {q : Res Header} → firstPlaces file ≡ ok p → h ≡ bmhdAt file p → header h ≡ q → firstSize file ≡ (q >>= λ z. ok (z .length))
   unfolding firstSize
-  size-header h {q} e i k = rw (e, sym (bmhd-is file e), sym i, k)
+  size-header e i k = rw e (rw (rw i at k))
 
 -- a first picture in whatever file, with its end place and the place after its FORM
 pub record OpensFirst (end start : ℕ) (q : Res First) (a b : List ℕ) (r : OpenedFile) (a′ b′ : List ℕ) : Type 0 where

@@ -3,14 +3,12 @@ ghost use mathlib.Core.Path.{_≡_};
 ghost use lib.ListN.{length};
 ghost use Rattle.opening.specs.declared.Opening.the-variants.{Refused};
 ghost use Rattle.opening.specs.Open.{placesIn, firstPlaces, firstSize, firstOf, zeros, sizeOf, MeetsOpen};
-ghost use Rattle.opening.specs.OpenLaws.{placesOf, partOf, OpensFirst};
+ghost use Rattle.opening.specs.OpenLaws.{placesOf, OpensFirst};
 use bmhd::Bmhd;
 use buffer::copy;
 use form::Form;
 use form::Outer;
 use iff::Both;
-use iff::Found;
-use iff::Part;
 use ilbm::Unpacked;
 use refusal::Refusal;
 use state::Sizes;
@@ -38,14 +36,13 @@ pub enum Size {
     Refused(Refusal),
 }
 
-// Where the first picture stands: the end of FORM ANIM, the place past its FORM, the chunks of that, and in them BMHD and BODY.
+// Where the first picture stands: the end of FORM ANIM, the place past its FORM, and the chunks of that, len bytes from start on.
 enum Places {
     At {
         end: usize,
         next: usize,
-        chunks: Part,
-        header: Part,
-        body: Part,
+        start: usize,
+        len: usize,
     },
     Nowhere(Refusal),
 }
@@ -83,12 +80,11 @@ fn places_in(anim: &[u8]) -> Places
             match p {
                 Both::Broken(why) => Places::Nowhere(why),
                 Both::Missing => Places::Nowhere(Refusal::NoPicture),
-                Both::At { first, second } => Places::At {
+                Both::There => Places::At {
                     end: anim.len(),
                     next,
-                    chunks: Part { start, len },
-                    header: first,
-                    body: second,
+                    start,
+                    len,
                 },
             }
         }
@@ -109,26 +105,6 @@ fn first_places(file: &[u8]) -> Places
     }
 }
 
-// The contents of a chunk of the first picture, as a part of the file.
-fn part_of(file: &[u8], chunks: Part, part: Part) -> &[u8]
-    ensures { λ r. ⌜ now r ≡ partOf (now (file .entry)) chunks part ⌝ }
-{
-    let form = iff::contents(
-        file,
-        Found::At {
-            start: chunks.start,
-            len: chunks.len,
-        },
-    );
-    iff::contents(
-        form,
-        Found::At {
-            start: part.start,
-            len: part.len,
-        },
-    )
-}
-
 // The length of the first picture's frame, or what refuses it up to and including its BMHD.
 pub fn frame_size(file: &[u8]) -> Size
     ensures { λ r. ⌜ sizeOf r ≡ firstSize (now (file .entry)) ⌝ }
@@ -139,11 +115,11 @@ pub fn frame_size(file: &[u8]) -> Size
         Places::At {
             end: _,
             next: _,
-            chunks,
-            header,
-            body: _,
+            start,
+            len,
         } => {
-            let h = bmhd::read_header(part_of(file, chunks, header));
+            let stop = start + len;
+            let h = bmhd::read_header(iff::contents(&file[start..stop], BMHD));
             match h {
                 Bmhd::Unread(why) => Size::Refused(why),
                 Bmhd::Picture(picture) => Size::Bytes(picture.length),
@@ -198,16 +174,19 @@ pub fn open(file: &[u8], a: &mut [u8], b: &mut [u8]) -> OpenedFile
         Places::At {
             end,
             next,
-            chunks,
-            header,
-            body,
-        } => open_picture(
-            part_of(file, chunks, header),
-            part_of(file, chunks, body),
-            next,
-            end,
-            a,
-            b,
-        ),
+            start,
+            len,
+        } => {
+            let stop = start + len;
+            let chunks = &file[start..stop];
+            open_picture(
+                iff::contents(chunks, BMHD),
+                iff::contents(chunks, BODY),
+                next,
+                end,
+                a,
+                b,
+            )
+        }
     }
 }

@@ -17,6 +17,7 @@ use Rattle.state.specs.State.{rowBytes}
 use Rattle.anhd.specs.declared.Items.{Items}
 use Rattle.delta.specs.Delta.{Op, shapeOf, draw, readFrame, newFrame, opCount, Applies}
 use Rattle.delta.specs.ApplyLaws.{frame-delta}
+use Rattle.anhd.specs.declared.FrameHeader.{FrameHeader}
 use Rattle.frame.specs.Frame.{Frame, frameAt}
 use Rattle.record.specs.Record.{recordBytes, Measure, measure, written, Commits}
 use Rattle.player.specs.declared.On.the-variants.{Taken, End, Refused}
@@ -106,6 +107,10 @@ module _ {z : Sizes} {i : Items} {d f w g : List ℕ} where
       go (ok ops) e h = rw h
       go (fault m) e h = let q : _≡_ {A = ℕ} 0 1 = cc in absurd (omega arith)
 
+-- a frame to be built: where its chunks stand makes no difference to what it comes to
+abbrev pub frameOf : ℕ → FrameHeader → List ℕ → Frame
+frameOf next header dlta = record { start = 0; size = 0; next = next; header = header; dlta = dlta }
+
 -- building frame x
 module _ (s : State) (x : Frame) (hidden work rec : List ℕ) (k : Fits s (length hidden) (length work)) where
   change-is : (shown : List ℕ) → change (s .sizes) x shown hidden ≡ newFrame (s .sizes) (x .header .items) (x .dlta) hidden (length work)
@@ -120,7 +125,7 @@ module _ (s : State) (x : Frame) (hidden work rec : List ℕ) (k : Fits s (lengt
       record { steps = λ shown. rw (change-is shown, e) (record { answer = refl; state = refl; picture = refl; drawn = p .leaves ∙ rw e; written = refl }) }
 
   pub builds-recorded : {c : ℕ} {f p rec′ : List ℕ} {r : SteppedOn} → Applies (s .sizes) (x .header .items) (x .dlta) hidden work (ok c) f
-      → Records (makes s (record { next = x .next; header = x .header; dlta = [] }) hidden f) s hidden rec r p rec′ → Builds (λ shown. make s shown hidden (some x)) s hidden work rec r p f rec′
+      → Records (makes s (frameOf (x .next) (x .header) []) hidden f) s hidden rec r p rec′ → Builds (λ shown. make s shown hidden (some x)) s hidden work rec r p f rec′
   unfolding makes
   builds-recorded h q = record { steps = λ shown. rw (change-is shown, applied-drawn h) (q .steps work) }
 
@@ -136,10 +141,10 @@ module _ (anim : List ℕ) (s : State) (hidden work rec : List ℕ) where
   unfolding advance settle
   advance-ended e = record { steps = λ shown. rw e (record { answer = refl; state = refl; picture = refl; drawn = refl; written = refl }) }
 
-  pub advance-built : {x : Frame} {r : SteppedOn} {p work′ rec′ : List ℕ} → frameAt anim (rowBytes (s .sizes .width)) (s .next) ≡ ok (some x)
-      → Builds (λ shown. make s shown hidden (some x)) s hidden work rec r p work′ rec′ → Builds (λ shown. advance anim s shown hidden) s hidden work rec r p work′ rec′
-  unfolding advance
-  advance-built e q = record { steps = λ shown. rw e (q .steps shown) }
+  pub advance-built : {x : Frame} {d : List ℕ} {r : SteppedOn} {p work′ rec′ : List ℕ} → frameAt anim (rowBytes (s .sizes .width)) (s .next) ≡ ok (some x) → d ≡ x .dlta
+      → Builds (λ shown. make s shown hidden (some (frameOf (x .next) (x .header) d))) s hidden work rec r p work′ rec′ → Builds (λ shown. advance anim s shown hidden) s hidden work rec r p work′ rec′
+  unfolding advance change makes
+  advance-built e i q = record { steps = λ shown. rw e (rw i at (q .steps shown)) }
 
 -- stepping on from a file
 module _ (file : List ℕ) (w : World) (work rec : List ℕ) where

@@ -5,11 +5,11 @@ ghost use mathlib.Core.Path.{_≡_};
 ghost use lib.ListN.{length};
 ghost use Rattle.player.specs.Step.{ready, makes, make, advance, MeetsOn};
 ghost use Rattle.player.specs.ReadyLaws.{readyOf, Fits};
-ghost use Rattle.player.specs.StepLaws.{Records, Builds};
+ghost use Rattle.player.specs.StepLaws.{frameOf, Records, Builds};
 use anhd::FrameHeader;
 use delta::Applied;
+use frame::DLTA;
 use frame::Next;
-use iff::Found;
 use record::Recorded;
 use refusal::Refusal;
 use state::Length;
@@ -77,7 +77,7 @@ fn record_frame(
     rec: &mut [u8],
 ) -> SteppedOn
     requires { ⌜ Fits state (length (now hidden)) (length (now work)) ⌝ }
-    ensures { λ r. ⌜ Records (makes state (record { next = next; header = header; dlta = [] }) (now (hidden .entry)) (now (work .entry))) state (now (hidden .entry)) (now (rec .entry)) r (now (hidden .exit)) (now (rec .exit)) ⌝ }
+    ensures { λ r. ⌜ Records (makes state (frameOf next header []) (now (hidden .entry)) (now (work .entry))) state (now (hidden .entry)) (now (rec .entry)) r (now (hidden .exit)) (now (rec .exit)) ⌝ }
 {
     let sizes = state.sizes;
     let frame = state.frame + 1;
@@ -115,7 +115,7 @@ fn build_frame(
     rec: &mut [u8],
 ) -> SteppedOn
     requires { ⌜ Fits state (length (now hidden)) (length (now work)) ⌝ }
-    ensures { λ r. ⌜ Builds (λ shown. make state shown (now (hidden .entry)) (some (record { next = next; header = header; dlta = now (dlta .entry) }))) state (now (hidden .entry)) (now (work .entry)) (now (rec .entry)) r (now (hidden .exit)) (now (work .exit)) (now (rec .exit)) ⌝ }
+    ensures { λ r. ⌜ Builds (λ shown. make state shown (now (hidden .entry)) (some (frameOf next header (now (dlta .entry))))) state (now (hidden .entry)) (now (work .entry)) (now (rec .entry)) r (now (hidden .exit)) (now (work .exit)) (now (rec .exit)) ⌝ }
 {
     let items = header.items;
     let d = delta::apply(work, hidden, dlta, state.sizes, items);
@@ -156,7 +156,8 @@ fn advance(
             start,
             len,
         } => {
-            let dlta = iff::contents(anim, Found::At { start, len });
+            let stop = start + len;
+            let dlta = iff::contents(&anim[start..stop], DLTA);
             build_frame(header, dlta, next, state, hidden, work, rec)
         }
     }

@@ -1,10 +1,8 @@
--- `frame::frame_in`: the two chunks of the FORM, then the header; the DLTA's contents as a part of FORM ANIM.
-use Rattle.frame.specs.FrameLaws.{in-broken, in-missing, in-place, in-unread, in-later}
--- `frame::frame_in`: the two chunks of the FORM, then the header; the DLTA's contents as a part of FORM ANIM.
+-- `frame::frame_in`: whether the two chunks of the FORM are there, then the header.
+use Rattle.frame.specs.FrameLaws.{in-broken, in-missing, in-unread, in-later}
 use Rattle.anhd.specs.Anhd.{anhdOf}
-use Rattle.iff.specs.Pair.{bothOf}
+use Rattle.iff.specs.Both.{bothOf}
 use Rattle.laws.specs.ResultLaws.{told}
-use native.Mathlib.Omega.{arith}
 use borrow.Author.Needs.{needs}
 use Rattle.frame.proofs.frame_in.Statement.{statement}
 use Rattle.frame.proofs.frame_in.Tie as tie
@@ -30,8 +28,8 @@ enum-known-b c = search needs
 enum-told : tie.Need-enum-told
 enum-told c = search needs
 
-enum-known-b-2 : tie.Need-enum-known-b-2
-enum-known-b-2 c = search needs
+enum-told-2 : tie.Need-enum-told-2
+enum-told-2 c = search needs
 
 contents-requires : tie.Need-contents-requires
 contents-requires c κs = search needs
@@ -45,9 +43,6 @@ enum-known-h c = search needs
 enum-known-h-2 : tie.Need-enum-known-h-2
 enum-known-h-2 c = search needs
 
-add-t23 : tie.Need-add-t23
-add-t23 c = let k = c .before .before .before .before .before .before .before .before .before .before .before .before .args in omega (arith, in-place (k .anim .now) (k .row) (k .start) (k .len) (k .next) (told bothOf (c .before .before .before .before .before .before .before .before .before .find-both .ensures) (c .before .before .before .before .before .before .before .b2 .given .1)) (c .before .before .before .before .before .before .before .before .before .before .before .before .pre))
-
 returns : tie.Need-returns
 returns c = let k = c .before .before .before .before .before .before .args in in-broken (k .anim .now) (k .row) (k .start) (k .len) (k .next) (told bothOf (c .before .before .before .find-both .ensures) (c .before .b .given .1))
 
@@ -55,10 +50,10 @@ returns-2 : tie.Need-returns-2
 returns-2 c = let k = c .before .before .before .before .before .args in in-missing (k .anim .now) (k .row) (k .start) (k .len) (k .next) (told bothOf (c .before .before .find-both .ensures) (c .enum-told .given .1))
 
 returns-3 : tie.Need-returns-3
-returns-3 c = let k = c .before .before .before .before .before .before .before .before .before .before .before .args in in-unread (k .anim .now) (k .row) (k .start) (k .len) (k .next) (told bothOf (c .before .before .before .before .before .before .before .before .find-both .ensures) (c .before .before .before .before .before .before .b2 .given .1)) (told anhdOf (rw (c .before .before .before .before .contents .ensures) at (c .before .before .before .read-header .ensures)) (c .before .h .given .1))
+returns-3 c = let k = c .before .before .before .before .before .before .before .before .before .before .args in in-unread (k .anim .now) (k .row) (k .start) (k .len) (k .next) (told bothOf (c .before .before .before .before .before .before .before .find-both .ensures) (c .before .before .before .before .before .enum-told2 .given .1)) (c .before .before .before .before .contents .ensures) (told anhdOf (c .before .before .before .read-header .ensures) (c .before .h .given .1))
 
 returns-4 : tie.Need-returns-4
-returns-4 c = let k = c .before .before .before .before .before .before .before .before .before .before .before .before .args in in-later (k .anim .now) (k .row) (k .start) (k .len) (k .next) (told bothOf (c .before .before .before .before .before .before .before .before .before .find-both .ensures) (c .before .before .before .before .before .before .before .b2 .given .1)) (c .before .before .before .before .before .before .before .before .before .before .before .before .pre) (told anhdOf (rw (c .before .before .before .before .before .contents .ensures) at (c .before .before .before .before .read-header .ensures)) (c .before .before .h2 .given .1))
+returns-4 c = let k = c .before .before .before .before .before .before .before .before .before .before .args in in-later (k .anim .now) (k .row) (k .start) (k .len) (k .next) (told bothOf (c .before .before .before .before .before .before .before .find-both .ensures) (c .before .before .before .before .before .enum-told2 .given .1)) (c .before .before .before .before .contents .ensures) (told anhdOf (c .before .before .before .read-header .ensures) (c .before .h2 .given .1))
 
 pub frame-in-spec : {M : Type 1} → statement M
 frame-in-spec =
@@ -71,12 +66,11 @@ frame-in-spec =
     find-both-requires
     enum-known-b
     enum-told
-    enum-known-b-2
+    enum-told-2
     contents-requires
     read-header-requires
     enum-known-h
     enum-known-h-2
-    add-t23
     returns
     returns-2
     returns-3

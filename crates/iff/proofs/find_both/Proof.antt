@@ -1,5 +1,5 @@
 -- `iff::find_both`: what each search comes to.
-use Rattle.iff.specs.Pair.{findBoth}
+use Rattle.iff.specs.Both.{hasBoth}
 use Rattle.iff.specs.Chunk.{foundOf}
 use Rattle.laws.specs.ResultLaws.{told}
 use borrow.Author.Needs.{needs}
@@ -15,8 +15,8 @@ enum-known-p c = search needs
 enum-told : tie.Need-enum-told
 enum-told c = search needs
 
-enum-known-p-2 : tie.Need-enum-known-p-2
-enum-known-p-2 c = search needs
+enum-told-2 : tie.Need-enum-told-2
+enum-told-2 c = search needs
 
 find-requires-2 : tie.Need-find-requires-2
 find-requires-2 c κs = search needs
@@ -24,31 +24,31 @@ find-requires-2 c κs = search needs
 enum-known-q : tie.Need-enum-known-q
 enum-known-q c = search needs
 
-enum-told-2 : tie.Need-enum-told-2
-enum-told-2 c = search needs
+enum-told-3 : tie.Need-enum-told-3
+enum-told-3 c = search needs
 
-enum-known-q-2 : tie.Need-enum-known-q-2
-enum-known-q-2 c = search needs
+enum-told-4 : tie.Need-enum-told-4
+enum-told-4 c = search needs
 
 returns : tie.Need-returns
-unfolding findBoth
+unfolding hasBoth
 returns c = simp (told foundOf (c .before .before .before .find .ensures) (c .before .p .given .1))
 
 returns-2 : tie.Need-returns-2
-unfolding findBoth
+unfolding hasBoth
 returns-2 c = simp (told foundOf (c .before .before .find .ensures) (c .enum-told .given .1))
 
 returns-3 : tie.Need-returns-3
-unfolding findBoth
-returns-3 c = simp (told foundOf (c .before .before .before .before .before .before .before .find .ensures) (c .before .before .before .before .before .p2 .given .1), told foundOf (c .before .before .before .find2 .ensures) (c .before .q .given .1))
+unfolding hasBoth
+returns-3 c = simp (told foundOf (c .before .before .before .before .before .before .find .ensures) (c .before .before .before .before .enum-told2 .given .1), told foundOf (c .before .before .before .find2 .ensures) (c .before .q .given .1))
 
 returns-4 : tie.Need-returns-4
-unfolding findBoth
-returns-4 c = simp (told foundOf (c .before .before .before .before .before .before .find .ensures) (c .before .before .before .before .p2 .given .1), told foundOf (c .before .before .find2 .ensures) (c .enum-told2 .given .1))
+unfolding hasBoth
+returns-4 c = simp (told foundOf (c .before .before .before .before .before .find .ensures) (c .before .before .before .enum-told2 .given .1), told foundOf (c .before .before .find2 .ensures) (c .enum-told3 .given .1))
 
 returns-5 : tie.Need-returns-5
-unfolding findBoth
-returns-5 c = simp (told foundOf (c .before .before .before .before .before .before .before .find .ensures) (c .before .before .before .before .before .p2 .given .1), told foundOf (c .before .before .before .find2 .ensures) (c .before .q2 .given .1))
+unfolding hasBoth
+returns-5 c = simp (told foundOf (c .before .before .before .before .before .find .ensures) (c .before .before .before .enum-told2 .given .1), told foundOf (c .before .before .find2 .ensures) (c .enum-told4 .given .1))
 
 pub find-both-spec : {M : Type 1} → statement M
 find-both-spec =
@@ -57,11 +57,11 @@ find-both-spec =
     find-requires
     enum-known-p
     enum-told
-    enum-known-p-2
+    enum-told-2
     find-requires-2
     enum-known-q
-    enum-told-2
-    enum-known-q-2
+    enum-told-3
+    enum-told-4
     returns
     returns-2
     returns-3

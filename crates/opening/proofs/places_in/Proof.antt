@@ -1,8 +1,8 @@
--- `opening::places_in`: the walk to the first FORM ILBM, then to its two chunks.
+-- `opening::places_in`: the walk to the first FORM ILBM, then whether its two chunks are there.
 use native.Mathlib.Omega.{arith}
 use mathlib.Core.Path.{sym}
 use Rattle.laws.specs.ResultLaws.{told, each-some}
-use Rattle.iff.specs.Pair.{bothOf}
+use Rattle.iff.specs.Both.{bothOf}
 use Rattle.form.specs.Form.{formOf}
 use Rattle.form.specs.FormLaws.{Follows, frame-follows}
 use Rattle.opening.specs.OpenLaws.{anim-broken, anim-empty, form-broken, form-missing, form-whole}
@@ -43,8 +43,8 @@ enum-known-p c = search needs
 enum-told-2 : tie.Need-enum-told-2
 enum-told-2 c = search needs
 
-enum-known-p-2 : tie.Need-enum-known-p-2
-enum-known-p-2 c = search needs
+enum-told-3 : tie.Need-enum-told-3
+enum-told-3 c = search needs
 
 returns : tie.Need-returns
 returns c = sym (anim-broken _ (told formOf (c .before .before .before .next-form .ensures) (c .before .f .given .1)))
@@ -59,7 +59,7 @@ returns-4 : tie.Need-returns-4
 returns-4 c = sym (form-missing _ _ _ _ (told formOf (c .before .before .before .before .before .before .before .next-form .ensures) (c .before .before .before .before .before .f2 .given .1)) (told bothOf (c .before .before .find-both .ensures) (c .enum-told2 .given .1)))
 
 returns-5 : tie.Need-returns-5
-returns-5 c = sym (form-whole _ _ _ _ (told formOf (c .before .before .before .before .before .before .before .before .next-form .ensures) (c .before .before .before .before .before .before .f2 .given .1)) (told bothOf (c .before .before .before .find-both .ensures) (c .before .p2 .given .1)))
+returns-5 c = sym (form-whole _ _ _ _ (told formOf (c .before .before .before .before .before .before .before .next-form .ensures) (c .before .before .before .before .before .f2 .given .1)) (told bothOf (c .before .before .find-both .ensures) (c .enum-told3 .given .1)))
 
 pub places-in-spec : {M : Type 1} → statement M
 places-in-spec =
@@ -76,7 +76,7 @@ places-in-spec =
     find-both-requires
     enum-known-p
     enum-told-2
-    enum-known-p-2
+    enum-told-3
     returns
     returns-2
     returns-3

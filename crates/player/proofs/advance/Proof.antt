@@ -1,6 +1,10 @@
--- `player::advance`: the next frame, if there is one, is built.
+-- `player::advance`: the next frame, if there is one, is built; its DLTA stands in its chunks.
+use native.Mathlib.Nat.{add-sub-cancel-left}
+use native.Mathlib.Omega.{arith}
+use mathlib.Core.Path.{_∙_}
 use Rattle.player.specs.StepLaws.{advance-refused, advance-ended, advance-built}
 use Rattle.frame.specs.Frame.{nextOf}
+use Rattle.frame.specs.FrameLaws.{Rises, frame-rises}
 use Rattle.laws.specs.ResultLaws.{told}
 use borrow.Author.Needs.{needs}
 use Rattle.player.proofs.advance.Statement.{statement}
@@ -20,6 +24,18 @@ enum-told c = search needs
 
 enum-known-f-2 : tie.Need-enum-known-f-2
 enum-known-f-2 c = search needs
+
+add-stop : tie.Need-add-stop
+add-stop c = let k = c .before .before .before .before .before .before .before .before .before .before .args in let l : Rises _ _ _ = frame-rises _ _ _ _ (told (nextOf (k .anim .now)) (rw (c .before .before .before .before .row-bytes .ensures) at (c .before .before .before .frame-at .ensures)) (c .before .f2 .given .1)) in omega (arith, l .holds)
+
+sub-contents : tie.Need-sub-contents
+sub-contents c = search needs
+
+part-contents-start : tie.Need-part-contents-start
+part-contents-start c = search needs
+
+part-contents-end : tie.Need-part-contents-end
+part-contents-end c = let k = c .before .before .before .before .before .before .before .before .before .before .args in let l : Rises _ _ _ = frame-rises _ _ _ _ (told (nextOf (k .anim .now)) (rw (c .before .before .before .before .row-bytes .ensures) at (c .before .before .before .frame-at .ensures)) (c .before .f2 .given .1)) in omega (arith, l .holds)
 
 contents-requires : tie.Need-contents-requires
 contents-requires c κs = search needs
@@ -43,7 +59,7 @@ same-length-3 : tie.Need-same-length-3
 same-length-3 c = search needs
 
 returns-3 : tie.Need-returns-3
-returns-3 c = let k = c .before .before .before .before .before .before .before .before .before .before .before .before .before .before .before .before .before .before .before .before .before .args in advance-built (k .anim .now) (k .state) (k .hidden .now) (k .work .now) (k .rec .now) (told (nextOf (k .anim .now)) (rw (c .before .before .before .before .before .before .before .before .before .before .before .before .before .before .before .row-bytes .ensures) at (c .before .before .before .before .before .before .before .before .before .before .before .before .before .before .frame-at .ensures)) (c .before .before .before .before .before .before .before .before .before .before .before .before .f2 .given .1)) (rw (c .before .before .before .before .before .before .before .before .before .before .contents .ensures) at (c .before .before .before .before .before .before .build-frame .ensures))
+returns-3 c = let k = c .before .before .before .before .before .before .before .before .before .before .before .before .before .before .before .before .before .before .before .before .before .before .args in advance-built (k .anim .now) (k .state) (k .hidden .now) (k .work .now) (k .rec .now) (told (nextOf (k .anim .now)) (rw (c .before .before .before .before .before .before .before .before .before .before .before .before .before .before .before .before .row-bytes .ensures) at (c .before .before .before .before .before .before .before .before .before .before .before .before .before .before .before .frame-at .ensures)) (c .before .before .before .before .before .before .before .before .before .before .before .before .before .f2 .given .1)) (c .before .before .before .before .before .before .before .before .before .before .contents .ensures ∙ rw (add-sub-cancel-left _ _)) (c .before .before .before .before .before .before .build-frame .ensures)
 
 pub advance-spec : {M : Type 1} → statement M
 advance-spec =
@@ -54,6 +70,10 @@ advance-spec =
     enum-known-f
     enum-told
     enum-known-f-2
+    add-stop
+    sub-contents
+    part-contents-start
+    part-contents-end
     contents-requires
     build-frame-requires
     returns

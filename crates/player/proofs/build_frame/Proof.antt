@@ -1,5 +1,5 @@
 -- `player::build_frame`: the delta is applied into the work buffer, and what it made is recorded.
-use Rattle.player.specs.StepLaws.{builds-refused, builds-recorded}
+use Rattle.player.specs.StepLaws.{frameOf, builds-refused, builds-recorded}
 use borrow.Author.Needs.{needs}
 use Rattle.player.proofs.build_frame.Statement.{statement}
 use Rattle.player.proofs.build_frame.Tie as tie
@@ -23,7 +23,7 @@ same-length-2 : tie.Need-same-length-2
 same-length-2 c = search needs
 
 returns : tie.Need-returns
-returns c = let k = c .before .before .before .before .before .before .before .before .before .before .before .before .args in builds-refused (k .state) (record { next = k .next; header = k .header; dlta = k .dlta .now }) (k .hidden .now) (k .work .now) (k .rec .now) (c .before .before .before .before .before .before .before .before .before .before .before .before .pre) (rw (c .before .d .given .1) at (c .before .before .before .before .before .apply .ensures))
+returns c = let k = c .before .before .before .before .before .before .before .before .before .before .before .before .args in builds-refused (k .state) (frameOf (k .next) (k .header) (k .dlta .now)) (k .hidden .now) (k .work .now) (k .rec .now) (c .before .before .before .before .before .before .before .before .before .before .before .before .pre) (rw (c .before .d .given .1) at (c .before .before .before .before .before .apply .ensures))
 
 same-length-3 : tie.Need-same-length-3
 same-length-3 c = search needs
@@ -35,7 +35,7 @@ same-length-5 : tie.Need-same-length-5
 same-length-5 c = search needs
 
 returns-2 : tie.Need-returns-2
-returns-2 c = let k = c .before .before .before .before .before .before .before .before .before .before .before .before .before .before .before .before .before .before .before .args in builds-recorded (k .state) (record { next = k .next; header = k .header; dlta = k .dlta .now }) (k .hidden .now) (k .work .now) (k .rec .now) (c .before .before .before .before .before .before .before .before .before .before .before .before .before .before .before .before .before .before .before .pre) (rw (c .before .before .before .before .before .before .before .before .enum-told .given .1) at (c .before .before .before .before .before .before .before .before .before .before .before .before .apply .ensures)) (c .before .before .before .before .record-frame .ensures)
+returns-2 c = let k = c .before .before .before .before .before .before .before .before .before .before .before .before .before .before .before .before .before .before .before .args in builds-recorded (k .state) (frameOf (k .next) (k .header) (k .dlta .now)) (k .hidden .now) (k .work .now) (k .rec .now) (c .before .before .before .before .before .before .before .before .before .before .before .before .before .before .before .before .before .before .before .pre) (rw (c .before .before .before .before .before .before .before .before .enum-told .given .1) at (c .before .before .before .before .before .before .before .before .before .before .before .before .apply .ensures)) (c .before .before .before .before .record-frame .ensures)
 
 pub build-frame-spec : {M : Type 1} → statement M
 build-frame-spec =

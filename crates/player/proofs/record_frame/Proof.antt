@@ -1,7 +1,7 @@
 -- `player::record_frame`: the record is written if it fits, and then the frame is in the hidden buffer.
 use native.Mathlib.Numerals.{add-one}
 use mathlib.Core.List.{[]}
-use Rattle.player.specs.StepLaws.{records-unfit, records-fit}
+use Rattle.player.specs.StepLaws.{frameOf, records-unfit, records-fit}
 use borrow.Author.Needs.{needs}
 use Rattle.player.proofs.record_frame.Statement.{statement}
 use Rattle.player.proofs.record_frame.Tie as tie
@@ -33,7 +33,7 @@ same-length-2 c = search needs
 returns : tie.Need-returns
 returns c =
     let b = c .before .before .before .before .before .before .before .before .before .before .before .before .before .before .before .before in
-    records-unfit (b .args .state) (record { next = b .args .next; header = b .args .header; dlta = [] }) (b .args .hidden .now) (b .args .work .now) (b .args .rec .now) (b .pre) (add-one _) (rw (c .before .w .given .1) at (c .before .before .before .before .before .before .before .commit .ensures))
+    records-unfit (b .args .state) (frameOf (b .args .next) (b .args .header) []) (b .args .hidden .now) (b .args .work .now) (b .args .rec .now) (b .pre) (add-one _) (rw (c .before .w .given .1) at (c .before .before .before .before .before .before .before .commit .ensures))
 
 same-length-3 : tie.Need-same-length-3
 same-length-3 c = search needs
@@ -44,7 +44,7 @@ same-length-4 c = search needs
 returns-2 : tie.Need-returns-2
 returns-2 c =
     let b = c .before .before .before .before .before .before .before .before .before .before .before .before .before .before .before .before in
-    records-fit (b .args .state) (record { next = b .args .next; header = b .args .header; dlta = [] }) (b .args .hidden .now) (b .args .work .now) (b .args .rec .now) (b .pre) (add-one _) (rw (c .before .w2 .given .1) at (c .before .before .before .before .before .before .before .commit .ensures))
+    records-fit (b .args .state) (frameOf (b .args .next) (b .args .header) []) (b .args .hidden .now) (b .args .work .now) (b .args .rec .now) (b .pre) (add-one _) (rw (c .before .w2 .given .1) at (c .before .before .before .before .before .before .before .commit .ensures))
 
 pub record-frame-spec : {M : Type 1} → statement M
 record-frame-spec =
