@@ -1,5 +1,6 @@
--- The C interface: what each exported function answers, and what it leaves in the buffers. A state crosses as 48 bytes, a report as
--- 32 and a length as 8 (numbers of eight bytes); a slice for one of them of another length is 11, before everything.
+-- The C interface (document 01, "Opening, stepping on, stepping back"): the contract of each exported function, which is what it
+-- answers and what it leaves in the buffers. A state is passed as 48 bytes, a report as 32 and a length as 8 (numbers of eight
+-- bytes); a slice for one of them of another length is 11, before everything.
 use Prim.Native.Nat.{ℕ}
 use mathlib.Core.Bool.{Bool, _&&_}
 use mathlib.Core.List.{List, [], _∷_, _++_}
@@ -36,6 +37,7 @@ pub record LeavesOpenC (q : Res Film) (s : State) (a b state : List ℕ) (r : �
   pub right : b′ ≡ pictureAfter b q
   pub stateOut : state′ ≡ lay (stateWords s) state
 
+-- the contract of `anim_open`
 abbrev pub OpensC : (file a b state : List ℕ) (r : ℕ) (a′ b′ state′ : List ℕ) → Type 0
 OpensC file a b state r a′ b′ state′ =
     LeavesOpenC (sized (eqb (length state) 48) (opening file (length a) (length b))) (stateAfter (opening file (length a) (length b))) a b state r a′ b′ state′
@@ -64,6 +66,7 @@ reportLeft tookBack out = out
 abbrev pub sizedStep : Bool → World → After → After
 sizedStep t w o = pick t o (record { answer = refused 11; world = w; bytes = []; work = none })
 
+-- both pictures, and the state in its slice
 abbrev pub worldIn : List ℕ → List ℕ → List ℕ → World
 worldIn state a b = record { a = a; b = b; state = stateIn state }
 
@@ -73,7 +76,7 @@ pub record HandsOn (o : SteppedOn) (state report : List ℕ) (r : ℕ) (state′
   pub stateOut : state′ ≡ stateLeft (onOf (o .answer)) (o .state) state
   pub reportOut : report′ ≡ reportLeft (onOf (o .answer)) report
 
--- stepping on
+-- stepping on that comes to o
 pub record LeavesOnC (o : After) (work rec state report : List ℕ) (r : ℕ) (a′ b′ work′ rec′ state′ report′ : List ℕ) : Type 0 where
   pub answer : r ≡ answerNumber (o .answer)
   pub left : a′ ≡ o .world .a
@@ -83,45 +86,51 @@ pub record LeavesOnC (o : After) (work rec state report : List ℕ) (r : ℕ) (a
   pub stateOut : state′ ≡ stateLeft (o .answer) (o .world .state) state
   pub reportOut : report′ ≡ reportLeft (o .answer) report
 
+-- the contract of `anim_step_on`
 abbrev pub StepsOnC : (file a b work rec state report : List ℕ) (r : ℕ) (a′ b′ work′ rec′ state′ report′ : List ℕ) → Type 0
 StepsOnC file a b work rec state report r a′ b′ work′ rec′ state′ report′ =
     LeavesOnC (sizedStep (eqb (length state) 48 && eqb (length report) 32) (worldIn state a b) (stepOn file (worldIn state a b) (length work) (length rec))) work rec state report r a′ b′ work′ rec′ state′ report′
 
--- stepping back
+-- stepping back that comes to o
 pub record LeavesBackC (o : After) (state : List ℕ) (r : ℕ) (a′ b′ state′ : List ℕ) : Type 0 where
   pub answer : r ≡ answerNumber (o .answer)
   pub left : a′ ≡ o .world .a
   pub right : b′ ≡ o .world .b
   pub stateOut : state′ ≡ stateLeft (o .answer) (o .world .state) state
 
+-- the contract of `anim_step_back`
 abbrev pub StepsBackC : (bytes a b state : List ℕ) (r : ℕ) (a′ b′ state′ : List ℕ) → Type 0
 StepsBackC bytes a b state r a′ b′ state′ = LeavesBackC (sizedStep (eqb (length state) 48) (worldIn state a b) (stepBack (worldIn state a b) bytes)) state r a′ b′ state′
 
--- a row's place, 0 if it is refused, and the refusal's number
+-- a row's place, or its refusal
 abbrev pub rowC : List ℕ → ℕ → ℕ → ℕ → ℕ → Res ℕ
 rowC state a b plane row = sized (eqb (length state) 48) (rowPlace (stateIn state) a b plane row)
 
+-- the place, 0 if the row is refused
 abbrev pub placeOr : Res ℕ → ℕ
 placeOr (ok at) = at
 placeOr (fault n) = 0
 
--- writing a delta that comes to q
+-- the slice for a length: the length is written into it where there is one
 abbrev pub lengthLeft : List ℕ → Res ℕ → List ℕ
 lengthLeft out (ok n) = lay (n ∷ []) out
 lengthLeft out (fault n) = out
 
+-- writing a delta that comes to q
 pub record LeavesDeltaC (q : Res ℕ) (bytes out len : List ℕ) (r : ℕ) (out′ len′ : List ℕ) : Type 0 where
   pub answer : r ≡ numberOr q
   pub deltaOut : out′ ≡ bufferAfter bytes out q
   pub lengthOut : len′ ≡ lengthLeft len q
 
+-- the contract of `anim_write_delta`
 abbrev pub WritesC : (z : Sizes) (old new out len : List ℕ) (r : ℕ) (out′ len′ : List ℕ) → Type 0
 WritesC z old new out len r out′ len′ = LeavesDeltaC (sized (eqb (length len) 8) (written z old new (length out))) (deltaBytes z old new) out len r out′ len′
 
--- asking for the length of a frame
+-- asking for the length of a frame that comes to q
 pub record LeavesSizeC (q : Res ℕ) (len : List ℕ) (r : ℕ) (len′ : List ℕ) : Type 0 where
   pub answer : r ≡ numberOr q
   pub lengthOut : len′ ≡ lengthLeft len q
 
+-- the contract of `anim_frame_size`
 abbrev pub SizesC : (file len : List ℕ) (r : ℕ) (len′ : List ℕ) → Type 0
 SizesC file len r len′ = LeavesSizeC (sized (eqb (length len) 8) (firstSize file)) len r len′

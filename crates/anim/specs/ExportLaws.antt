@@ -1,4 +1,4 @@
--- Laws of the exported functions: each answers and leaves what the function that it covers does.
+-- Laws of the exported functions: each answers and leaves what the function that it calls does.
 use Prim.Native.Nat.{ℕ}
 use mathlib.Core.Bool.{Bool, true, false, _&&_}
 use mathlib.Core.List.{List}

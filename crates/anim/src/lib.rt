@@ -1,4 +1,4 @@
-// The C interface: each function is a thin cover of the library's, on numbers and byte slices.
+// The C interface: each function calls one of the library's, on numbers and byte slices.
 ghost use mathlib.Core.Path.{_≡_};
 ghost use mathlib.Core.Bool.{_&&_};
 ghost use lib.Dec.{eqb};
@@ -15,7 +15,7 @@ use shown::Place;
 use state::Sizes;
 use writer::Delta;
 
-// The number of a slice of a wrong length.
+// The refusal number for a slice of a wrong length.
 fn wrong_length() -> u64
     ensures { λ r. ⌜ r ≡ 11 ⌝ }
 {

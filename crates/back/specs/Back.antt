@@ -16,7 +16,7 @@ use Rattle.back.specs.declared.Back.{Back}
 use Rattle.back.specs.declared.Back.the-variants.{Taken, Refused}
 use Rattle.back.specs.declared.SteppedBack.{SteppedBack}
 
--- stepping back: 11, 12, 61, 62
+-- what the record restores, or the first refusal: 11, 12, 61, 62
 unfoldable pub retreat : World → List ℕ → Res Past
 retreat w bytes =
     stateLength (w .state) >>= λ n.
@@ -24,6 +24,8 @@ retreat w bytes =
     need (eqb (length (w .b)) n) 12 >>= λ _.
     restored bytes (shownOf w) (w .state .frame) (w .state .next)
 
+-- what a step back comes to: all stays if it is refused; otherwise the frame number less one, the recorded place, and the
+-- picture that the record restores
 unfoldable pub settleBack : State → List ℕ → Res Past → Outcome
 settleBack s shown (fault n) = stays s shown (refused n)
 settleBack s shown (ok p) = record { answer = tookBack; state = record { sizes = s .sizes; frame = s .frame - 1; next = p .place; end = s .end }; picture = p .picture; bytes = []; work = none }
@@ -32,6 +34,7 @@ settleBack s shown (ok p) = record { answer = tookBack; state = record { sizes =
 unfoldable pub onShown : World → Outcome → After
 onShown w o = pick (isOdd (w .state .frame)) (inA w o) (inB w o)
 
+-- stepping back with a record: its answer, and both pictures and the state after it
 unfoldable pub stepBack : World → List ℕ → After
 stepBack w bytes = onShown w (settleBack (w .state) (shownOf w) (retreat w bytes))
 

@@ -15,6 +15,7 @@ use Rattle.bmhd.specs.declared.Header.{Header}
 use Rattle.bmhd.specs.declared.Bmhd.{Bmhd}
 use Rattle.bmhd.specs.declared.Bmhd.the-variants.{Picture, Unread}
 
+-- the sizes that a BMHD gives, within the limits or not
 abbrev pub sizesAt : List ℕ → Sizes
 sizesAt s = record { width = be16 s 0; height = be16 s 2; planes = getD s 8 0 }
 

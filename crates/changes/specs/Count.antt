@@ -1,4 +1,5 @@
--- How many runs of changed bytes there are between two buffers, and how many bytes changed.
+-- The contract of `changes::count`: how many runs of changed bytes there are between two buffers, and how many bytes changed
+-- (document 01, "Opening, stepping on, stepping back" and "Bench examples").
 use Prim.Native.Nat.{ℕ, _+_, _≤_}
 use mathlib.Core.List.{List}
 use mathlib.Core.Path.{_≡_}

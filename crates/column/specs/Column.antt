@@ -10,6 +10,7 @@ use lib.Dec.{leb, eqb}
 use lib.ListN.{length, take, drop, replicate}
 use Rattle.runs.specs.Runs.{Run, runsOf}
 
+-- an op: a Skip over so many rows, a Uniq with a value for each row, or a Same over so many rows with one value
 pub data Op : Type 0 where
   skip : ℕ → Op
   uniq : List ℕ → Op
@@ -30,7 +31,7 @@ unfoldable pub groupsOf : List ℕ → List Group
 groupsOf [] = []
 groupsOf (v ∷ vs) = join v (groupsOf vs)
 
--- rows that lie between, in front of what follows
+-- rows that become a Uniq, with the ops that come after them; they are joined to a Uniq that comes first
 unfoldable pub loose : List ℕ → List Op → List Op
 loose vs [] = uniq vs ∷ []
 loose vs (skip n ∷ os) = uniq vs ∷ skip n ∷ os
@@ -53,11 +54,13 @@ uniqs zero vs = []
 uniqs (suc k) [] = []
 uniqs (suc k) (v ∷ vs) = uniq (take 127 (v ∷ vs)) ∷ uniqs k (drop 127 (v ∷ vs))
 
+-- an op over any number of rows, as ops of 127 or 255 rows and the rest
 unfoldable pub cut : Op → List Op
 cut (skip n) = replicate (n / 127) (skip 127) ++ restOf (n % 127) (skip (n % 127))
 cut (uniq vs) = uniqs (length vs) vs
 cut (same n v) = replicate (n / 255) (same 255 v) ++ restOf (n % 255) (same (n % 255) v)
 
+-- the same for several ops
 unfoldable pub cutAll : List Op → List Op
 cutAll [] = []
 cutAll (o ∷ os) = cut o ++ cutAll os
@@ -67,9 +70,11 @@ unfoldable pub opsOf : List Run → List Op
 opsOf [] = []
 opsOf (r ∷ rs) = cutAll (skip (r .gap) ∷ stretch (groupsOf (r .old))) ++ opsOf rs
 
+-- the ops that turn the old rows of a column into the new ones, or Uniqs over all rows if those are more than 255
 unfoldable pub columnOps : List ℕ → List ℕ → List Op
 columnOps old new = elim (leb (length (opsOf (runsOf new old))) 255) [ true ↦ opsOf (runsOf new old) | false ↦ uniqs (length new) new ]
 
+-- the bytes of an op, and of several
 unfoldable pub opBytes : Op → List ℕ
 opBytes (skip n) = n ∷ []
 opBytes (uniq vs) = (128 + length vs) ∷ vs

@@ -58,7 +58,7 @@ pub stretch-none : stretch (groupsOf []) ≡ []
 unfolding stretch groupsOf
 stretch-none = refl
 
--- rows that lie between, in two parts
+-- rows that become a Uniq, in two parts
 pub loose-join : (vs ws : List ℕ) (os : List Op) → loose (vs ++ ws) os ≡ loose vs (loose ws os)
 unfolding loose
 loose-join vs ws [] = refl
@@ -74,7 +74,7 @@ pub loose-same : (vs : List ℕ) (c v : ℕ) (os : List Op) → loose vs (same c
 unfolding loose
 loose-same vs c v os = refl
 
--- the ops of runs: those of the stretch that begins at once, and those behind it
+-- the ops of runs: those of the stretch that begins at once, and those after it
 pub ops-none : opsOf [] ≡ []
 unfolding opsOf
 ops-none = refl

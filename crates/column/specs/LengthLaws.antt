@@ -25,7 +25,7 @@ size-first : (o : Op) (os : List Op) → size (o ∷ os) ≡ length (opsBytes (c
 unfolding size cutAll
 size-first o os = length-bytes-append (cut o) (cutAll os)
 
--- ops over n rows: those behind a Uniq in front have three bytes for two rows
+-- ops over n rows: those after a Uniq in front have three bytes for two rows
 Tight : ℕ → List Op → Type 0
 Tight n [] = Unit {0}
 Tight n (skip g ∷ os) = 2 * size (skip g ∷ os) ≤ 3 * n

@@ -5,7 +5,7 @@ ghost use lib.ListN.{length, getD};
 ghost use Rattle.column.specs.Column.{columnBytes};
 ghost use Rattle.column.specs.Piece.{Unchanged, GroupRows, LooseRows, NextPiece, opsIn, bytesIn};
 
-// What becomes of rows of a column: unchanged rows behind the last changed one write nothing.
+// The ops that rows of a column become. Rest is the unchanged rows after the last changed one, which write nothing.
 pub(crate) enum Kind {
     Rest,
     Skip,
@@ -40,7 +40,7 @@ fn first_changed(old: &[u8], new: &[u8], from: usize) -> usize
     i
 }
 
-// The first row behind a changed row that is unchanged or has another new value, or the end.
+// The end of the group that begins at a changed row: the changed rows from there on with its new value.
 fn group_end(old: &[u8], new: &[u8], from: usize) -> usize
     requires { ⌜ (length (now old) ≡ length (now new)) × (from < length (now new)) × (getD (now new) from 0 ≡ getD (now old) from 0 → ⊥) ⌝ }
     ensures { λ r. ⌜ GroupRows (now (old .entry)) (now (new .entry)) from r ⌝ }
@@ -59,7 +59,7 @@ fn group_end(old: &[u8], new: &[u8], from: usize) -> usize
     i
 }
 
-// The end of the rows that become Uniqs, of which the first group is given: a group of at least four, or the stretch's end.
+// The end of the rows that become Uniqs, where a group of at least four rows begins or the stretch ends. Their first group ends at first.
 fn loose_end(old: &[u8], new: &[u8], from: usize, first: usize) -> usize
     requires { ⌜ (length (now old) ≡ length (now new)) × GroupRows (now old) (now new) from first × (first - from < 4) ⌝ }
     ensures { λ r. ⌜ LooseRows (now (old .entry)) (now (new .entry)) from r ⌝ }

@@ -53,6 +53,7 @@ pub record Reading : Type 0 where
   pub line : ℕ
   pub ops : List Op
 
+-- the byte at a place, or 42 past the end
 unfoldable pub byteAt : List ℕ → ℕ → Res ℕ
 byteAt d p = need (ltb p (length d)) 42 >>= λ _. ok (getD d p 0)
 
@@ -84,14 +85,17 @@ pub data Kind : Type 0 where
 abbrev pub kindOf : ℕ → Kind
 kindOf b = pick (eqb b 0) same (pick (leb b 127) (skips b) (uniq (b - 128)))
 
+-- the op of a kind, in the column that starts at base
 abbrev pub opAs : Shape → List ℕ → ℕ → Reading → Kind → Res Reading
 opAs S d base c same = byteAt d (c .opAt + 1) >>= λ n. fill S d base c (c .opAt + 2) n (S .item) 0
 opAs S d base c (skips n) = skip S c n
 opAs S d base c (uniq n) = fill S d base c (c .opAt + 1) n (n * S .item) (S .item)
 
+-- the next op in the list, in the column that starts at base
 unfoldable pub readOp : Shape → List ℕ → ℕ → Reading → Res Reading
 readOp S d base c = byteAt d (c .opAt) >>= λ b. opAs S d base c (kindOf b)
 
+-- the next k ops
 unfoldable pub readOps : Shape → List ℕ → ℕ → ℕ → Reading → Res Reading
 readOps S d base zero c = ok c
 readOps S d base (suc k) c = readOp S d base c >>= λ c′. readOps S d base k c′

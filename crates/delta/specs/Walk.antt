@@ -18,6 +18,7 @@ use Rattle.delta.specs.declared.Taken.the-variants.{Rows, Passed, Faulty
 use Rattle.delta.specs.declared.Pointer.{Pointer}
 use Rattle.delta.specs.declared.Pointer.the-variants.{At, Bad}
 
+-- what an answer says in the paper's terms
 abbrev pub pointerOf : Pointer → Res ℕ
 pointerOf (At n) = ok n
 pointerOf Bad = fault 41

@@ -23,6 +23,7 @@ pub data Kind : Type 0 where
 abbrev pub kindOf : ℕ → Kind
 kindOf n = pick (leb n 127) (copies (n + 1)) (pick (eqb n 128) nothing (repeats (257 - n)))
 
+-- the packet of a kind at a place, with room bytes left of its row
 abbrev pub packetAs : List ℕ → ℕ → ℕ → Kind → Res Row
 packetAs s at room (copies n) =
     need (leb n room) 25 >>= λ _.
@@ -38,6 +39,7 @@ packetAs s at room (repeats n) =
 unfoldable pub packetAt : List ℕ → ℕ → ℕ → Res Row
 packetAt s at room = need (ltb at (length s)) 25 >>= λ _. packetAs s at room (kindOf (getD s at 0))
 
+-- a row with one packet more, or the packet's refusal
 abbrev pub withPacket : Row → Res Row → Step Row (Res Row)
 withPacket w (ok p) = next (record { bytes = w .bytes ++ p .bytes; next = p .next })
 withPacket w (fault n) = done (fault n)

@@ -15,6 +15,7 @@ use Rattle.ilbm.specs.declared.Packet.the-variants.{Copy, Repeat, Nothin
 use Rattle.ilbm.specs.declared.Took.{Took}
 use Rattle.ilbm.specs.declared.Took.the-variants.{Bytes, Faulty as NoBytes}
 
+-- what an answer says of a packet, in the definition's terms
 abbrev pub packetOf : List ℕ → Packet → Res Row
 packetOf s (Copy from count nx) = ok (record { bytes = take count (drop from s); next = nx })
 packetOf s (Repeat value count nx) = ok (record { bytes = replicate count value; next = nx })

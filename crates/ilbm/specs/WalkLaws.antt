@@ -39,7 +39,7 @@ pub puts-empty : {r : Res Row} {b : Row} (drawing : Bool) (f : List ℕ) (place 
 puts-empty true f place e l = rw (e, l)
 puts-empty false f place e l = rw e
 
--- what is known of the bytes behind an answer
+-- the row that an answer counts
 pub record Behind (r : Res Row) (count nx : ℕ) : Type 0 where
   pub row : Row
   pub is : r ≡ ok row

@@ -196,7 +196,7 @@ fn take_row(
     }
 }
 
-// Walks k rows of BODY; they are all there if the answer is true.
+// Whether count rows of BODY are all there. The frame stays as it is.
 fn check_rows(frame: &mut [u8], s: &[u8], row: usize, count: usize, packed: bool) -> bool
     requires { ⌜ (row ≤ length (now frame)) × (count * row ≤ 1048576) ⌝ }
     ensures { λ r. ⌜ (checkOf r ≡ answer (rowsFrom packed (now (s .entry)) row count 0)) × (now (frame .exit) ≡ now (frame .entry)) ⌝ }

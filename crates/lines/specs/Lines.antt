@@ -1,11 +1,13 @@
--- The lines of a listing (document 01, "Bench examples"), as their bytes.
-use Prim.Native.Nat.{ℕ, zero, suc, _+_, _/_, _%_}
+-- The lines of a listing (document 01, "Bench examples"), as their bytes, and how they are added to a text.
+use Prim.Native.Nat.{ℕ, zero, suc, _+_, _/_, _%_, _≤_, min}
 use Prim.Native.Char.{code}
 use Prim.Native.String.{String, [] as none, _∷_ as _then_}
 use mathlib.Core.Bool.{true, false}
 use mathlib.Core.List.{List, [], _∷_, _++_}
 use mathlib.Core.Path.{_≡_, refl}
 use lib.Dec.{ltb}
+use lib.ListN.{length, take, drop}
+use Rattle.laws.specs.Store.{over}
 use Rattle.state.specs.declared.Sizes.{Sizes}
 use Rattle.state.specs.Outcome.{Report}
 use Rattle.refusal.specs.Number.{numberOf}
@@ -32,15 +34,19 @@ field word n = ascii word ++ decimal n
 abbrev pub newline : List ℕ
 newline = 10 ∷ []
 
+-- the whole output for a file or a frame that is too large
 abbrev pub tooLarge : List ℕ
 tooLarge = ascii "too large\n"
 
+-- the last line of a file that is refused
 unfoldable pub refusedLine : ℕ → List ℕ
 refusedLine n = field "refused " n ++ newline
 
+-- the last line of a file that ends at frame n
 unfoldable pub endLine : ℕ → List ℕ
 endLine n = field "end " n ++ newline
 
+-- the first line: the picture's sizes
 unfoldable pub pictureLine : Sizes → List ℕ
 pictureLine z = field "picture " (z .width) ++ field "x" (z .height) ++ field "x" (z .planes) ++ newline
 
@@ -56,6 +62,12 @@ lineOf (Picture z) = pictureLine z
 lineOf (Frame n method time changed size) = frameLine n (record { method = method; time = time; changed = changed; length = size })
 lineOf (End n) = endLine n
 lineOf (Refused why) = refusedLine (numberOf why)
+
+-- bytes added to a buffer at a place, as far as it goes, and the place after them
+pub record Adds (out : List ℕ) (at : ℕ) (bytes out′ : List ℕ) (next : ℕ) : Type 0 where
+  pub from : at ≤ length out
+  pub place : next ≡ min (at + length bytes) (length out)
+  pub left : out′ ≡ take at out ++ over bytes (drop at out)
 
 -- the papers' sample, line by line
 sample-picture : pictureLine (record { width = 16; height = 2; planes = 1 }) ≡ ascii "picture 16x2x1\n"

@@ -9,13 +9,7 @@ use lib.ListN.{length, set, take, drop, length-append, length-take, length-drop,
 use lib.Seq.{take-all, take-nil, drop-nil, take-at, drop-at, take-append-add, drop-append-add, drop-drop, set-split, length-take-le}
 use borrow.Author.Tests.{lt-ltb, le-ltb, ltb-false}
 use Rattle.laws.specs.Store.{over}
-use Rattle.lines.specs.Lines.{digits, decimal}
-
--- bytes added to a buffer at a place, as far as it goes, and the place after them
-pub record Adds (out : List ℕ) (at : ℕ) (bytes out′ : List ℕ) (next : ℕ) : Type 0 where
-  pub from : at ≤ length out
-  pub place : next ≡ min (at + length bytes) (length out)
-  pub left : out′ ≡ take at out ++ over bytes (drop at out)
+use Rattle.lines.specs.Lines.{digits, decimal, Adds}
 
 pub length-over : (s d : List ℕ) → length (over s d) ≡ length d
 unfolding over

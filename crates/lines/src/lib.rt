@@ -2,8 +2,7 @@
 ghost use mathlib.Core.List.{[], _∷_, _++_};
 ghost use Prim.Native.Nat.{_≤_, min};
 ghost use lib.ListN.{length};
-ghost use Rattle.lines.specs.Lines.{decimal, refusedLine, endLine, pictureLine, frameLine, lineOf};
-ghost use Rattle.lines.specs.TextLaws.{Adds};
+ghost use Rattle.lines.specs.Lines.{decimal, refusedLine, endLine, pictureLine, frameLine, lineOf, Adds};
 ghost use Rattle.refusal.specs.Number.{numberOf};
 use buffer::copy;
 use refusal::Refusal;

@@ -17,8 +17,8 @@ use Rattle.opening.specs.Open.{Film, MeetsOpen, openingOf, pictureAfter, stateA
 use Rattle.state.specs.World.{World}
 use Rattle.state.specs.Outcome.{Answer, Answer.refused, Answer.ended, Answer.tookOn, Answer.tookBack}
 use Rattle.player.specs.Step.{stepOn}
-use Rattle.lines.specs.Lines.{pictureLine, refusedLine, tooLarge}
-use Rattle.lines.specs.TextLaws.{Adds, adds-at, adds-front, length-over}
+use Rattle.lines.specs.Lines.{pictureLine, refusedLine, tooLarge, Adds}
+use Rattle.lines.specs.TextLaws.{adds-at, adds-front, length-over}
 use Rattle.listing.specs.Listing.{Scene, says, leaves, lineOn, listStep, frames, shows, opens, ROOM, front, behind, fronts, Planned, Planned.single, Planned.pictures, sized, planned, follow, listed, blank, listing, roomy, lent, lentText, Lists, MeetsList}
 
 -- what the work and the record buffer hold makes no difference to pictures, state and text

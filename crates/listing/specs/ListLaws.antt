@@ -21,8 +21,8 @@ use Rattle.state.specs.Outcome.{Answer, Answer.refused, Answer.tookOn, After, O
 use Rattle.player.specs.Step.{stepOn, onOf, LeavesOn, ready, change, Made, makes, make, advance, settle}
 use Rattle.player.specs.OutcomeLaws.{on-put}
 use Rattle.player.specs.ReadyLaws.{ready-passed}
-use Rattle.lines.specs.Lines.{pictureLine}
-use Rattle.lines.specs.TextLaws.{Adds, adds-then, adds-at, adds-room, adds-size, adds-front}
+use Rattle.lines.specs.Lines.{pictureLine, Adds}
+use Rattle.lines.specs.TextLaws.{adds-then, adds-at, adds-room, adds-size, adds-front}
 use Rattle.listing.specs.Listing.{Scene, says, leaves, stepLine, taken, lineOn, listStep, frames, Lists}
 
 -- a frame that was made raises the place

@@ -1,5 +1,5 @@
--- The numbers of a record (document 01, "The record"): groups of seven bits, low group first, top bit set on all but the
--- last group, shortest form only, below 2^32.
+-- The numbers of a record (document 01, "Opening, stepping on, stepping back"): groups of seven bits, low group first, top bit set
+-- on all but the last group, shortest form only, below 2^32.
 use Prim.Native.Nat.{ℕ, zero, suc, _+_, _-_, _*_, _/_, _%_, _^_, _≤_}
 use mathlib.Core.Bool.{Bool, true, false}
 use mathlib.Core.List.{List, [], _∷_}
@@ -45,7 +45,8 @@ writeGroups (suc k) n = elim (ltb n 128) [ true ↦ n ∷ [] | false ↦ (128 + 
 unfoldable pub writeNumber : ℕ → List ℕ
 writeNumber n = writeGroups 4 n
 
--- an answer's value and the bytes after it, which are those from the next place on
+-- an answer's value and the bytes after it, which are those from the next place on; Malformed is none, and a record's reader
+-- makes 61 of it
 abbrev pub readOf : List ℕ → Parsed → Option Value
 readOf s (Number value next) = some (record { value = value; rest = drop next s })
 readOf s Malformed = none
@@ -60,10 +61,11 @@ pub record ReadAt (s : List ℕ) (at : ℕ) (r : Parsed) : Type 0 where
   pub is : readOf s r ≡ readNumber (drop at s)
   pub within : Within s r
 
--- bytes laid at a place of a buffer, if they fit there
+-- whether bytes fit at a place of a buffer
 unfoldable pub fits : List ℕ → ℕ → List ℕ → Bool
 fits out at bytes = leb (at + length bytes) (length out)
 
+-- the buffer with the bytes at that place, or as it was if they don't fit
 unfoldable pub laid : List ℕ → ℕ → List ℕ → List ℕ
 laid out at bytes = pick (fits out at bytes) (sets out at bytes) out
 
@@ -71,6 +73,7 @@ laid out at bytes = pick (fits out at bytes) (sets out at bytes) out
 unfoldable pub after : List ℕ → ℕ → List ℕ → Option ℕ
 after out at bytes = pick (fits out at bytes) (some (at + length bytes)) none
 
+-- an answer's place; NoRoom is none, which a record's writer never comes to, since it gives 51 first
 abbrev pub writtenOf : Written → Option ℕ
 writtenOf (Next at) = some at
 writtenOf NoRoom = none

@@ -59,7 +59,7 @@ pub read-write : (n : ℕ) (s : List ℕ) → n < 2 ^ 32 → readNumber (writeNu
 unfolding readNumber
 read-write n s h = read-back (write-encoded n h) 1 0 s (inr refl) (omega arith) ∙ ap (λ (v : ℕ). some (record { value = v; rest = s })) (omega arith)
 
--- a number that was read is below 2^32, and its rest is what stands behind it
+-- a number that was read is below 2^32, and its rest is what stands after it
 read-decoded : {s : List ℕ} {v : Value} → readNumber s ≡ some v → Decoded 5 1 0 s v
 unfolding readNumber
 read-decoded {s} {v} e = decoded 5 1 0 s v e

@@ -1,4 +1,4 @@
-// The numbers of step records and frame lists: groups of seven bits, low group first.
+// The numbers of step records: groups of seven bits, low group first.
 ghost use mathlib.Core.Path.{_≡_};
 ghost use Prim.Native.Nat.{_+_, _≤_};
 ghost use lib.ListN.{length};

@@ -28,7 +28,7 @@ module _ {old new : List ℕ} {at gap count : ℕ} (a : RunAhead old new at gap 
   run-long : length (take count (drop (at + gap) new)) ≡ count
   run-long = length-take-le count (drop (at + gap) new) (omega (arith, length-drop (at + gap) new, a .inside))
 
-  -- the picture with the run's new bytes: what is before it, the run, and what is behind
+  -- the picture with the run's new bytes: what is before the run, the run, and what is after it
   spliced : sets old (at + gap) (take count (drop (at + gap) new)) ≡ (take (at + gap) old ++ take count (drop (at + gap) new)) ++ drop (at + gap + count) old
   spliced = sets-eq (take count (drop (at + gap) new)) old (at + gap) (omega (arith, run-long, a .inside)) ∙ rw run-long
 

@@ -1,5 +1,5 @@
--- The step record (document 01, "The record"): the frame number reached, the next place before the step, and the run list of
--- the hidden picture before and after. It depends on the two pictures and the two numbers only.
+-- The step record (document 01, "Opening, stepping on, stepping back"): the frame number reached, the next place before the step,
+-- and the run list of the hidden picture before and after. It depends on the two pictures and the two numbers only.
 use Prim.Native.Nat.{ℕ}
 use mathlib.Core.List.{List, _++_}
 use mathlib.Core.Option.{Option, some}

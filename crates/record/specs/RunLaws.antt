@@ -1,4 +1,4 @@
--- Laws of the next run of two pictures: how it is written, and what it adds to the runs behind it.
+-- Laws of the next run of two pictures: how it is written, and what it adds to the runs after it.
 use Prim.Native.Nat.{ℕ, _+_}
 use mathlib.Core.List.{List, _++_}
 use mathlib.Core.Path.{_≡_, _∙_}

@@ -1,6 +1,6 @@
--- The runs of a record (document 01, "The record"): how they are written, read and put back. A run list holds the number of
--- runs, then each run: the unchanged bytes since the previous run, the count, the old bytes. It is malformed if it ends early,
--- a number is malformed, a gap after the first is 0, a count is 0, or a run passes the end.
+-- The runs of a record (document 01, "Opening, stepping on, stepping back"): how they are written, read and put back. A run list
+-- holds the number of runs, then each run: the unchanged bytes since the previous run, the count, the old bytes. It is malformed
+-- if it ends early, a number is malformed, a gap after the first is 0, a count is 0, or a run passes the end.
 use Prim.Native.Nat.{ℕ, zero, suc, _+_, _-_}
 use mathlib.Core.List.{List, [], _∷_, _++_}
 use mathlib.Core.Option.{Option, some}

@@ -1,5 +1,5 @@
--- What the private functions answer: the next run of a record, where a run list ends and leads back to, the numbers before it,
--- and whether all of it leads back from a state.
+-- What the private functions answer: the next run of a record, where a run list ends and what it restores, the numbers before it,
+-- and whether the whole record may be put back at a state.
 use Prim.Native.Nat.{ℕ, _+_, _≤_}
 use mathlib.Core.Bool.{Bool, true, false}
 use mathlib.Core.List.{List}
@@ -43,11 +43,12 @@ abbrev pub checkedOf : List ℕ → Checked → Option (List ℕ)
 checkedOf bytes (Ends next) = some (drop next bytes)
 checkedOf bytes Bad = none
 
--- whether there is a way back, and where it leads
+-- whether a run list may be put back into a buffer
 abbrev pub isGood : Option Before → Bool
 isGood (some b) = true
 isGood none = false
 
+-- the buffer with the old bytes put back, or as it was if they may not be
 abbrev pub bufferOr : List ℕ → Option Before → List ℕ
 bufferOr shown (some b) = b .buffer
 bufferOr shown none = shown

@@ -17,7 +17,7 @@ use Rattle.runs.specs.RunLaws.{runs-kept, runs-changed}
 use Rattle.runs.specs.Stretch.{stretch}
 use Rattle.runs.specs.StretchLaws.{by-test, stretch-more, stretch-stop, stretch-end, stretch-none, stretch-short}
 
--- the next run from a place on, and the runs behind it
+-- the next run from a place on, and the runs after it
 pub record RunAhead (old new : List ℕ) (at gap count : ℕ) : Type 0 where
   pub runs : runsOf (drop at old) (drop at new) ≡ record { gap = gap; old = take count (drop (at + gap) old) } ∷ runsOf (drop (at + (gap + count)) old) (drop (at + (gap + count)) new)
   pub kept : take gap (drop at old) ≡ take gap (drop at new)
@@ -52,7 +52,7 @@ unfolding changed kept
 changed-kept a [] = refl
 changed-kept a (r ∷ rs) = rw (ne-eqb (suc (r .gap)) 0 (λ e. absurd (omega arith)), changed)
 
--- the run that begins after gap bytes, and those behind it
+-- the run that begins after gap bytes, and those after it
 runFrom : List ℕ → List ℕ → ℕ → ℕ → List Run
 runFrom old new gap count = record { gap = gap; old = take count (drop gap old) } ∷ runsOf (drop count (drop gap old)) (drop count (drop gap new))
 

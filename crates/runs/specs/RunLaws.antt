@@ -1,4 +1,4 @@
--- Laws of runs: one element in front of two lists, and the run that begins at once, if there is one, with those behind it.
+-- Laws of runs: one element in front of two lists, and the run that begins at once, if there is one, with those after it.
 use Prim.Native.Nat.{ℕ, suc, _+_, _<_, _≤_}
 use native.Mathlib.Numerals.{add-one}
 use native.Mathlib.Omega.{arith}
@@ -50,7 +50,7 @@ module _ (old new : List ℕ) (i : ℕ) (h : i < length old) (l : length new ≡
   unfolding runsAt
   changed-at e = runs-front ∙ runs-changed _ _ _ _ (ne-eqb _ _ e)
 
--- the elements of a run that begins at once, and the runs behind it
+-- the elements of a run that begins at once, and the runs after it
 unfoldable pub front : List Run → List ℕ
 front [] = []
 front (r ∷ rs) = elim (eqb (r .gap) 0) [ true ↦ r .old | false ↦ [] ]

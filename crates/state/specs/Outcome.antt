@@ -19,8 +19,8 @@ pub data Answer : Type 0 where
   tookOn : Report → Answer
   tookBack : Answer
 
--- what a call comes to: its answer, the state after it, the picture in the one buffer that it may change, a record that was
--- written, and a frame that stands in the work buffer
+-- what a call comes to, with only the picture that it may change: its answer, the state and that picture after it, a record that
+-- was written, and a frame that stands in the work buffer
 pub record Outcome : Type 0 where
   pub answer : Answer
   pub state : State
@@ -32,14 +32,15 @@ pub record Outcome : Type 0 where
 abbrev pub stays : State → List ℕ → Answer → Outcome
 stays s p x = record { answer = x; state = s; picture = p; bytes = []; work = none }
 
--- what a call leaves: its answer, what it hands on, a record that was written, and a frame that stands in the work buffer
+-- the same with both pictures: its answer, A, B and the state after it, a record that was written, and a frame that stands in the
+-- work buffer
 pub record After : Type 0 where
   pub answer : Answer
   pub world : World
   pub bytes : List ℕ
   pub work : Option (List ℕ)
 
--- the one buffer is A, or B
+-- both pictures after an outcome: the one that the call may change is in A, or in B
 abbrev pub inA : World → Outcome → After
 inA w o = record { answer = o .answer; world = record { a = o .picture; b = w .b; state = o .state }; bytes = o .bytes; work = o .work }
 

@@ -10,6 +10,7 @@ use Rattle.state.specs.declared.State.{State}
 use Rattle.state.specs.declared.Length.{Length}
 use Rattle.state.specs.declared.Length.the-variants.{Bytes, Refused}
 
+-- a number from least to most
 abbrev pub within : ℕ → ℕ → ℕ → Bool
 within least most x = leb least x && leb x most
 
@@ -46,10 +47,10 @@ lengthOf (Refused why) = fault (numberOf why)
 abbrev pub opened : Sizes → ℕ → ℕ → State
 opened z next end = record { sizes = z; frame = 1; next = next; end = end }
 
--- a picture of 16 × 2 pixels and one plane has 4 bytes, one of 1,024 × 1,024 and eight planes has 1,048,576
-smallest : frameLength (record { width = 16; height = 2; planes = 1 }) ≡ ok 4
+-- a picture of 16 × 2 pixels and one plane has 4 bytes, one of 1,024 × 1,024 and eight planes has 1,048,576; a width of 1,025 is 11
+sixteen-by-two : frameLength (record { width = 16; height = 2; planes = 1 }) ≡ ok 4
 unfolding frameLength frameBytes rowBytes
-smallest = refl
+sixteen-by-two = refl
 
 largest : frameLength (record { width = 1024; height = 1024; planes = 8 }) ≡ ok 1_048_576
 unfolding frameLength frameBytes rowBytes

@@ -59,6 +59,7 @@ impl Sizes {
 }
 
 impl State {
+    // The limits of a state.
     pub const MAX_WIDTH: usize = 1024;
 
     pub const MAX_HEIGHT: usize = 1024;

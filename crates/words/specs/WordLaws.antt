@@ -37,7 +37,7 @@ unfolding wordsBytes
 words-length [] = refl
 words-length (n ∷ ns) = omega (arith, length-append (le64Bytes n) (wordsBytes ns), length-eight n, words-length ns)
 
--- the bytes of a number behind those of others
+-- the bytes of a number after those of others
 pub put-halves : {out out′ out″ : List ℕ} {at p q : ℕ} (n : ℕ) → Put out at (le32Bytes (n % 4294967296)) out′ p → Put out′ p (le32Bytes (n / 4294967296)) out″ q → Put out at (le64Bytes n) out″ q
 unfolding le64Bytes
 put-halves n v w = put-then v w

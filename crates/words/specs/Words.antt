@@ -1,5 +1,6 @@
--- Numbers of eight bytes, the lowest byte first, as a C program on x86-64 keeps them. A state is six of them in the paper's order:
--- width, height, planes, frame number, next place, end place.
+-- The contracts of `words` and `write_words`: numbers of eight bytes, the lowest byte first, as a C program on x86-64 keeps them. A
+-- state is six of them, in the order of document 01, "Opening, stepping on, stepping back": width, height, planes, frame number,
+-- next place, end place.
 use Prim.Native.Nat.{ℕ, _+_, _*_, _/_, _%_}
 use mathlib.Core.List.{List, [], _∷_, _++_}
 use mathlib.Core.Path.{_≡_, refl}
@@ -22,6 +23,7 @@ le32Bytes n = n % 256 ∷ n / 256 % 256 ∷ n / 65536 % 256 ∷ n / 16777216 % 2
 unfoldable pub le64Bytes : ℕ → List ℕ
 le64Bytes n = le32Bytes (n % 4294967296) ++ le32Bytes (n / 4294967296)
 
+-- the bytes of several numbers, one after the other
 unfoldable pub wordsBytes : List ℕ → List ℕ
 wordsBytes [] = []
 wordsBytes (n ∷ ns) = le64Bytes n ++ wordsBytes ns
@@ -34,7 +36,6 @@ stateIn s =
     (record { sizes = record { width = 0; height = 0; planes = 0 }; frame = 0; next = 0; end = 0 })
 
 -- the six numbers of a state
-
 unfoldable pub stateWords : State → List ℕ
 stateWords x = x .sizes .width ∷ x .sizes .height ∷ x .sizes .planes ∷ x .frame ∷ x .next ∷ x .end ∷ []
 
@@ -42,11 +43,11 @@ stateWords x = x .sizes .width ∷ x .sizes .height ∷ x .sizes .planes ∷ x .
 unfoldable pub lay : List ℕ → List ℕ → List ℕ
 lay ns out = pick (eqb (length out) (8 * length ns)) (wordsBytes ns) out
 
--- 300 in eight bytes, and back
-there : wordsBytes (300 ∷ []) ≡ 44 ∷ 1 ∷ 0 ∷ 0 ∷ 0 ∷ 0 ∷ 0 ∷ 0 ∷ []
+-- 300 written in eight bytes, and read from them
+written-300 : wordsBytes (300 ∷ []) ≡ 44 ∷ 1 ∷ 0 ∷ 0 ∷ 0 ∷ 0 ∷ 0 ∷ 0 ∷ []
 unfolding wordsBytes le64Bytes le32Bytes
-there = refl
+written-300 = refl
 
-back : le64 (44 ∷ 1 ∷ 0 ∷ 0 ∷ 0 ∷ 0 ∷ 0 ∷ 0 ∷ []) 0 ≡ 300
+read-300 : le64 (44 ∷ 1 ∷ 0 ∷ 0 ∷ 0 ∷ 0 ∷ 0 ∷ 0 ∷ []) 0 ≡ 300
 unfolding le64 le32
-back = refl
+read-300 = refl

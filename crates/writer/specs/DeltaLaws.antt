@@ -24,7 +24,7 @@ sets-swap : (f : List ℕ) (i : ℕ) (xs : List ℕ) (j : ℕ) (ys : List ℕ) �
 sets-swap f i [] j ys h = refl
 sets-swap f i (x ∷ xs) j ys h = sets-swap (set f i x) (suc i) xs j ys (omega arith) ∙ ap (λ (g : List ℕ). sets g (suc i) xs) (set-sets f i x j ys (omega arith))
 
--- a store right behind another
+-- a store right after another
 sets-then : (f : List ℕ) (at : ℕ) (vs ws : List ℕ) (next : ℕ) → next ≡ at + length vs → sets (sets f at vs) next ws ≡ sets f at (vs ++ ws)
 sets-then f at vs ws next e = rw e (sets-append f at vs ws)
 
@@ -90,7 +90,7 @@ unfolding listsBytes pointersBytes
 writing-last {left = zero} w h = (omega (arith, w .ends), w .whole)
 writing-last {left = suc k} w h = absurd (omega arith)
 
--- the pointers, zeros behind them, and the lists
+-- the pointers, zeros after them, and the lists
 pub delta-is : (z : Sizes) (old new out out₁ : List ℕ) → z .planes ≤ 8 → out₁ ≡ sets out (4 * z .planes) (replicate (64 - 4 * z .planes) 0)
     → sets (sets out₁ 0 (pointersBytes old new (rowBytes (z .width)) (z .height) (z .planes) 0 64)) 64 (listsBytes old new (rowBytes (z .width)) (z .height) (z .planes) 0)
     ≡ sets out 0 (deltaBytes z old new)

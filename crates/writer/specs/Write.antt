@@ -27,6 +27,7 @@ unfoldable pub columnsBytes : List ℕ → List ℕ → ℕ → ℕ → ℕ → 
 columnsBytes old new row height zero at = []
 columnsBytes old new row height (suc k) at = columnIn old new row height at ++ columnsBytes old new row height k (at + 1)
 
+-- whether two planes are equal
 unfoldable pub equal : List ℕ → List ℕ → Bool
 equal [] [] = true
 equal [] (b ∷ t) = false

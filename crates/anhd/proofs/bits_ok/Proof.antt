@@ -1,4 +1,4 @@
--- `delta::bits_ok`: the test of the method picks the test of the bits.
+-- `anhd::bits_ok`: the test of the method picks the test of the bits.
 use borrow.Author.Tests.{eq-eqb, ne-eqb}
 use Rattle.anhd.proofs.bits_ok.Statement.{statement}
 use Rattle.anhd.proofs.bits_ok.Tie as tie

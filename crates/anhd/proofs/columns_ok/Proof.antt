@@ -1,4 +1,4 @@
--- `delta::columns_ok`: the cases are the definition's.
+-- `anhd::columns_ok`: the cases are the definition's.
 use borrow.Author.Needs.{needs}
 use Rattle.anhd.proofs.columns_ok.Statement.{statement}
 use Rattle.anhd.proofs.columns_ok.Tie as tie

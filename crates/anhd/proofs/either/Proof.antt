@@ -1,4 +1,4 @@
--- `delta::either`: the two tests in turn.
+-- `anhd::either`: the two tests in turn.
 use borrow.Author.Tests.{eq-eqb, ne-eqb}
 use Rattle.anhd.proofs.either.Statement.{statement}
 use Rattle.anhd.proofs.either.Tie as tie

@@ -1,4 +1,4 @@
--- `delta::items_of`: the tests are the definition's.
+-- `anhd::items_of`: the tests are the definition's.
 use borrow.Author.Tests.{eq-eqb, ne-eqb}
 use Rattle.anhd.proofs.items_of.Statement.{statement}
 use Rattle.anhd.proofs.items_of.Tie as tie

@@ -1,4 +1,4 @@
--- `delta::read_header`: the tests are the definition's, in its order.
+-- `anhd::read_header`: the tests are the definition's, in its order.
 use Prim.Native.Nat.{ℕ, _≤_}
 use mathlib.Core.Path.{_≡_}
 use mathlib.Core.Bool.{true, _||_}

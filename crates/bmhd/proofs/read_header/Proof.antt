@@ -1,4 +1,4 @@
--- `ilbm::read_header`: the tests in the definition's order.
+-- `bmhd::read_header`: the tests in the definition's order.
 use mathlib.Core.Path.{sym, _∙_}
 use borrow.Author.Tests.{le-leb, lt-leb, eq-eqb, ne-eqb}
 use Rattle.laws.specs.ResultLaws.{told}

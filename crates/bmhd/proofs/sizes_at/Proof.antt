@@ -1,4 +1,4 @@
--- `ilbm::sizes_at`: each field is the number that was read.
+-- `bmhd::sizes_at`: each field is the number that was read.
 use borrow.Author.Needs.{needs}
 use Rattle.bmhd.proofs.sizes_at.Statement.{statement}
 use Rattle.bmhd.proofs.sizes_at.Tie as tie

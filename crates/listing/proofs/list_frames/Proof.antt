@@ -2,8 +2,7 @@
 use borrow.Author.Needs.{needs}
 use borrow.Author.Tests.{not-true, not-false}
 use Rattle.listing.specs.ListLaws.{Showing, showing-starts, showing-size, showing-stops, showing-less, showing-turns}
-use Rattle.lines.specs.TextLaws.{Adds}
-use Rattle.lines.specs.Lines.{pictureLine}
+use Rattle.lines.specs.Lines.{pictureLine, Adds}
 use lib.ListN.{length}
 use mathlib.Core.Path.{_∙_}
 use mathlib.Core.List.{List}

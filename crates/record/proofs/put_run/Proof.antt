@@ -13,7 +13,7 @@ use borrow.Author.Needs.{needs}
 use Rattle.record.proofs.put_run.Statement.{statement}
 use Rattle.record.proofs.put_run.Tie as tie
 
--- the old bytes fit behind the two numbers
+-- the old bytes fit after the two numbers
 fits : (gap : ℕ) (old : List ℕ) {out out₁ out₂ : List ℕ} {at p q : ℕ} → at + length (runBytes (record { gap = gap; old = old })) ≤ length out → Put out at (writeNumber gap) out₁ p
     → Put out₁ p (writeNumber (length old)) out₂ q → q + length old ≤ length out₂
 fits gap old h v w = omega (arith, run-length (record { gap = gap; old = old }))

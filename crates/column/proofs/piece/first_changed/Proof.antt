@@ -1,4 +1,4 @@
--- `column::piece::first_changed`: the runs from the start are those from here on, behind the rows that were passed.
+-- `column::piece::first_changed`: the runs from the start are those from here on, after the rows that were passed.
 use Prim.Native.Nat.{_-_}
 use lib.ListN.{length}
 use Rattle.column.specs.WalkLaws.{Passed, passed-none, passed-more, passed-stops, passed-all}
