@@ -8,7 +8,8 @@
  *     rt staticlib anim
  *     cc -I include viewer.c target/staticlib/libanim.a -o viewer
  *
- * crosscheck/c/play.c is a whole program: it plays a file to its end and back again.
+ * libanim.a is for x86-64 Linux. crosscheck/c/play.c is a whole program: it plays a file to its end
+ * and back again.
  *
  * What holds for every function here
  *
@@ -19,7 +20,8 @@
  *     length of 0, and it must lead to that many bytes that may be read (and written, if it isn't
  *     const). A buffer that is written must not overlap another one of the same call. Buffers need
  *     no alignment.
- *   - Calls on buffers that don't overlap may run at the same time in several threads.
+ *   - Calls may run at the same time in several threads if no buffer that one of them writes overlaps a
+ *     buffer of another. Two players may share one file, which is only read.
  *   - Of several things that are wrong, the first in the order given here is answered.
  *   - A refused call changes nothing, with two exceptions: anim_open writes six zeros to the state,
  *     and a step on that is refused with ANIM_NO_ROOM leaves the frame in the work buffer.
@@ -33,9 +35,10 @@
  *
  *   A player has two picture buffers, A and B, each exactly a frame long. Odd frames are shown in A,
  *   even ones in B; the other one is hidden and holds the frame before (frame 1 at frame 1). The work
- *   buffer is a third of that length. Between calls the caller may read everything, and may write the
- *   work buffer, the report and any record buffer. Whoever writes A, B or the state in between gets
- *   pictures built on what was written: still nothing undefined, but no longer the file's frames.
+ *   buffer is a third buffer of the same length. Between calls the caller may read everything, and may
+ *   write the work buffer, the report and any record buffer whose record isn't kept for stepping back.
+ *   Whoever changes the file, A, B, the state or a kept record in between gets pictures built on what
+ *   was written, or a refusal: still nothing undefined, but no longer the file's frames.
  */
 #ifndef ANIM_H
 #define ANIM_H
@@ -48,18 +51,19 @@ extern "C" {
 #endif
 
 /* Limits. */
-#define ANIM_MAX_WIDTH 1024
-#define ANIM_MAX_HEIGHT 1024
+#define ANIM_MAX_WIDTH 1024          /* pixels */
+#define ANIM_MAX_HEIGHT 1024         /* pixels */
 #define ANIM_MAX_PLANES 8
-#define ANIM_MAX_FRAME 1000000
-#define ANIM_MAX_FILE 2147483647
+#define ANIM_MAX_FRAME 1000000       /* the highest frame number */
+#define ANIM_MAX_FRAME_BYTES 1048576 /* the longest frame: 1024 x 1024 in 8 planes */
+#define ANIM_MAX_FILE 2147483647     /* the longest file, in bytes */
 
 /* Answers that aren't refusals. */
-#define ANIM_OK 0  /* opened, taken or written */
+#define ANIM_OK 0  /* opened, taken or written; the size is answered; the row is there */
 #define ANIM_END 1 /* stepping on: no frame is left, nothing changed */
 
 /* Refusals. */
-#define ANIM_OUTSIDE_LIMITS 11     /* a state or size outside the limits; a state, report or length of a wrong length */
+#define ANIM_OUTSIDE_LIMITS 11     /* a state or size outside the limits; a state, report, size or length lent with a wrong length */
 #define ANIM_BUFFER_LENGTH 12      /* a picture or work buffer that isn't exactly a frame long */
 #define ANIM_FILE_TOO_LONG 13      /* a file of more than 2147483647 bytes */
 #define ANIM_NO_SUCH_ROW 14        /* no such plane or row */
@@ -87,7 +91,9 @@ extern "C" {
  * Where a player stands. anim_open fills it; hand it to the other calls as anim_open or the last step
  * left it. It may be copied, kept and put back together with A and B.
  *
- * It crosses as its 48 bytes, each number with its low byte first, as on x86-64.
+ * It crosses as its 48 bytes, each number with its low byte first, as on x86-64. Lend it as
+ * (uint8_t *)&state, sizeof state: a struct of six uint64_t has no gaps, and its bytes may be read and
+ * written through a uint8_t pointer.
  */
 typedef struct anim_state {
     uint64_t width;  /* pixels, 1 to 1024 */
@@ -98,7 +104,7 @@ typedef struct anim_state {
     uint64_t end;    /* where FORM ANIM ends, from next to 2147483647 */
 } anim_state;
 
-/* What a step on tells of the frame it reached; it crosses as its 32 bytes. */
+/* What a step on tells of the frame it reached; it crosses as its 32 bytes, lent likewise. */
 typedef struct anim_report {
     uint64_t method;  /* 5 or 7 */
     uint64_t time;    /* ANHD's relative time, in sixtieths of a second */
@@ -122,8 +128,9 @@ typedef struct anim_report {
  * takes 2 bytes of the frame. Longer gaps and runs cost less: a number of two bytes stands for at
  * least 128 bytes of the frame, one of three for at least 16384, and no frame needs more than three.
  * Only the first run has no gap, and costs up to 2 bytes more. So 15 + 2 bytes and 3/2 of the frame
- * are enough. A shorter buffer is no harm: a step that has no room is refused and changes nothing
- * but the work buffer.
+ * are enough. This bound is argued here and tested; the bound that is proved is larger, twice the
+ * frame and 16 bytes. A shorter buffer is no harm: a step that has no room is refused and changes
+ * nothing but the work buffer.
  */
 #define ANIM_RECORD_ROOM(frame_bytes) ((frame_bytes) + (frame_bytes) / 2 + 17)
 
@@ -134,7 +141,8 @@ typedef struct anim_report {
  * A delta is 64 bytes of pointers and a list for each column of a plane: a count byte and the ops. A
  * Skip costs a byte and goes down at least one row. Sames cost fewer bytes than they have rows. A
  * Uniq costs a byte more than it has rows, and unless it has 127 rows or is the last op, one row or
- * more of another op stands between it and the next: at most (height + 1) / 2 Uniqs.
+ * more of another op stands between it and the next: at most (height + 1) / 2 Uniqs. This bound is
+ * proved.
  */
 #define ANIM_DELTA_ROOM(width, height, planes) \
     (64 + ANIM_ROW_BYTES(width) * (planes) * ((height) + (height) / 2 + 2))
@@ -147,7 +155,7 @@ typedef struct anim_report {
  *
  * Answers ANIM_OK, or the first of these refusals:
  *   11  the size isn't 8 bytes long
- *   13, 21, 22, 21, 21 or 23, 24  as anim_open, in its order
+ *   then anim_open's refusals in its order, from 13 to 24: 12 and 25 aren't asked
  *
  * Answered, the size is the bytes of a frame, 40000 for 320 x 200 in 5 planes. Refused, it is as it was.
  */
@@ -217,8 +225,9 @@ uint64_t anim_open(const uint8_t *file, size_t file_length,
  *   41  DLTA is shorter than 64 bytes
  *   then plane by plane
  *   41  a pointer that is read doesn't lead to 64 .. DLTA's length
- *   42, 43, 44  the first fault of the plane's list: for each op its count byte (42), a count of 0
- *       (44), the last row (43), its items (42)
+ *   42, 43, 44  the first fault of the plane's list: for each column its op count past DLTA's end
+ *       (42), and for each op its first byte past DLTA's end (42), the count byte of a Same likewise
+ *       (42), a count of 0 (44), an end past the last row (43), items past DLTA's end (42)
  *   51  the record is longer than its buffer
  *
  * Taken: the hidden buffer and the work buffer hold the new frame, the shown buffer is as it was, the

@@ -28,7 +28,7 @@ static void stop(const char *what) {
     exit(1);
 }
 
-/* Memory of exactly so many bytes. */
+/* Memory of so many bytes, or of one byte if none are asked for. */
 static uint8_t *memory(size_t length) {
     uint8_t *p = (uint8_t *)malloc(length > 0 ? length : 1);
     if (p == NULL)
@@ -108,17 +108,34 @@ static unsigned look(const struct player *p) {
     return sum;
 }
 
-/* Writes the delta from A to B and checks that it has room. */
-static uint64_t write_delta(const struct player *p) {
-    size_t room = ANIM_DELTA_ROOM(p->state.width, p->state.height, p->state.planes);
+/* Writes the delta from A to B into memory of so many bytes, and gives the memory up unless it is kept. */
+static uint64_t delta_in(const struct player *p, size_t room, uint64_t *length, uint8_t **kept) {
     uint8_t *out = memory(room);
-    uint64_t length = 0;
-    uint64_t answer = anim_write_delta(p->a, p->frame, p->b, p->frame, out, room, BYTES(length),
+    uint64_t answer = anim_write_delta(p->a, p->frame, p->b, p->frame, out, room, BYTES(*length),
                                        p->state.width, p->state.height, p->state.planes);
-    if (answer != ANIM_OK)
+    if (kept != NULL)
+        *kept = out;
+    else
+        free(out);
+    return answer;
+}
+
+/* Writes the delta from A to B; it must have 64 bytes exactly if they are equal, and need just as many as it has. */
+static void write_delta(const struct player *p) {
+    size_t room = ANIM_DELTA_ROOM(p->state.width, p->state.height, p->state.planes);
+    int equal = memcmp(p->a, p->b, p->frame) == 0;
+    uint64_t length = 0, again = 0;
+    uint8_t *out, *same;
+    if (delta_in(p, room, &length, &out) != ANIM_OK || length > room)
         stop("a delta is refused");
+    if (length < 64 || (length == 64) != equal)
+        stop("a delta has a wrong length");
+    if (delta_in(p, (size_t)length - 1, &again, NULL) != ANIM_NO_ROOM || again != 0)
+        stop("a delta without room is written");
+    if (delta_in(p, (size_t)length, &again, &same) != ANIM_OK || again != length || memcmp(out, same, (size_t)length) != 0)
+        stop("a delta with just enough room is refused");
     free(out);
-    return length;
+    free(same);
 }
 
 static void play(struct player *p) {

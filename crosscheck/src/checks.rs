@@ -63,10 +63,10 @@ pub fn small_films(check: &mut Check) -> Vec<Vec<u8>> {
 fn every_method(random: &mut Random, sizes: Sizes) -> Vec<u8> {
     let picture = random.bytes(sizes.frame());
     let body = files::packed_body(&picture, sizes);
-    let mut parts = vec![files::form(b"ILBM", &[files::chunk(b"BMHD", &files::bmhd(sizes, 1)), files::chunk(b"BODY", &body)])];
+    let mut parts = vec![files::picture_form(sizes, 1, &body)];
     for items in [1, 2, 4].into_iter().filter(|items| sizes.row().is_multiple_of(*items)) {
         let delta = files::random_delta(random, sizes, items);
-        parts.push(files::form(b"ILBM", &[files::chunk(b"ANHD", &files::anhd(items, 3)), files::chunk(b"DLTA", &delta)]));
+        parts.push(files::delta_form(items, 3, &delta));
     }
     files::form(b"ANIM", &parts)
 }

@@ -3,7 +3,7 @@
 /// Each name and what it breaks.
 pub const NAMES: &[(&str, &str)] = &[
     ("repeat-128", "ByteRun1's 128 is 129 copies"),
-    ("masking-above-1", "masking 2 and 3 are refused too"),
+    ("masking-above-1", "every masking but 0 is refused"),
     ("body-exactly", "a BODY with bytes after its last row is refused"),
     ("body-plane-by-plane", "BODY holds plane after plane"),
     ("anim-pad-asked", "FORM ANIM's own pad must lie in the file"),
@@ -19,6 +19,7 @@ pub const NAMES: &[(&str, &str)] = &[
     ("anhd-exactly", "an ANHD of more than 40 bytes is refused"),
     ("one-byte-down", "a column goes on by one byte and not by a row"),
     ("skip-past-last-row", "a Skip may pass the last row"),
+    ("items-before-last-row", "missing items are 42 before the last row is asked for"),
     ("data-starts-anew", "method 7's data list starts anew at each column"),
     ("pointer-at-end", "a pointer that is DLTA's length is refused with 41"),
     ("data-pointer-0", "a data pointer may be 0"),

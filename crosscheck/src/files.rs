@@ -39,6 +39,16 @@ pub fn anhd(items: usize, time: u32) -> Vec<u8> {
     all
 }
 
+/// The FORM of a first picture.
+pub fn picture_form(sizes: Sizes, compression: u8, body: &[u8]) -> Vec<u8> {
+    form(b"ILBM", &[chunk(b"BMHD", &bmhd(sizes, compression)), chunk(b"BODY", body)])
+}
+
+/// The FORM of a later frame.
+pub fn delta_form(items: usize, time: u32, delta: &[u8]) -> Vec<u8> {
+    form(b"ILBM", &[chunk(b"ANHD", &anhd(items, time)), chunk(b"DLTA", delta)])
+}
+
 /// The rows of a frame in BODY's order.
 fn body_rows(frame: &[u8], sizes: Sizes) -> impl Iterator<Item = &[u8]> {
     let row = sizes.row();

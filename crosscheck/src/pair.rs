@@ -151,13 +151,19 @@ impl Player {
         self.state.set(&cover::state_bytes(state));
     }
 
+    /// Asks for the length of the file's frames, with so many bytes for the answer; answers the refusal and those bytes.
+    pub fn frame_size(&self, pair: &mut Pair, length: usize) -> Checked<(u64, Vec<u8>)> {
+        let mut size = Twin::new("size", &vec![0x3c; length]);
+        let x = library::frame_size(self.file.bytes(), size.library());
+        let y = cover::frame_size(self.file.plain_bytes(), size.plain());
+        let answer = pair.compare("anim_frame_size", x, y, &[&self.file, &size])?;
+        Ok((answer, size.bytes().to_vec()))
+    }
+
     /// Opens the file, and asks for the length of its frames before.
     pub fn open(&mut self, pair: &mut Pair) -> Checked<u64> {
         for length in [8, 7] {
-            let mut size = Twin::new("size", &vec![0x3c; length]);
-            let x = library::frame_size(self.file.bytes(), size.library());
-            let y = cover::frame_size(self.file.plain_bytes(), size.plain());
-            pair.compare("anim_frame_size", x, y, &[&self.file, &size])?;
+            self.frame_size(pair, length)?;
         }
         let x = library::open(self.file.bytes(), self.a.library(), self.b.library(), self.state.library());
         let y = cover::open(self.file.plain_bytes(), self.a.plain(), self.b.plain(), self.state.plain());

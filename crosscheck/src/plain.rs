@@ -229,13 +229,6 @@ pub fn row_place(state: &State, a: usize, b: usize, plane: u64, row: u64) -> Ans
     Ok((plane as usize * sizes.height + row as usize) * sizes.row())
 }
 
-/// A row of a plane of the shown picture.
-pub fn row<'a>(state: &State, a: &'a [u8], b: &'a [u8], plane: u64, row: u64) -> Answer<&'a [u8]> {
-    let at = row_place(state, a.len(), b.len(), plane, row)?;
-    let shown = if state.shows_a() { a } else { b };
-    Ok(&shown[at..at + state.sizes()?.row()])
-}
-
 /// Two bytes as a big-endian number.
 fn be16(bytes: &[u8]) -> u64 {
     u64::from(u16::from_be_bytes([bytes[0], bytes[1]]))

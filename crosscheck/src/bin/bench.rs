@@ -98,10 +98,8 @@ fn next_picture(random: &mut Random, sizes: Sizes, old: &[u8], change: &str) -> 
 }
 
 fn file_of(sizes: Sizes, compression: u8, body: &[u8], later: Option<(usize, &[u8])>) -> Vec<u8> {
-    let mut parts = vec![files::form(b"ILBM", &[files::chunk(b"BMHD", &files::bmhd(sizes, compression)), files::chunk(b"BODY", body)])];
-    if let Some((items, delta)) = later {
-        parts.push(files::form(b"ILBM", &[files::chunk(b"ANHD", &files::anhd(items, 1)), files::chunk(b"DLTA", delta)]));
-    }
+    let mut parts = vec![files::picture_form(sizes, compression, body)];
+    parts.extend(later.map(|(items, delta)| files::delta_form(items, 1, delta)));
     files::form(b"ANIM", &parts)
 }
 

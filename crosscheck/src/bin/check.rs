@@ -39,8 +39,6 @@ const AGAIN: &[Group] =
 /// Every number of document 01's table.
 const NUMBERS: [u64; 23] = [11, 12, 13, 14, 21, 22, 23, 24, 25, 31, 32, 33, 34, 35, 36, 41, 42, 43, 44, 51, 53, 61, 62];
 
-const LEAST_CALLS: u64 = 200_000;
-
 struct Words {
     seed: u64,
     seconds: u64,
@@ -95,7 +93,7 @@ fn run(words: &Words) -> Checked<()> {
     }
     let mut counts = vec![0; AGAIN.len()];
     let mut round = 0;
-    while start.elapsed().as_secs() < words.seconds || check.pair.calls < LEAST_CALLS {
+    while start.elapsed().as_secs() < words.seconds {
         let k = round % AGAIN.len();
         let before = check.pair.calls;
         check.random = Random::new(words.seed ^ (round as u64) << 32);

@@ -19,7 +19,7 @@ pub fn cut(check: &mut Check) -> Checked<()> {
     Ok(())
 }
 
-/// Every bit of small files changed, and every byte to some other values.
+/// Every bit of small files changed, and every byte inverted.
 pub fn flipped(check: &mut Check) -> Checked<()> {
     for film in small_films(check) {
         for at in 0..film.len() {
@@ -42,7 +42,7 @@ pub fn cut_contents(check: &mut Check) -> Checked<()> {
     let deltas = [1, 2, 4].map(|items| files::random_delta(random, sizes, items));
     for (k, body) in bodies.iter().enumerate() {
         for length in 0..=body.len() {
-            let first = first_frame(sizes, usize::min(k, 1) as u8, &body[..length]);
+            let first = files::picture_form(sizes, usize::min(k, 1) as u8, &body[..length]);
             play(check, &files::form(b"ANIM", &[first]))?;
         }
     }
@@ -54,14 +54,9 @@ pub fn cut_contents(check: &mut Check) -> Checked<()> {
     Ok(())
 }
 
-fn first_frame(sizes: Sizes, compression: u8, body: &[u8]) -> Vec<u8> {
-    files::form(b"ILBM", &[files::chunk(b"BMHD", &files::bmhd(sizes, compression)), files::chunk(b"BODY", body)])
-}
-
 /// A file of a plain picture and one delta.
 pub fn two_frames(sizes: Sizes, body: &[u8], items: usize, delta: &[u8]) -> Vec<u8> {
-    let later = files::form(b"ILBM", &[files::chunk(b"ANHD", &files::anhd(items, 1)), files::chunk(b"DLTA", delta)]);
-    files::form(b"ANIM", &[first_frame(sizes, 0, body), later])
+    files::form(b"ANIM", &[files::picture_form(sizes, 0, body), files::delta_form(items, 1, delta)])
 }
 
 /// One file, well formed or harmed.

@@ -1,4 +1,5 @@
 //! States and sizes at each limit and outside by one, and buffers of wrong lengths.
+use super::records::number;
 use super::Check;
 use crate::files::{self, Harm};
 use crate::pair::{Checked, Player, Twin};
@@ -26,7 +27,10 @@ fn every_call(check: &mut Check, file: &[u8], state: State) -> Checked<()> {
     {
         player.row(&mut check.pair, plane, line)?;
     }
-    let record = record(state.frame, state.next.wrapping_sub(1));
+    let mut record = Vec::new();
+    for n in [state.frame, state.next.wrapping_sub(1), 0] {
+        number(&mut record, n);
+    }
     player.step_back(&mut check.pair, &record)?;
     player.set_state(state);
     player.step_on(&mut check.pair)?;
@@ -35,19 +39,6 @@ fn every_call(check: &mut Check, file: &[u8], state: State) -> Checked<()> {
     let mut size = Twin::new("length", &[9; 8]);
     check.pair.write_delta(&mut player.a.clone(), &mut player.a, &mut out, &mut size, sizes)?;
     Ok(())
-}
-
-/// A record of no runs.
-fn record(frame: u64, place: u64) -> Vec<u8> {
-    let mut bytes = Vec::new();
-    for mut n in [frame, place, 0] {
-        while n >= 128 {
-            bytes.push(n as u8 | 128);
-            n >>= 7;
-        }
-        bytes.push(n as u8);
-    }
-    bytes
 }
 
 /// Each field at and around its limits, the others within.
@@ -97,42 +88,61 @@ pub fn places(check: &mut Check) -> Checked<()> {
     Ok(())
 }
 
-/// Each buffer of each call of a wrong length.
+/// Wrong lengths for a buffer: empty, one byte short, one long, twice as long.
+fn wrong(length: usize) -> [usize; 4] {
+    [0, length - 1, length + 1, 2 * length]
+}
+
+/// So many bytes, those given again and again.
+fn stretched(bytes: &[u8], length: usize) -> Vec<u8> {
+    bytes.iter().copied().cycle().take(length).collect()
+}
+
+/// Each buffer of each call of each wrong length.
 pub fn lengths(check: &mut Check) -> Checked<()> {
     let sizes = Sizes { width: 16, height: 2, planes: 1 };
     let film = files::film(&mut check.random, sizes, 3, Harm::None);
     let n = sizes.frame();
-    for length in [0, 1, n - 1, n + 1, 2 * n] {
-        for which in 0..7 {
-            let mut player = Player::new(&mut check.random, &film, n);
-            player.open(&mut check.pair)?;
-            spoil_length(&mut player, which, length);
+    let mut good = Player::new(&mut check.random, &film, n);
+    good.open(&mut check.pair)?;
+    let before = good.clone();
+    good.step_on(&mut check.pair)?;
+    let record = good.written();
+    for length in wrong(record.len()) {
+        good.clone().step_back(&mut check.pair, &stretched(&record, length))?;
+    }
+    for which in 0..7 {
+        let mut player = before.clone();
+        player.record.set(&record);
+        let bytes = buffer(&mut player, which).bytes().to_vec();
+        for length in wrong(bytes.len()) {
+            let mut player = player.clone();
+            buffer(&mut player, which).set(&stretched(&bytes, length));
             player.row(&mut check.pair, 0, 1)?;
             player.step_on(&mut check.pair)?;
-            player.step_back(&mut check.pair, &[2, 12, 0])?;
+            player.step_back(&mut check.pair, &record)?;
             player.open(&mut check.pair)?;
             player.step_on(&mut check.pair)?;
         }
-        for which in 0..3 {
-            writer_lengths(check, which, length)?;
-        }
     }
-    for (state, report) in [(0, 32), (47, 32), (49, 32), (48, 0), (48, 31), (48, 33), (48, 40), (96, 64)] {
-        for good in [false, true] {
-            let mut player = Player::new(&mut check.random, &film, if good { n } else { n + 1 });
-            player.state.set(&vec![1; state]);
-            player.report.set(&vec![1; report]);
-            player.open(&mut check.pair)?;
-            player.step_on(&mut check.pair)?;
-            player.step_back(&mut check.pair, &[])?;
-            player.row(&mut check.pair, 0, 0)?;
-        }
+    for length in wrong(8) {
+        before.frame_size(&mut check.pair, length)?;
     }
-    Ok(())
+    for (state, report) in [(0, 32), (47, 32), (49, 32), (96, 32), (48, 0), (48, 31), (48, 33), (48, 64), (0, 0)] {
+        let mut player = Player::new(&mut check.random, &film, n + 1);
+        player.state.set(&vec![1; state]);
+        player.report.set(&vec![1; report]);
+        player.open(&mut check.pair)?;
+        player.step_on(&mut check.pair)?;
+        player.step_back(&mut check.pair, &[])?;
+        player.row(&mut check.pair, 0, 0)?;
+    }
+    writer_lengths(check)
 }
 
-fn spoil_length(player: &mut Player, which: usize, length: usize) {
-    let twin = match which {
+/// One of a player's buffers.
+fn buffer(player: &mut Player, which: usize) -> &mut Twin {
+    match which {
         0 => &mut player.a,
         1 => &mut player.b,
         2 => &mut player.work,
@@ -140,22 +150,26 @@ fn spoil_length(player: &mut Player, which: usize, length: usize) {
         4 => &mut player.state,
         5 => &mut player.report,
         _ => &mut player.file,
-    };
-    let bytes: Vec<u8> = twin.bytes().iter().copied().cycle().take(length).collect();
-    twin.set(&bytes);
+    }
 }
 
-fn writer_lengths(check: &mut Check, which: usize, length: usize) -> Checked<()> {
-    let mut old = Twin::new("old", &[0; 4]);
-    let mut new = Twin::new("new", &[1, 2, 0, 0]);
-    let mut out = Twin::new("out", &[7; 80]);
-    let mut size = Twin::new("length", &[7; 8]);
-    match which {
-        0 => old.set(&vec![0; length]),
-        1 => new.set(&vec![0; length]),
-        _ => size.set(&vec![0; length]),
+/// The writer's buffers, of which the output is right if it is just as long as the delta.
+fn writer_lengths(check: &mut Check) -> Checked<()> {
+    let sizes = [16, 2, 1];
+    let mut good = [Twin::new("old", &[0; 4]), Twin::new("new", &[1, 2, 0, 0]), Twin::new("out", &[7; 80]), Twin::new("length", &[7; 8])];
+    let [old, new, out, length] = &mut good;
+    check.pair.write_delta(old, new, out, length, sizes)?;
+    out.set(&vec![7; usize::from(length.bytes()[0])]);
+    for which in 0..good.len() {
+        let bytes = good[which].bytes().to_vec();
+        for wanted in wrong(bytes.len()) {
+            let mut spoilt = good.clone();
+            spoilt[which].set(&stretched(&bytes, wanted));
+            let [old, new, out, length] = &mut spoilt;
+            check.pair.write_delta(old, new, out, length, sizes)?;
+        }
     }
-    check.pair.write_delta(&mut old, &mut new, &mut out, &mut size, [16, 2, 1]).map(drop)
+    Ok(())
 }
 
 /// A file as long as may be, and one byte longer, opened and stepped; its bytes are zeros that take no memory.
@@ -173,9 +187,17 @@ pub fn long_file(check: &mut Check) -> Checked<()> {
     Ok(())
 }
 
+/// Asks for the length of the frames, and opens the file.
 fn long_open(check: &mut Check, file: &[u8]) -> Checked<()> {
     let ([mut a, mut b], mut state) = ([[1; 4], [2; 4]], [5; 48]);
     let ([mut pa, mut pb], mut plain_state) = ([a, b], state);
+    let [mut size, mut plain_size] = [[6; 8]; 2];
+    let x = library::frame_size(file, &mut size);
+    let y = cover::frame_size(file, &mut plain_size);
+    check.pair.count("anim_frame_size", x);
+    if (x, size) != (y, plain_size) {
+        return Err(format!("anim_frame_size of {} bytes differs: library {x}, plain {y}", file.len()));
+    }
     let x = library::open(file, &mut a, &mut b, &mut state);
     let y = cover::open(file, &mut pa, &mut pb, &mut plain_state);
     check.pair.count("anim_open", x);

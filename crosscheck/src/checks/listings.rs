@@ -1,8 +1,10 @@
-//! The outside listings, through the library and in plain Rust.
+//! Listings through the library and in plain Rust: of the outside files, and of files at the listing program's two limits.
 use super::{play, Check};
-use crate::cover::state_in;
 use crate::pair::{Checked, Player};
-use crate::{plain, vectors};
+use crate::plain::Sizes;
+use crate::{files, plain, vectors};
+
+const TOO_LARGE: &str = "too large\n";
 
 pub fn run(check: &mut Check) -> Checked<()> {
     for vector in vectors::all()? {
@@ -14,15 +16,34 @@ pub fn run(check: &mut Check) -> Checked<()> {
         }
         play(check, &vector.file)?;
     }
+    large(check)
+}
+
+/// Files of 65,536 bytes and one more, and frames of 16,384 bytes and of one row more with a BODY that is too short.
+fn large(check: &mut Check) -> Checked<()> {
+    let sizes = Sizes { width: 1024, height: 128, planes: 1 };
+    let body = check.random.bytes(sizes.frame());
+    let whole = files::form(b"ANIM", &[files::picture_form(sizes, 0, &body)]);
+    let higher = files::form(b"ANIM", &[files::picture_form(Sizes { height: 129, ..sizes }, 0, &body)]);
+    for (file, length, wanted) in [(&whole, 65_536, "picture 1024x128x1\nend 1\n"), (&whole, 65_537, TOO_LARGE), (&higher, 65_536, TOO_LARGE)] {
+        let mut file = file.clone();
+        file.resize(length, 0);
+        for (side, listing) in [("library", list(check, &file)?), ("plain", plain::list(&file))] {
+            if listing != wanted {
+                return Err(format!("the listing of {length} bytes differs\n  wanted: {wanted}\n  {side}: {listing}"));
+            }
+        }
+    }
     Ok(())
 }
 
 /// The listing, with the library's steps.
 fn list(check: &mut Check, file: &[u8]) -> Checked<String> {
-    if file.len() > 65_536 || plain::frame_length(file).is_ok_and(|length| length > 16_384) {
-        return Ok("too large\n".into());
-    }
     let mut player = Player::fitting(&mut check.random, file);
+    let (refused, frame) = player.frame_size(&mut check.pair, 8)?;
+    if file.len() > 65_536 || refused == 0 && number(&frame, 0) > 16_384 {
+        return Ok(TOO_LARGE.into());
+    }
     let opened = player.open(&mut check.pair)?;
     if opened != 0 {
         return Ok(format!("refused {opened}\n"));
@@ -31,14 +52,19 @@ fn list(check: &mut Check, file: &[u8]) -> Checked<String> {
     let mut lines = format!("picture {}x{}x{}\n", state.width, state.height, state.planes);
     loop {
         let answer = player.step_on(&mut check.pair)?;
-        let frame = state_in(player.state.bytes()).frame;
+        let frame = player.now().frame;
         match answer {
             0 => {
-                let n = |k: usize| u64::from_le_bytes(player.report.bytes()[8 * k..8 * k + 8].try_into().expect("eight bytes"));
+                let n = |k| number(player.report.bytes(), k);
                 lines += &format!("frame {frame} method {} time {} changed {} record {}\n", n(0), n(1), n(2), n(3));
             }
             1 => return Ok(lines + &format!("end {frame}\n")),
             refusal => return Ok(lines + &format!("refused {refusal}\n")),
         }
     }
+}
+
+/// The number at such a place of numbers of eight bytes.
+fn number(bytes: &[u8], k: usize) -> u64 {
+    u64::from_le_bytes(bytes[8 * k..8 * k + 8].try_into().expect("eight bytes"))
 }

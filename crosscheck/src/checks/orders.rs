@@ -74,20 +74,20 @@ fn header(set: u32) -> Vec<u8> {
     header
 }
 
-/// A delta of two columns with its things wrong: an item missing, a count of 0, an op past the last row, a bad pointer.
+/// A delta of two columns with its things wrong: the last item missing, a Same of none, an op past the last row, a pointer into the pointers.
 fn delta(set: u32) -> Vec<u8> {
     let mut delta = vec![0; 64];
     delta[3] = if has(set, 8) { 63 } else { 64 };
     delta.extend([1, 0x82, 1, 2]);
-    if has(set, 6) {
-        delta.extend([2, 0x80, 1]);
-    } else if has(set, 7) {
-        delta.extend([2, 1, 0x82, 1, 2]);
-    } else {
-        delta.extend([1, 0x82, 3, 4]);
-    }
+    let column: &[u8] = match (has(set, 6), has(set, 7)) {
+        (false, false) => &[1, 0x82, 3, 4],
+        (true, false) => &[1, 0, 0, 3],
+        (false, true) => &[2, 1, 0x82, 3, 4],
+        (true, true) => &[2, 0x83, 3, 4, 5, 0, 0, 6],
+    };
+    delta.extend(column);
     if has(set, 5) {
-        delta.truncate(65);
+        delta.pop();
     }
     delta
 }

@@ -112,7 +112,8 @@ pub fn made_up(check: &mut Check, player: &Player) -> Vec<u8> {
     record
 }
 
-fn number(out: &mut Vec<u8>, mut n: u64) {
+/// Puts a number behind what is there.
+pub fn number(out: &mut Vec<u8>, mut n: u64) {
     while n >= 128 {
         out.push(n as u8 | 128);
         n >>= 7;

@@ -1,4 +1,4 @@
-//! The writer on equal, random, striped and noisy pictures, most of them tall.
+//! The writer on pictures that are equal, differ in one bit, or are random, striped or noisy, most of them tall.
 use super::damaged::two_frames;
 use super::Check;
 use crate::files;
@@ -19,7 +19,7 @@ pub fn pictures(check: &mut Check) -> Checked<()> {
         _ => files::tall_sizes(random),
     };
     let (old, new) = match random.below(8) {
-        0 => equal(random, sizes),
+        0 => nearly_equal(random, sizes),
         1 => (random.bytes(sizes.frame()), random.bytes(sizes.frame())),
         2 => some_changed(random, sizes),
         3 => every_other_row(random, sizes),
@@ -57,7 +57,8 @@ fn turns_into(check: &mut Check, sizes: Sizes, old: &[u8], new: &[u8], delta: &[
     Ok(())
 }
 
-fn equal(random: &mut Random, sizes: Sizes) -> (Vec<u8>, Vec<u8>) {
+/// Equal pictures, or two that differ in one bit.
+fn nearly_equal(random: &mut Random, sizes: Sizes) -> (Vec<u8>, Vec<u8>) {
     let old = random.bytes(sizes.frame());
     let mut new = old.clone();
     if random.once_in(2) {

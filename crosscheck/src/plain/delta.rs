@@ -101,9 +101,8 @@ fn walk<'a, const W: usize>(dlta: &'a [u8], sizes: Sizes, mut put: impl FnMut(Pu
 /// What stands from a pointer's place on.
 fn list_at(dlta: &[u8], pointer: usize) -> Answer<&[u8]> {
     let at = be32(&dlta[4 * pointer..]) as usize;
-    let zero_passes = broken("pointer-below-64") || pointer >= 8 && broken("data-pointer-0");
-    let least = if zero_passes { 0 } else { 64 };
-    need((least..=dlta.len()).contains(&at), BadPointer)?;
+    let low = broken("pointer-below-64") || at == 0 && pointer >= 8 && broken("data-pointer-0");
+    need((64..=dlta.len()).contains(&at) || at < 64 && low, BadPointer)?;
     need(at < dlta.len() || !broken("pointer-at-end"), BadPointer)?;
     Ok(&dlta[at..])
 }
@@ -125,11 +124,15 @@ fn walk_plane<'a, const W: usize>(mut ops: &'a [u8], mut data: &'a [u8], sizes: 
                 _ => op - 128,
             };
             need(rows > 0, ZeroCount)?;
+            let list = if W == 1 { &mut ops } else { &mut data };
+            if broken("items-before-last-row") {
+                let items = [W, 0, rows * W][usize::from(op > 0) + usize::from(op > 127)];
+                need(items <= list.len(), DeltaTooShort)?;
+            }
             let passes = y + rows > sizes.height;
             need(!passes || (1..=127).contains(&op) && broken("skip-past-last-row"), OpPastLastRow)?;
             let at = at + y * row + column * W;
             y += rows;
-            let list = if W == 1 { &mut ops } else { &mut data };
             match op {
                 0 => put(Put::Same { at, rows, item: take(list, W)? }),
                 1..=127 => (),

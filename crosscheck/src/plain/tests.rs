@@ -1,6 +1,7 @@
 //! The bench examples of document 01 that are about parts, and the outside listings.
 use super::delta::{check, draw, Items};
 use super::*;
+use crate::files;
 
 const SMALL: Sizes = Sizes { width: 16, height: 2, planes: 1 };
 
@@ -17,6 +18,30 @@ fn drawn(list: &[u8]) -> Answer<Vec<u8>> {
     check(&delta_of(list), SMALL, Items::Bytes)?;
     draw(&delta_of(list), SMALL, Items::Bytes, &mut frame)?;
     Ok(frame)
+}
+
+/// A packed row of two bytes in a file, opened.
+fn unpacked(body: &[u8]) -> Answer<[u8; 2]> {
+    let sizes = Sizes { width: 16, height: 1, planes: 1 };
+    let file = files::form(b"ANIM", &[files::picture_form(sizes, 1, body)]);
+    let (mut a, mut b) = ([1; 2], [2; 2]);
+    open(&file, &mut a, &mut b).map(|_| a)
+}
+
+#[test]
+fn numbers_of_a_record() {
+    let mut out = [0xee; 5];
+    assert_eq!(record::write(&[7; 4], &[7; 4], 300, 127, &mut out).unwrap().length, 4);
+    assert_eq!(out, [0xac, 2, 0x7f, 0, 0xee]);
+    let past = record::read(&out[..4], &[7; 4]).unwrap();
+    assert_eq!((past.frame, past.place), (300, 127));
+    assert_eq!(record::read(&[0x80, 0, 64, 0], &[7; 4]).err(), Some(BadRecord));
+}
+
+#[test]
+fn rows_of_byte_run_1() {
+    assert_eq!(unpacked(&[0x80, 0xff, 7]), Ok([7, 7]));
+    assert_eq!(unpacked(&[2, 1, 2, 3]), Err(BadBody));
 }
 
 #[test]
@@ -57,7 +82,6 @@ fn record_of_a_step() {
     let mut back = new;
     past.put_back(&mut back);
     assert_eq!(back, old);
-    assert!(record::read(&[0x80, 0, 64, 0], &new).is_err());
 }
 
 #[test]
