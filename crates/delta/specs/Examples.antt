@@ -1,4 +1,4 @@
--- Document 01's examples P2 to P8 and more: a picture of 16 × 2 pixels, one plane, B = 2, four zero bytes to start; lists stand at 64.
+-- Deltas on a picture of 16 × 2 pixels, one plane, B = 2, four zero bytes to start; lists stand at 64.
 use Prim.Native.Nat.{ℕ}
 use mathlib.Core.Path.{_≡_, refl}
 use mathlib.Core.List.{List, [], _∷_, _++_}
@@ -20,24 +20,10 @@ bytes d = newFrame (record { width = 16; height = 2; planes = 1 }) Bytes d (repl
 abbrev shorts : List ℕ → Res (List ℕ)
 shorts d = newFrame (record { width = 16; height = 2; planes = 1 }) Shorts d (replicate 4 0) 4
 
--- P2 to P7
-p2-to-p7 : (bytes (delta 64 0 (1 ∷ 130 ∷ 170 ∷ 187 ∷ 0 ∷ []))
-    ∷ bytes (delta 64 0 (1 ∷ 0 ∷ 2 ∷ 204 ∷ 0 ∷ []))
-    ∷ bytes (delta 64 0 (2 ∷ 1 ∷ 129 ∷ 221 ∷ 0 ∷ []))
-    ∷ bytes (delta 64 0 (1 ∷ 2 ∷ 0 ∷ []))
-    ∷ bytes (delta 64 0 (1 ∷ 3 ∷ 0 ∷ []))
-    ∷ bytes (delta 64 0 (1 ∷ 130 ∷ 170 ∷ 187 ∷ []))
-    ∷ bytes (delta 63 0 (1 ∷ 2 ∷ 0 ∷ []))
-    ∷ bytes (delta 64 0 [])
-    ∷ [])
-    ≡ (ok (170 ∷ 0 ∷ 187 ∷ 0 ∷ []) ∷ ok (204 ∷ 0 ∷ 204 ∷ 0 ∷ []) ∷ ok (0 ∷ 0 ∷ 221 ∷ 0 ∷ []) ∷ ok (0 ∷ 0 ∷ 0 ∷ 0 ∷ []) ∷ fault 43 ∷ fault 42 ∷ fault 41 ∷ fault 42 ∷ [])
+-- a data pointer of 0 beside a list pointer that isn't
+no-data-pointer : shorts (delta 64 0 (1 ∷ 130 ∷ 170 ∷ 17 ∷ 187 ∷ 34 ∷ [])) ≡ fault 41
 unfolding newFrame readFrame readDelta readPicture readPlanes readPlane pointer readColumns readColumn readOps readOp byteAt skip fill draw put frameLength frameBytes rowBytes be32
-p2-to-p7 = refl
-
--- P8; and a data pointer of 0 beside a list pointer that isn't
-p8 : (shorts (delta 64 66 (1 ∷ 130 ∷ 170 ∷ 17 ∷ 187 ∷ 34 ∷ [])) ∷ shorts (delta 64 0 (1 ∷ 130 ∷ 170 ∷ 17 ∷ 187 ∷ 34 ∷ [])) ∷ []) ≡ (ok (170 ∷ 17 ∷ 187 ∷ 34 ∷ []) ∷ fault 41 ∷ [])
-unfolding newFrame readFrame readDelta readPicture readPlanes readPlane pointer readColumns readColumn readOps readOp byteAt skip fill draw put frameLength frameBytes rowBytes be32
-p8 = refl
+no-data-pointer = refl
 
 -- the data list runs on through the columns: two columns of two bytes, one row
 runs-on : newFrame (record { width = 32; height = 1; planes = 1 }) Shorts (delta 64 68 (1 ∷ 129 ∷ 1 ∷ 129 ∷ 1 ∷ 2 ∷ 3 ∷ 4 ∷ [])) (replicate 4 0) 4 ≡ ok (1 ∷ 2 ∷ 3 ∷ 4 ∷ [])
@@ -50,7 +36,7 @@ in-order : (bytes (delta 64 0 (1 ∷ 0 ∷ [])) ∷ bytes (delta 64 0 (1 ∷ 0 �
 unfolding newFrame readFrame readDelta readPicture readPlanes readPlane pointer readColumns readColumn readOps readOp byteAt skip fill draw put frameLength frameBytes rowBytes be32
 in-order = refl
 
--- P4 has two ops
+-- a Skip and a Uniq
 counted : opCount (record { width = 16; height = 2; planes = 1 }) Bytes (delta 64 0 (2 ∷ 1 ∷ 129 ∷ 221 ∷ 0 ∷ [])) (replicate 4 0) 4 ≡ ok 2
 unfolding opCount readFrame readDelta readPicture readPlanes readPlane pointer readColumns readColumn readOps readOp byteAt skip fill frameLength frameBytes rowBytes be32
 counted = refl

@@ -5,8 +5,8 @@ use mathlib.Core.Path.{_≡_}
 use mathlib.Core.List.{List}
 use mathlib.Core.Option.{Option, none, some}
 use lib.Dec.{leb, eqb}
-use lib.ListN.{length, take, drop, length-take, length-drop}
-use borrow.Author.Tests.{leb-true, le-leb}
+use lib.ListN.{length, length-take, length-drop}
+use borrow.Author.Tests.{leb-true}
 use Rattle.laws.specs.Result.{Res, Res.ok, Res.fault}
 use Rattle.laws.specs.ResultLaws.{Each, Each.each, Each.no-value, each-need, each-ok, each-pick, All, All.all-some, All.all-none, all-value, each-some}
 use Rattle.laws.specs.Loop.{Step.next}

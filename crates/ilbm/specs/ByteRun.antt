@@ -55,15 +55,6 @@ unfoldable pub unpackRow : List ℕ → ℕ → ℕ → Res Row
 unfolding runs
 unpackRow s B at = runs (unpackOn s B) (λ (w : Row). length s - w .next) (fault 25) (record { bytes = []; next = at })
 
--- P9: the row 80 FF 07 is 07 07, and the row 02 .. is refused
-row-repeated : unpackRow (0x80 ∷ 0xFF ∷ 0x07 ∷ []) 2 0 ≡ ok (record { bytes = 0x07 ∷ 0x07 ∷ []; next = 3 })
-unfolding unpackRow runs packetAt
-row-repeated = refl
-
-row-passed : unpackRow (0x02 ∷ 0x01 ∷ 0x01 ∷ 0x01 ∷ []) 2 0 ≡ fault 25
-unfolding unpackRow runs packetAt
-row-passed = refl
-
 -- a BODY that ends in 128s with a row open
 row-open : unpackRow (0x80 ∷ 0x80 ∷ []) 2 0 ≡ fault 25
 unfolding unpackRow runs packetAt

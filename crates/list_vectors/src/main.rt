@@ -1,4 +1,4 @@
-// Lists the outside vectors of document 01, data/001.anim to data/058.anim, each under its name.
+// Lists the outside vectors, data/001.anim to data/058.anim, each under its name.
 use listing::list;
 
 // Lists one file.

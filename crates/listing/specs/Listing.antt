@@ -79,7 +79,7 @@ opens file a b work rec = shows file (length work) (length rec) (blank a b work 
 abbrev pub ROOM : ℕ
 ROOM = 65_536
 
--- the same of the first n bytes of A, B and the work buffer, and of ROOM bytes of the record buffer; the bytes behind them stay
+-- with the first n bytes of A, B and the work buffer, and ROOM bytes of the record buffer; the bytes after them stay
 abbrev pub front : ℕ → Scene → Scene
 front n c = record {
   world = record { a = take n (c .world .a); b = take n (c .world .b); state = c .world .state };

@@ -78,19 +78,7 @@ abbrev pub writtenOf : Written → Option ℕ
 writtenOf (Next at) = some at
 writtenOf NoRoom = none
 
--- P1: 300 is AC 02, 127 is 7F, and 80 00 is malformed
-written-300 : writeNumber 300 ≡ 0xAC ∷ 0x02 ∷ []
-unfolding writeNumber writeGroups
-written-300 = refl
-
-written-127 : writeNumber 127 ≡ 0x7F ∷ []
-unfolding writeNumber writeGroups
-written-127 = refl
-
-not-shortest : readNumber (0x80 ∷ 0x00 ∷ []) ≡ none
-unfolding readNumber groups lastGroup
-not-shortest = refl
-
+-- 2^32 is too large, and the number below it is the largest
 too-large : readNumber (0x80 ∷ 0x80 ∷ 0x80 ∷ 0x80 ∷ 0x10 ∷ []) ≡ none
 unfolding readNumber groups lastGroup
 too-large = refl

@@ -16,7 +16,6 @@ use Rattle.refusal.specs.Number.{numberOf}
 use Rattle.refusal.specs.declared.Refusal.{Refusal}
 use Rattle.state.specs.declared.State.{State}
 use Rattle.state.specs.State.{opened}
-use Rattle.iff.specs.Chunk.{contents}
 use Rattle.iff.specs.Both.{hasBoth}
 use Rattle.form.specs.Form.{Frame, chunksOf, animEnd, nextFrame}
 use Rattle.form.specs.FormLaws.{Closes, anim-closes, Follows, frame-follows}

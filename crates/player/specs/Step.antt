@@ -43,12 +43,15 @@ pub record Made : Type 0 where
   pub report : Report
   pub bytes : List ℕ
 
+-- what is reported of a frame that makes f of the hidden picture
 abbrev pub reportOf : State → Frame → List ℕ → List ℕ → Report
 reportOf s x hidden f = record { method = x .header .method; time = x .header .time; changed = differing hidden f; length = length (recordBytes (suc (s .frame)) (s .next) hidden f) }
 
+-- the step to a frame that makes f of the hidden picture
 unfoldable pub makes : State → Frame → List ℕ → List ℕ → Made
 makes s x hidden f = record { picture = f; next = x .next; report = reportOf s x hidden f; bytes = recordBytes (suc (s .frame)) (s .next) hidden f }
 
+-- the step to a frame, if there is one
 abbrev pub make : State → List ℕ → List ℕ → Option Frame → Res (Option Made)
 make s shown hidden none = ok none
 make s shown hidden (some x) = change (s .sizes) x shown hidden >>= λ f. ok (some (makes s x hidden f))

@@ -1,4 +1,5 @@
--- Worked examples: P10's record of a step from four zero bytes to AA 00 BB 00, written, read back, and refused where it is altered.
+-- P10's record of a step from four zero bytes to AA 00 BB 00, frame 2 reached, the frame FORM at 64: measured, read back, and refused
+-- where it is altered.
 use Prim.Native.Nat.{ℕ}
 use mathlib.Core.List.{List, [], _∷_, map}
 use mathlib.Core.Option.{none, some}
@@ -17,11 +18,6 @@ reached = 0xAA ∷ 0x00 ∷ 0xBB ∷ 0x00 ∷ []
 
 p10 : List ℕ
 p10 = 0x02 ∷ 0x40 ∷ 0x02 ∷ 0x00 ∷ 0x01 ∷ 0x00 ∷ 0x01 ∷ 0x01 ∷ 0x00 ∷ []
-
--- frame 2 reached, the frame FORM at 64
-p10-written : recordBytes 2 64 zeros reached ≡ p10
-unfolding zeros reached p10 recordBytes writeNumber writeGroups kept changed runsOf runBytes runsBytes listBytes
-p10-written = refl
 
 -- into a buffer of nine bytes, and of eight
 p10-measured : map (written 2 64 zeros reached) (9 ∷ 8 ∷ []) ≡ ok (record { length = 9; changed = 2 }) ∷ fault 51 ∷ []
