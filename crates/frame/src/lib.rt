@@ -33,7 +33,7 @@ fn frame_in(anim: &[u8], start: usize, len: usize, next: usize, row: usize) -> N
 {
     let end = start + len;
     let chunks = &anim[start..end];
-    let b = iff::find_both(chunks, ANHD, DLTA);
+    let b = iff::has_both(chunks, ANHD, DLTA);
     match b {
         Both::Broken(why) => Next::Refused(why),
         Both::Missing => Next::Refused(Refusal::NoDelta),

@@ -108,7 +108,7 @@ pub fn contents(s: &[u8], wanted: usize) -> &[u8]
 }
 
 // Whether a parent has a chunk of each of two ids.
-pub fn find_both(s: &[u8], first: usize, second: usize) -> Both
+pub fn has_both(s: &[u8], first: usize, second: usize) -> Both
     ensures { λ r. ⌜ bothOf r ≡ hasBoth first second (now (s .entry)) ⌝ }
 {
     let p = find(s, first);

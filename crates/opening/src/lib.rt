@@ -76,7 +76,7 @@ fn places_in(anim: &[u8]) -> Places
         Form::Last => Places::Nowhere(Refusal::NoPicture),
         Form::Ilbm { start, len, next } => {
             let stop = start + len;
-            let p = iff::find_both(&anim[start..stop], BMHD, BODY);
+            let p = iff::has_both(&anim[start..stop], BMHD, BODY);
             match p {
                 Both::Broken(why) => Places::Nowhere(why),
                 Both::Missing => Places::Nowhere(Refusal::NoPicture),

@@ -19,8 +19,8 @@ part-chunks-start c = search needs
 part-chunks-end : tie.Need-part-chunks-end
 part-chunks-end c = search needs
 
-find-both-requires : tie.Need-find-both-requires
-find-both-requires c κs = search needs
+has-both-requires : tie.Need-has-both-requires
+has-both-requires c κs = search needs
 
 enum-known-b : tie.Need-enum-known-b
 enum-known-b c = search needs
@@ -44,16 +44,16 @@ enum-known-h-2 : tie.Need-enum-known-h-2
 enum-known-h-2 c = search needs
 
 returns : tie.Need-returns
-returns c = let k = c .before .before .before .before .before .before .args in in-broken (k .anim .now) (k .row) (k .start) (k .len) (k .next) (told bothOf (c .before .before .before .find-both .ensures) (c .before .b .given .1))
+returns c = let k = c .before .before .before .before .before .before .args in in-broken (k .anim .now) (k .row) (k .start) (k .len) (k .next) (told bothOf (c .before .before .before .has-both .ensures) (c .before .b .given .1))
 
 returns-2 : tie.Need-returns-2
-returns-2 c = let k = c .before .before .before .before .before .args in in-missing (k .anim .now) (k .row) (k .start) (k .len) (k .next) (told bothOf (c .before .before .find-both .ensures) (c .enum-told .given .1))
+returns-2 c = let k = c .before .before .before .before .before .args in in-missing (k .anim .now) (k .row) (k .start) (k .len) (k .next) (told bothOf (c .before .before .has-both .ensures) (c .enum-told .given .1))
 
 returns-3 : tie.Need-returns-3
-returns-3 c = let k = c .before .before .before .before .before .before .before .before .before .before .args in in-unread (k .anim .now) (k .row) (k .start) (k .len) (k .next) (told bothOf (c .before .before .before .before .before .before .before .find-both .ensures) (c .before .before .before .before .before .enum-told2 .given .1)) (c .before .before .before .before .contents .ensures) (told anhdOf (c .before .before .before .read-header .ensures) (c .before .h .given .1))
+returns-3 c = let k = c .before .before .before .before .before .before .before .before .before .before .args in in-unread (k .anim .now) (k .row) (k .start) (k .len) (k .next) (told bothOf (c .before .before .before .before .before .before .before .has-both .ensures) (c .before .before .before .before .before .enum-told2 .given .1)) (c .before .before .before .before .contents .ensures) (told anhdOf (c .before .before .before .read-header .ensures) (c .before .h .given .1))
 
 returns-4 : tie.Need-returns-4
-returns-4 c = let k = c .before .before .before .before .before .before .before .before .before .before .args in in-later (k .anim .now) (k .row) (k .start) (k .len) (k .next) (told bothOf (c .before .before .before .before .before .before .before .find-both .ensures) (c .before .before .before .before .before .enum-told2 .given .1)) (c .before .before .before .before .contents .ensures) (told anhdOf (c .before .before .before .read-header .ensures) (c .before .h2 .given .1))
+returns-4 c = let k = c .before .before .before .before .before .before .before .before .before .before .args in in-later (k .anim .now) (k .row) (k .start) (k .len) (k .next) (told bothOf (c .before .before .before .before .before .before .before .has-both .ensures) (c .before .before .before .before .before .enum-told2 .given .1)) (c .before .before .before .before .contents .ensures) (told anhdOf (c .before .before .before .read-header .ensures) (c .before .h2 .given .1))
 
 pub frame-in-spec : {M : Type 1} → statement M
 frame-in-spec =
@@ -63,7 +63,7 @@ frame-in-spec =
     sub-chunks
     part-chunks-start
     part-chunks-end
-    find-both-requires
+    has-both-requires
     enum-known-b
     enum-told
     enum-told-2

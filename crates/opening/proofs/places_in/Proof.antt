@@ -25,17 +25,17 @@ enum-known-f-2 c = search needs
 add-stop : tie.Need-add-stop
 add-stop c = let k : Follows _ _ _ = each-some (told formOf (c .before .before .before .next-form .ensures) (c .before .f2 .given .1)) (frame-follows _ _) in omega (arith, k .holds, k .ends)
 
-sub-find-both : tie.Need-sub-find-both
-sub-find-both c = search needs
+sub-has-both : tie.Need-sub-has-both
+sub-has-both c = search needs
 
-part-find-both-start : tie.Need-part-find-both-start
-part-find-both-start c = search needs
+part-has-both-start : tie.Need-part-has-both-start
+part-has-both-start c = search needs
 
-part-find-both-end : tie.Need-part-find-both-end
-part-find-both-end c = let k : Follows _ _ _ = each-some (told formOf (c .before .before .before .next-form .ensures) (c .before .f2 .given .1)) (frame-follows _ _) in omega (arith, k .holds, k .ends)
+part-has-both-end : tie.Need-part-has-both-end
+part-has-both-end c = let k : Follows _ _ _ = each-some (told formOf (c .before .before .before .next-form .ensures) (c .before .f2 .given .1)) (frame-follows _ _) in omega (arith, k .holds, k .ends)
 
-find-both-requires : tie.Need-find-both-requires
-find-both-requires c κs = search needs
+has-both-requires : tie.Need-has-both-requires
+has-both-requires c κs = search needs
 
 enum-known-p : tie.Need-enum-known-p
 enum-known-p c = search needs
@@ -53,13 +53,13 @@ returns-2 : tie.Need-returns-2
 returns-2 c = sym (anim-empty _ (told formOf (c .before .before .next-form .ensures) (c .enum-told .given .1)))
 
 returns-3 : tie.Need-returns-3
-returns-3 c = sym (form-broken _ _ _ _ (told formOf (c .before .before .before .before .before .before .before .before .next-form .ensures) (c .before .before .before .before .before .before .f2 .given .1)) (told bothOf (c .before .before .before .find-both .ensures) (c .before .p .given .1)))
+returns-3 c = sym (form-broken _ _ _ _ (told formOf (c .before .before .before .before .before .before .before .before .next-form .ensures) (c .before .before .before .before .before .before .f2 .given .1)) (told bothOf (c .before .before .before .has-both .ensures) (c .before .p .given .1)))
 
 returns-4 : tie.Need-returns-4
-returns-4 c = sym (form-missing _ _ _ _ (told formOf (c .before .before .before .before .before .before .before .next-form .ensures) (c .before .before .before .before .before .f2 .given .1)) (told bothOf (c .before .before .find-both .ensures) (c .enum-told2 .given .1)))
+returns-4 c = sym (form-missing _ _ _ _ (told formOf (c .before .before .before .before .before .before .before .next-form .ensures) (c .before .before .before .before .before .f2 .given .1)) (told bothOf (c .before .before .has-both .ensures) (c .enum-told2 .given .1)))
 
 returns-5 : tie.Need-returns-5
-returns-5 c = sym (form-whole _ _ _ _ (told formOf (c .before .before .before .before .before .before .before .next-form .ensures) (c .before .before .before .before .before .f2 .given .1)) (told bothOf (c .before .before .find-both .ensures) (c .enum-told3 .given .1)))
+returns-5 c = sym (form-whole _ _ _ _ (told formOf (c .before .before .before .before .before .before .before .next-form .ensures) (c .before .before .before .before .before .f2 .given .1)) (told bothOf (c .before .before .has-both .ensures) (c .enum-told3 .given .1)))
 
 pub places-in-spec : {M : Type 1} → statement M
 places-in-spec =
@@ -70,10 +70,10 @@ places-in-spec =
     enum-told
     enum-known-f-2
     add-stop
-    sub-find-both
-    part-find-both-start
-    part-find-both-end
-    find-both-requires
+    sub-has-both
+    part-has-both-start
+    part-has-both-end
+    has-both-requires
     enum-known-p
     enum-told-2
     enum-told-3

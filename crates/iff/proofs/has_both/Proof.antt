@@ -1,10 +1,10 @@
--- `iff::find_both`: what each search comes to.
+-- `iff::has_both`: what each search comes to.
 use Rattle.iff.specs.Both.{hasBoth}
 use Rattle.iff.specs.Chunk.{foundOf}
 use Rattle.laws.specs.ResultLaws.{told}
 use borrow.Author.Needs.{needs}
-use Rattle.iff.proofs.find_both.Statement.{statement}
-use Rattle.iff.proofs.find_both.Tie as tie
+use Rattle.iff.proofs.has_both.Statement.{statement}
+use Rattle.iff.proofs.has_both.Tie as tie
 
 find-requires : tie.Need-find-requires
 find-requires c κs = search needs
@@ -50,8 +50,8 @@ returns-5 : tie.Need-returns-5
 unfolding hasBoth
 returns-5 c = simp (told foundOf (c .before .before .before .before .before .find .ensures) (c .before .before .before .enum-told2 .given .1), told foundOf (c .before .before .find2 .ensures) (c .enum-told4 .given .1))
 
-pub find-both-spec : {M : Type 1} → statement M
-find-both-spec =
+pub has-both-spec : {M : Type 1} → statement M
+has-both-spec =
     tie.close
     (tie.spec
     find-requires
