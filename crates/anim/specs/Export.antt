@@ -11,7 +11,8 @@ use lib.ListN.{length, drop}
 use Rattle.laws.specs.Result.{Res, Res.ok, Res.fault, pick}
 use Rattle.state.specs.declared.State.{State}
 use Rattle.state.specs.declared.Sizes.{Sizes}
-use Rattle.opening.specs.Open.{Film, firstSize, opening, stateAfter, pictureAfter}
+use Rattle.state.specs.Film.{Film}
+use Rattle.opening.specs.Open.{firstSize, opening, stateAfter, pictureAfter}
 use Rattle.player.specs.declared.SteppedOn.{SteppedOn}
 use Rattle.state.specs.World.{World}
 use Rattle.state.specs.Outcome.{Answer, Answer.refused, Answer.ended, Answer.tookOn, Answer.tookBack, After}

@@ -1,4 +1,5 @@
--- The examples P1 to P11 (document 01, "Bench examples"), in its order, as rows of one table under one proof about the definitions. The picture is 16 × 2, one plane, B = 2, four zero bytes to start. Lists stand at 64.
+-- The examples P1 to P11 (document 01, "Bench examples"), in its order, as rows of one table under one proof about the definitions.
+-- The picture is 16 × 2, one plane, B = 2, four zero bytes to start. Lists stand at 64.
 use Prim.Native.Nat.{ℕ}
 use mathlib.Core.List.{List, [], _∷_, _++_, map}
 use mathlib.Core.Path.{_≡_, refl}

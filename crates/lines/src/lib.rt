@@ -2,8 +2,7 @@
 ghost use mathlib.Core.List.{[], _∷_, _++_};
 ghost use Prim.Native.Nat.{_≤_, min};
 ghost use lib.ListN.{length};
-ghost use Rattle.lines.specs.Lines.{decimal, refusedLine, endLine, pictureLine, frameLine, lineOf, Adds};
-ghost use Rattle.refusal.specs.Number.{numberOf};
+ghost use Rattle.lines.specs.Lines.{decimal, newline, pictureLine, frameLine, lineOf, Adds};
 use buffer::copy;
 use refusal::Refusal;
 use state::Sizes;
@@ -71,22 +70,12 @@ fn put_field(out: &mut [u8], at: usize, word: &[u8], number: usize) -> usize
     put_number(out, next, number)
 }
 
-// Adds the last line of a file that is refused.
-fn put_refused(out: &mut [u8], at: usize, why: Refusal) -> usize
+// Adds a last line: a word and a number.
+fn put_last(out: &mut [u8], at: usize, word: &[u8], number: usize) -> usize
     requires { ⌜ at ≤ length (now out) ⌝ }
-    ensures { λ r. ⌜ Adds (now (out .entry)) at (refusedLine (numberOf why)) (now (out .exit)) r ⌝ }
+    ensures { λ r. ⌜ Adds (now (out .entry)) at ((now (word .entry) ++ decimal number) ++ newline) (now (out .exit)) r ⌝ }
 {
-    let number = why.number();
-    let next = put_field(out, at, b"refused ", number as usize);
-    put_byte(out, next, b'\n')
-}
-
-// Adds the last line of a file that ends at a frame.
-fn put_end(out: &mut [u8], at: usize, frame: usize) -> usize
-    requires { ⌜ at ≤ length (now out) ⌝ }
-    ensures { λ r. ⌜ Adds (now (out .entry)) at (endLine frame) (now (out .exit)) r ⌝ }
-{
-    let next = put_field(out, at, b"end ", frame);
+    let next = put_field(out, at, word, number);
     put_byte(out, next, b'\n')
 }
 
@@ -140,7 +129,10 @@ pub fn put_line(out: &mut [u8], at: usize, line: Line) -> usize
             changed,
             record,
         } => put_frame(out, at, frame, method, time, changed, record),
-        Line::End(frame) => put_end(out, at, frame),
-        Line::Refused(why) => put_refused(out, at, why),
+        Line::End(frame) => put_last(out, at, b"end ", frame),
+        Line::Refused(why) => {
+            let number = why.number();
+            put_last(out, at, b"refused ", number as usize)
+        }
     }
 }

@@ -13,7 +13,8 @@ use Rattle.laws.specs.ResultLaws.{two-true}
 use Rattle.laws.specs.Loop.{Step.next, Step.done, run, runs}
 use Rattle.laws.specs.Store.{over}
 use Rattle.opening.specs.declared.OpenedFile.{OpenedFile}
-use Rattle.opening.specs.Open.{Film, MeetsOpen, openingOf, pictureAfter, stateAfter, opening, firstSize}
+use Rattle.state.specs.Film.{Film}
+use Rattle.opening.specs.Open.{MeetsOpen, openingOf, pictureAfter, stateAfter, opening, firstSize}
 use Rattle.state.specs.World.{World}
 use Rattle.state.specs.Outcome.{Answer, Answer.refused, Answer.ended, Answer.tookOn, Answer.tookBack}
 use Rattle.player.specs.Step.{stepOn}

@@ -11,7 +11,8 @@ use Rattle.laws.specs.Result.{Res, Res.ok, Res.fault, pick}
 use Rattle.laws.specs.Loop.{Step, Step.next, Step.done, runs}
 use Rattle.laws.specs.Store.{over}
 use Rattle.state.specs.State.{opened}
-use Rattle.opening.specs.Open.{Film, opening, firstSize, zeros}
+use Rattle.state.specs.Film.{Film}
+use Rattle.opening.specs.Open.{opening, firstSize, zeros}
 use Rattle.state.specs.World.{World}
 use Rattle.state.specs.Outcome.{Answer, Answer.refused, Answer.ended, Answer.tookOn, Answer.tookBack, After}
 use Rattle.player.specs.Step.{stepOn, workAfter}

@@ -23,7 +23,8 @@ use Rattle.delta.specs.Delta.{shapeOf}
 use Rattle.delta.specs.DeltaLaws.{draw-length}
 use Rattle.frame.specs.Frame.{Frame, frameAt}
 use Rattle.frame.specs.FrameLaws.{frame-rises}
-use Rattle.opening.specs.Open.{Film, bmhdAt, bodyAt, firstSize, firstOf, opening, First}
+use Rattle.state.specs.Film.{Film}
+use Rattle.opening.specs.Open.{bmhdAt, bodyAt, firstSize, firstOf, opening, First}
 use Rattle.opening.specs.OpenLaws.{places-lie}
 use Rattle.state.specs.World.{World, isOdd, shownOf, hiddenOf}
 use Rattle.state.specs.Outcome.{Answer.refused, Answer.tookOn, Outcome, After}

@@ -11,7 +11,8 @@ use lib.ListN.{length, take}
 use Rattle.laws.specs.Result.{Res, Res.ok, Res.fault, _>>=_, pick, answer}
 use Rattle.laws.specs.ResultLaws.{none-some, some-same}
 use Rattle.opening.specs.declared.OpenedFile.{OpenedFile}
-use Rattle.opening.specs.Open.{Film, opening, zeros, stateAfter, pictureAfter, openingOf, MeetsOpen}
+use Rattle.state.specs.Film.{Film}
+use Rattle.opening.specs.Open.{opening, zeros, stateAfter, pictureAfter, openingOf, MeetsOpen}
 use Rattle.record.specs.Record.{Past}
 use Rattle.player.specs.declared.SteppedOn.{SteppedOn}
 use Rattle.back.specs.declared.SteppedBack.{SteppedBack}

@@ -21,10 +21,11 @@ use Rattle.state.specs.Outcome.{Answer, Answer.refused, Answer.ended, Answer.to
 use Rattle.player.specs.Step.{onOf, MeetsOn, stepOn}
 use Rattle.back.specs.Back.{MeetsBack, stepBack}
 use Rattle.opening.specs.declared.OpenedFile.{OpenedFile}
-use Rattle.opening.specs.Open.{Film as OpenedFilm, opening, stateAfter, pictureAfter, openingOf, MeetsOpen}
-use Rattle.model.specs.Model.{Call, Seen, Film, here, built, placeAt, picture, recordAt, stands, reportAt, answerFor, answerAt, answerOn, answerFirst, moved, leaves, model, modelOf}
+use Rattle.state.specs.Film.{Film}
+use Rattle.opening.specs.Open.{opening, stateAfter, pictureAfter, openingOf, MeetsOpen}
+use Rattle.model.specs.Model.{Call, Seen, here, built, placeAt, picture, recordAt, stands, reportAt, answerFor, answerAt, answerOn, answerFirst, moved, leaves, model, modelOf}
 use Rattle.model.specs.Trace.{given, recordIn, untaken, seenOn, seenBack, Trace, Trace.none-left, Trace.stepped-on, Trace.stepped-back}
-use Rattle.model.proofs.Opened.{Opened, size, filmOf, OpenedAs, opening-opened}
+use Rattle.model.proofs.Opened.{Opened, size, OpenedAs, opening-opened}
 use Rattle.model.proofs.Reached.{Reached, records, Comes, Reached.first, Reached.next}
 use Rattle.model.proofs.StepsOn.{on-comes}
 use Rattle.model.proofs.StepsBack.{back-first, back-taken}
@@ -160,9 +161,9 @@ pub demand-3 : (file a b : List ℕ) (r : OpenedFile) (a′ b′ : List ℕ) →
 unfolding records
 demand-3 file a b r a′ b′ h e calls seen t = go (opening file (length a) (length b)) (h .answer) (h .state) (h .left) (h .right) (opening-opened file (length a) (length b))
   where
-    go : (x : Res OpenedFilm) → openingOf (r .answer) ≡ answer x → r .state ≡ stateAfter x → a′ ≡ pictureAfter a x → b′ ≡ pictureAfter b x → Each (OpenedAs file) x → modelOf file calls ≡ ok seen
+    go : (x : Res Film) → openingOf (r .answer) ≡ answer x → r .state ≡ stateAfter x → a′ ≡ pictureAfter a x → b′ ≡ pictureAfter b x → Each (OpenedAs file) x → modelOf file calls ≡ ok seen
     go (ok F) _ s l u (each k) =
-        let w : _≡_ {A = World} (record { a = a′; b = b′; state = r .state }) (stands (filmOf F) 0) = (λ i. record { a = l i; b = u i; state = s i }) ∙ opened-stands (filmOf F) in
+        let w : _≡_ {A = World} (record { a = a′; b = b′; state = r .state }) (stands F 0) = (λ i. record { a = l i; b = u i; state = s i }) ∙ opened-stands F in
         let t′ : Trace (F .file) (record { a = a′; b = b′; state = r .state }) [] calls seen = rw (k .same) t in
-        rw (k .read) (ap (λ (o : List Seen). ok o) (sym (from-there (filmOf F) (k .opened) t′ 0 first w refl)))
+        rw (k .read) (ap (λ (o : List Seen). ok o) (sym (from-there F (k .opened) t′ 0 first w refl)))
     go (fault n) x s l u k = let z : _≡_ {A = ℕ} 0 1 = cc in absurd (omega arith)

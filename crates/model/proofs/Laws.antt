@@ -13,7 +13,8 @@ use Rattle.delta.specs.Delta.{shapeOf, readDelta}
 use Rattle.delta.specs.DeltaLaws.{draw-length}
 use Rattle.frame.specs.Frame.{Frame}
 use Rattle.state.specs.World.{isOdd}
-use Rattle.model.specs.Model.{Film, built}
+use Rattle.state.specs.Film.{Film}
+use Rattle.model.specs.Model.{built}
 
 pub built-length : (F : Film) (x : Frame) (p g : List ℕ) → built F x p ≡ ok g → length g ≡ length p
 unfolding built

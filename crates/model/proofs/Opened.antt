@@ -22,9 +22,10 @@ use Rattle.ilbm.specs.Body.{body}
 use Rattle.ilbm.specs.BodyLaws.{body-length}
 use Rattle.state.specs.State.{frameBytes, frameLength, opened}
 use Rattle.state.specs.StateLaws.{Sound, sizes-sound}
-use Rattle.opening.specs.Open.{BMHD, BODY, Places, placesIn, firstPlaces, bmhdAt, bodyAt, First, firstOf, Film as OpenedFilm, opening}
+use Rattle.opening.specs.Open.{BMHD, BODY, Places, placesIn, firstPlaces, bmhdAt, bodyAt, First, firstOf, opening}
 use Rattle.opening.specs.OpenLaws.{places-lie}
-use Rattle.model.specs.Model.{Film, film}
+use Rattle.state.specs.Film.{Film}
+use Rattle.model.specs.Model.{film}
 
 -- what opening gives
 pub record Opened (F : Film) : Type 0 where
@@ -39,14 +40,11 @@ pub record Opened (F : Film) : Type 0 where
 abbrev pub size : Film → ℕ
 size F = frameBytes (F .sizes)
 
--- what opening fixes, as the model has it
-abbrev pub filmOf : OpenedFilm → Film
-filmOf F = record { file = F .file; end = F .end; sizes = F .sizes; start = F .start; first = F .first }
-
-pub record OpenedAs (file : List ℕ) (F : OpenedFilm) : Type 0 where
+-- what opening fixes, and the model reads
+pub record OpenedAs (file : List ℕ) (F : Film) : Type 0 where
   pub same : F .file ≡ file
-  pub read : film file ≡ ok (filmOf F)
-  pub opened : Opened (filmOf F)
+  pub read : film file ≡ ok F
+  pub opened : Opened F
 
 -- where the first picture was found
 record Found (file : List ℕ) (p : Places) : Type 0 where

@@ -13,7 +13,8 @@ use Rattle.frame.specs.Frame.{Frame}
 use Rattle.frame.specs.FrameLaws.{Rises, frame-rises}
 use Rattle.state.specs.World.{isOdd, shownOf, hiddenOf}
 use Rattle.state.specs.Outcome.{Answer, After}
-use Rattle.model.specs.Model.{Film, here, past, built, drawn, placeAt, picture, recordAt, stands}
+use Rattle.state.specs.Film.{Film}
+use Rattle.model.specs.Model.{here, past, built, drawn, placeAt, picture, recordAt, stands}
 use Rattle.model.proofs.Laws.{built-length}
 use Rattle.model.proofs.Opened.{Opened, size}
 

@@ -15,7 +15,8 @@ use Rattle.frame.specs.FrameLaws.{Rises, frame-rises}
 use Rattle.state.specs.World.{isOdd, shownOf}
 use Rattle.state.specs.Outcome.{Answer.refused, Answer.tookBack}
 use Rattle.back.specs.Back.{retreat, settleBack, onShown, stepBack}
-use Rattle.model.specs.Model.{Film, placeAt, picture, recordAt, stands, answerFirst}
+use Rattle.state.specs.Film.{Film}
+use Rattle.model.specs.Model.{placeAt, picture, recordAt, stands, answerFirst}
 use Rattle.back.specs.BackLaws.{back-kept, back-put}
 use Rattle.model.proofs.Laws.{odd-suc}
 use Rattle.record.specs.RoundLaws.{past-record}

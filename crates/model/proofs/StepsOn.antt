@@ -13,7 +13,8 @@ use Rattle.frame.specs.Frame.{Frame, frameAt}
 use Rattle.state.specs.World.{isOdd, shownOf, hiddenOf}
 use Rattle.state.specs.Outcome.{Answer, Answer.refused, Answer.ended, Answer.tookOn, Outcome}
 use Rattle.player.specs.Step.{ready, change, Made, makes, make, advance, settle, onHidden, stepOn}
-use Rattle.model.specs.Model.{Film, here, built, placeAt, picture, recordAt, stands, reportAt, answerAt, answerOn, moved, leaves}
+use Rattle.state.specs.Film.{Film}
+use Rattle.model.specs.Model.{here, built, placeAt, picture, recordAt, stands, reportAt, answerAt, answerOn, moved, leaves}
 use Rattle.player.specs.OutcomeLaws.{on-kept, on-put}
 use Rattle.model.proofs.Laws.{odd-suc}
 use Rattle.model.proofs.Opened.{Opened, size}

@@ -7,8 +7,8 @@ use mathlib.Core.Option.{Option, none, some}
 use lib.Dec.{leb, ltb, eqb}
 use lib.ListN.{length, take}
 use Rattle.laws.specs.Result.{Res, Res.ok, Res.fault, _>>=_, need, orRefuse, pick, orKeep}
-use Rattle.state.specs.declared.Sizes.{Sizes}
 use Rattle.state.specs.State.{rowBytes, frameBytes}
+use Rattle.state.specs.Film.{Film}
 use Rattle.iff.specs.Chunk.{contents}
 use Rattle.iff.specs.Both.{hasBoth}
 use Rattle.form.specs.Form.{chunksOf, animEnd, nextFrame}
@@ -32,14 +32,6 @@ pub record Seen : Type 0 where
   pub answer : Answer
   pub world : World
   pub bytes : List ℕ
-
--- what a file fixes for every call: its end place, the sizes of its pictures, the place past frame 1's FORM and pad, and picture 1
-pub record Film : Type 0 where
-  pub file : List ℕ
-  pub end : ℕ
-  pub sizes : Sizes
-  pub start : ℕ
-  pub first : List ℕ
 
 -- picture 1 is frame 1's BODY unpacked; frame 1 is the first FORM ILBM of FORM ANIM
 unfoldable pub film : List ℕ → Res Film

@@ -8,6 +8,7 @@ use lib.ListN.{length, take}
 use Rattle.laws.specs.Result.{Res, Res.ok, Res.fault, _>>=_, need, orRefuse, answer}
 use Rattle.refusal.specs.Number.{numberOf}
 use Rattle.state.specs.State.{opened}
+use Rattle.state.specs.Film.{Film}
 use Rattle.state.specs.declared.Sizes.{Sizes}
 use Rattle.state.specs.declared.State.{State}
 use Rattle.iff.specs.Chunk.{contents}
@@ -73,14 +74,7 @@ firstOf h d a b =
     body (z .packed) (z .sizes) d >>= λ p.
     ok (record { sizes = z .sizes; picture = p })
 
--- what opening fixes for all later calls: the file, the end place, the sizes, the place after frame 1, and frame 1's picture
-pub record Film : Type 0 where
-  pub file : List ℕ
-  pub end : ℕ
-  pub sizes : Sizes
-  pub start : ℕ
-  pub first : List ℕ
-
+-- what is fixed with it: the file, its end place and the place after frame 1
 abbrev pub film : List ℕ → ℕ → ℕ → First → Film
 film file end start p = record { file = file; end = end; sizes = p .sizes; start = start; first = p .picture }
 

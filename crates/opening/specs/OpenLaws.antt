@@ -16,6 +16,7 @@ use Rattle.refusal.specs.Number.{numberOf}
 use Rattle.refusal.specs.declared.Refusal.{Refusal}
 use Rattle.state.specs.declared.State.{State}
 use Rattle.state.specs.State.{opened}
+use Rattle.state.specs.Film.{Film}
 use Rattle.iff.specs.Both.{hasBoth}
 use Rattle.form.specs.Form.{Frame, chunksOf, animEnd, nextFrame}
 use Rattle.form.specs.FormLaws.{Closes, anim-closes, Follows, frame-follows}
@@ -27,7 +28,7 @@ use Rattle.opening.specs.declared.Opening.the-variants.{Opened, Refused}
 use Rattle.opening.specs.declared.OpenedFile.{OpenedFile}
 use Rattle.opening.specs.declared.Places.{Places as Found}
 use Rattle.opening.specs.declared.Places.the-variants.{At, Nowhere}
-use Rattle.opening.specs.Open.{BMHD, BODY, Places, placesIn, firstPlaces, bmhdAt, bodyAt, firstSize, First, firstOf, Film, film, opening, zeros, Opens}
+use Rattle.opening.specs.Open.{BMHD, BODY, Places, placesIn, firstPlaces, bmhdAt, bodyAt, firstSize, First, firstOf, film, opening, zeros, Opens}
 
 -- what the walk's answer says in the paper's terms
 abbrev pub placesOf : Found → Res Places

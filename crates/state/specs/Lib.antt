@@ -2,3 +2,4 @@ pub mod State
 pub mod StateLaws
 pub mod World
 pub mod Outcome
+pub mod Film

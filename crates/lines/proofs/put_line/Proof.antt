@@ -1,4 +1,5 @@
 -- `lines::put_line`: a place past the end, then the line by its case.
+use Rattle.lines.specs.Lines.{endLine, refusedLine}
 use Rattle.lines.specs.TextLaws.{adds-within, adds-past}
 use borrow.Author.Needs.{needs}
 use Rattle.lines.proofs.put_line.Statement.{statement}
@@ -31,14 +32,23 @@ put-frame-requires c κs = search needs
 enum-known-line-3 : tie.Need-enum-known-line-3
 enum-known-line-3 c = search needs
 
-put-end-requires : tie.Need-put-end-requires
-put-end-requires c κs = search needs
+slice-aggregate-put-last : tie.Need-slice-aggregate-put-last
+slice-aggregate-put-last c = search needs
+
+put-last-requires : tie.Need-put-last-requires
+put-last-requires c κs = search needs
 
 enum-known-line-4 : tie.Need-enum-known-line-4
 enum-known-line-4 c = search needs
 
-put-refused-requires : tie.Need-put-refused-requires
-put-refused-requires c κs = search needs
+number-requires : tie.Need-number-requires
+number-requires c κs = search needs
+
+slice-aggregate-put-last-2 : tie.Need-slice-aggregate-put-last-2
+slice-aggregate-put-last-2 c = search needs
+
+put-last-requires-2 : tie.Need-put-last-requires-2
+put-last-requires-2 c κs = search needs
 
 same-length : tie.Need-same-length
 same-length c = search needs
@@ -62,13 +72,15 @@ same-length-4 : tie.Need-same-length-4
 same-length-4 c = search needs
 
 returns-5 : tie.Need-returns-5
-returns-5 c = rw (c .before .before .before .before .before .line3 .given .1) (adds-within (c .before .before .before .before .before .before .before .if1 .left) (c .before .before .put-end .ensures))
+unfolding endLine
+returns-5 c = rw (c .before .before .before .before .before .before .line3 .given .1) (adds-within (c .before .before .before .before .before .before .before .before .if1 .left) (c .before .before .put-last .ensures))
 
 same-length-5 : tie.Need-same-length-5
 same-length-5 c = search needs
 
 returns-6 : tie.Need-returns-6
-returns-6 c = rw (c .before .before .before .before .before .line4 .given .1) (adds-within (c .before .before .before .before .before .before .before .if1 .left) (c .before .before .put-refused .ensures))
+unfolding refusedLine
+returns-6 c = rw (c .before .before .before .before .before .before .before .line4 .given .1) (adds-within (c .before .before .before .before .before .before .before .before .before .if1 .left) (rw (c .before .before .before .before .before .number .ensures) at (c .before .before .put-last2 .ensures)))
 
 pub put-line-spec : {M : Type 1} → statement M
 put-line-spec =
@@ -83,9 +95,12 @@ put-line-spec =
     enum-known-line-2
     put-frame-requires
     enum-known-line-3
-    put-end-requires
+    slice-aggregate-put-last
+    put-last-requires
     enum-known-line-4
-    put-refused-requires
+    number-requires
+    slice-aggregate-put-last-2
+    put-last-requires-2
     same-length
     returns-2
     same-length-2

@@ -1,0 +1,22 @@
+-- `lines::put_last`: a word and a number, then the line's end.
+use Rattle.lines.specs.TextLaws.{adds-then}
+use borrow.Author.Needs.{needs}
+use Rattle.lines.proofs.put_last.Statement.{statement}
+use Rattle.lines.proofs.put_last.Tie as tie
+
+put-field-requires : tie.Need-put-field-requires
+put-field-requires c κs = search needs
+
+put-byte-requires : tie.Need-put-byte-requires
+put-byte-requires c κs = search needs
+
+same-length : tie.Need-same-length
+same-length c = search needs
+
+returns : tie.Need-returns
+returns c = adds-then (c .before .before .before .before .before .before .put-field .ensures) (c .before .before .put-byte .ensures)
+
+pub put-last-spec : {M : Type 1} → statement M
+put-last-spec =
+    tie.close
+    (tie.spec put-field-requires put-byte-requires same-length returns)

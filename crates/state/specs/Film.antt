@@ -1,0 +1,12 @@
+-- What a file fixes for every call after its opening (document 01, "Opening, stepping on, stepping back"): the end place, the sizes of
+-- its pictures, the place past frame 1's FORM and pad, and picture 1.
+use Prim.Native.Nat.{ℕ}
+use mathlib.Core.List.{List}
+use Rattle.state.specs.declared.Sizes.{Sizes}
+
+pub record Film : Type 0 where
+  pub file : List ℕ
+  pub end : ℕ
+  pub sizes : Sizes
+  pub start : ℕ
+  pub first : List ℕ
