@@ -1,2 +1,3 @@
 pub mod Anhd
+pub mod AnhdLaws
 pub mod Examples

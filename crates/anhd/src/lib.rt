@@ -57,7 +57,8 @@ fn items_of(method: usize, bits: usize) -> Items
     Items::Shorts
 }
 
-fn columns_ok(items: Items, row: usize) -> bool
+// Whether rows of so many bytes are made of whole columns of such items.
+pub fn columns_ok(items: Items, row: usize) -> bool
     ensures { λ r. ⌜ r ≡ columnsOk items row ⌝ }
 {
     match items {

@@ -10,10 +10,11 @@ use Rattle.laws.specs.Result.{Res.ok, Res.fault}
 use Rattle.refusal.specs.Number.{numberOf}
 use Rattle.refusal.specs.declared.Refusal.{Refusal}
 use Rattle.state.specs.declared.Sizes.{Sizes}
-use Rattle.state.specs.State.{frameBytes, frameLength}
+use Rattle.state.specs.State.{rowBytes, frameBytes, frameLength}
 use Rattle.state.specs.StateLaws.{Sound}
 use Rattle.anhd.specs.declared.Items.{Items}
 use Rattle.anhd.specs.declared.Items.the-variants.{Bytes, Shorts, Longs}
+use Rattle.anhd.specs.Anhd.{columnsOk}
 use Rattle.delta.specs.declared.Shape.{Shape}
 use Rattle.delta.specs.declared.Cursor.{Cursor}
 use Rattle.delta.specs.declared.Step.{Step}
@@ -54,9 +55,13 @@ module _ (z : Sizes) (i : Items) (d : List ℕ) (m n : ℕ) where
   unfolding readFrame
   frame-work {l} e h k = simp (e, eq-eqb m l h, ne-eqb n l k)
 
-  pub frame-delta : {l : ℕ} → frameLength z ≡ ok l → m ≡ l → n ≡ l → readFrame z i d m n ≡ readDelta (shapeOf z i) d
+  pub frame-columns : {l : ℕ} → frameLength z ≡ ok l → m ≡ l → n ≡ l → columnsOk i (rowBytes (z .width)) ≡ false → readFrame z i d m n ≡ fault 36
   unfolding readFrame
-  frame-delta {l} e h k = simp (e, eq-eqb m l h, eq-eqb n l k)
+  frame-columns {l} e h k w = rw (e, eq-eqb m l h, eq-eqb n l k, w)
+
+  pub frame-delta : {l : ℕ} → frameLength z ≡ ok l → m ≡ l → n ≡ l → columnsOk i (rowBytes (z .width)) ≡ true → readFrame z i d m n ≡ readDelta (shapeOf z i) d
+  unfolding readFrame
+  frame-delta {l} e h k w = rw (e, eq-eqb m l h, eq-eqb n l k, w)
 
 module _ {z : Sizes} {i : Items} {d f w : List ℕ} where
   pub applies-fault : {k : ℕ} → readFrame z i d (length f) (length w) ≡ fault k → Applies z i d f w (fault k) w

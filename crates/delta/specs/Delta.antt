@@ -14,6 +14,7 @@ use Rattle.state.specs.State.{rowBytes, frameLength}
 use Rattle.state.specs.declared.Sizes.{Sizes}
 use Rattle.anhd.specs.declared.Items.{Items}
 use Rattle.anhd.specs.declared.Items.the-variants.{Bytes, Shorts, Longs}
+use Rattle.anhd.specs.Anhd.{columnsOk}
 use Rattle.delta.specs.declared.Shape.{Shape}
 use Rattle.delta.specs.declared.Applied.{Applied}
 use Rattle.delta.specs.declared.Applied.the-variants.{Drawn, Refused}
@@ -153,13 +154,14 @@ unfoldable pub draw : Shape → List ℕ → List Op → List ℕ → List ℕ
 draw S d [] f = f
 draw S d (o ∷ ops) f = draw S d ops (put (S .item) (S .row) (o .step) d (o .count) (o .from) (o .place) f)
 
--- the ops of a delta for a picture of m bytes and a work buffer of n bytes: 11 for the sizes, 12 for the two buffers, then the
--- delta's refusals
+-- the ops of a delta for a picture of m bytes and a work buffer of n bytes: 11 for the sizes, 12 for the two buffers, 36 for long
+-- data where B is not a multiple of 4, then the delta's refusals
 unfoldable pub readFrame : Sizes → Items → List ℕ → ℕ → ℕ → Res (List Op)
 readFrame z i d m n =
     frameLength z >>= λ l.
     need (eqb m l) 12 >>= λ _.
     need (eqb n l) 12 >>= λ _.
+    need (columnsOk i (rowBytes (z .width))) 36 >>= λ _.
     readDelta (shapeOf z i) d
 
 -- the frame that a delta makes of the picture f

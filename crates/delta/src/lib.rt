@@ -241,6 +241,9 @@ pub fn apply(work: &mut [u8], picture: &[u8], dlta: &[u8], sizes: Sizes, items: 
             if work.len() != length {
                 return Applied::Refused(Refusal::BufferLength);
             }
+            if !anhd::columns_ok(items, sizes.row_bytes()) {
+                return Applied::Refused(Refusal::OddLongColumns);
+            }
             let b = build(work, picture, dlta, shape_of(sizes, items));
             match b {
                 Step::Faulty(why) => Applied::Refused(why),

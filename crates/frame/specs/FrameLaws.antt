@@ -1,4 +1,4 @@
--- Laws of later frames: their places rise, and their chunks lie within FORM ANIM.
+-- Laws of later frames: their places rise, their chunks lie within FORM ANIM, and their columns are whole.
 use Prim.Native.Nat.{ℕ, _+_, _-_, _<_, _≤_}
 use native.Mathlib.Nat.{add-sub-cancel-left}
 use native.Mathlib.Omega.{arith}
@@ -11,9 +11,10 @@ use Rattle.laws.specs.Result.{Res.ok, Res.fault, need}
 use Rattle.laws.specs.ResultLaws.{Each, Each.each, All, All.all-some, All.all-none, all-value, each-any, each-bind, each-some}
 use Rattle.iff.specs.Chunk.{contents}
 use Rattle.iff.specs.Both.{hasBoth}
-use Rattle.form.specs.Form.{Frame as Form, chunksOf}
+use Rattle.form.specs.Form.{Frame as Form, chunksOf, nextFrame}
 use Rattle.form.specs.FormLaws.{Follows, frame-follows}
-use Rattle.anhd.specs.Anhd.{frameHeader}
+use Rattle.anhd.specs.Anhd.{columnsOk, frameHeader}
+use Rattle.anhd.specs.AnhdLaws.{header-columns}
 use Rattle.anhd.specs.declared.FrameHeader.{FrameHeader}
 use Rattle.frame.specs.Frame.{ANHD, DLTA, Frame, frameIn, frameOr, frameAt}
 
@@ -45,6 +46,17 @@ or-rises s B at (some x) h =
 pub frame-rises : (s : List ℕ) (B at : ℕ) (x : Frame) → frameAt s B at ≡ ok (some x) → Rises s at x
 unfolding frameAt
 frame-rises s B at x e = each-some e (each-bind (frame-follows s at) λ o h. or-rises s B at o h)
+
+-- a frame has whole columns
+or-columns : (s : List ℕ) (B : ℕ) (o : Option Form) → Each (All (λ (x : Frame). columnsOk (x .header .items) B ≡ true)) (frameOr s B o)
+unfolding frameIn
+or-columns s B none = each all-none
+or-columns s B (some x) =
+    each-bind (each-any (hasBoth ANHD DLTA (chunksOf s x)) λ t. each-any (need t 31) λ _. each-bind (header-columns B (contents ANHD (chunksOf s x))) λ h e. each e) λ f e. each (all-some e)
+
+pub frame-columns : (s : List ℕ) (B at : ℕ) (x : Frame) → frameAt s B at ≡ ok (some x) → columnsOk (x .header .items) B ≡ true
+unfolding frameAt
+frame-columns s B at x e = each-some e (each-any (nextFrame s at) λ o. or-columns s B o)
 
 -- what the frame in the FORM whose chunks are n bytes from a on comes to
 module _ (s : List ℕ) (B a n next : ℕ) where

@@ -23,6 +23,8 @@ use Rattle.player.specs.Step.{onOf, MeetsOn, workAfter, ready, Made, advance, s
 use Rattle.back.specs.Back.{backOf, MeetsBack, retreat, settleBack, onShown, stepBack}
 use Rattle.player.specs.OutcomeLaws.{on-kept, on-put}
 use Rattle.back.specs.BackLaws.{back-kept, back-put}
+use Rattle.model.specs.Demands.{refusalOf, openRefusal, Met, Met.opens, Met.steps-on, Met.steps-back, Unchanged}
+use Rattle.model.proofs.Laws.{after-on, after-back}
 
 -- what a call left as it came: what it hands on, the record buffer, into which nothing was written, and the work buffer unless it is 51
 record Untouched (w : World) (o : After) : Type 0 where
@@ -61,16 +63,9 @@ untaken-back w bytes h = go (retreat w bytes) h
     go (fault k) q = rw (back-kept w (refused k) none) (record { world = refl; bytes = refl; work = λ _. refl })
     go (ok p) q = absurd (q (ap (λ (o : After). o .answer) (back-put w (settleBack (w .state) (shownOf w) (ok p)))))
 
--- the number with which a call is refused, if it is
-abbrev pub refusalOf : Answer → Option ℕ
-refusalOf (refused n) = some n
-refusalOf ended = none
-refusalOf (tookOn r) = none
-refusalOf tookBack = none
-
-abbrev pub openRefusal : Res (Unit {0}) → Option ℕ
-openRefusal (ok u) = none
-openRefusal (fault n) = some n
+-- what a call leaves, if it hands the same on and leaves the same buffers
+unchanged : (n : ℕ) {w w′ : World} {work rec work′ rec′ : List ℕ} → w′ ≡ w → rec′ ≡ rec → ((n ≡ 51 → ⊥) → work′ ≡ work) → Unchanged n w work rec w′ work′ rec′
+unchanged n e f g = record { left = ap (λ (x : World). x .a) e; right = ap (λ (x : World). x .b) e; state = ap (λ (x : World). x .state) e; written = f; drawn = g }
 
 -- a refused opening leaves both buffers, and answers six zeros for the state
 refused-open : (n : ℕ) (a b a′ b′ : List ℕ) (s : State) (q : Res Film) → openRefusal (answer q) ≡ some n → s ≡ stateAfter q → a′ ≡ pictureAfter a q → b′ ≡ pictureAfter b q
@@ -78,27 +73,17 @@ refused-open : (n : ℕ) (a b a′ b′ : List ℕ) (s : State) (q : Res Film) �
 refused-open n a b a′ b′ s (fault k) e p l u = λ i. record { a = l i; b = u i; state = p i }
 refused-open n a b a′ b′ s (ok F) e p l u = none-some e
 
--- a call that met its contract: pictures and state, work and record buffer before it, its refusal if any, and the same after it. Before
--- opening the state is six zeros; opening and stepping back are lent neither work nor record buffer.
-pub data Met : World → (work rec : List ℕ) → Option ℕ → World → (work′ rec′ : List ℕ) → Type 0 where
-  opens : (file a b : List ℕ) (r : OpenedFile) (a′ b′ : List ℕ) → MeetsOpen file a b r a′ b′
-      → Met (record { a = a; b = b; state = zeros }) [] [] (openRefusal (openingOf (r .answer))) (record { a = a′; b = b′; state = r .state }) [] []
-  steps-on : (file : List ℕ) (w : World) (work rec : List ℕ) (r : SteppedOn) (a b work′ rec′ : List ℕ) → MeetsOn file w work rec r a b work′ rec′
-      → Met w work rec (refusalOf (onOf (r .answer))) (record { a = a; b = b; state = r .state }) work′ rec′
-  steps-back : (w : World) (bytes : List ℕ) (r : SteppedBack) (a b : List ℕ) → MeetsBack w bytes r a b
-      → Met w [] [] (refusalOf (backOf (r .answer))) (record { a = a; b = b; state = r .state }) [] []
-
 -- demand 1
-pub demand-1 : {w w′ : World} {work rec work′ rec′ : List ℕ} {o : Option ℕ} → Met w work rec o w′ work′ rec′ → (n : ℕ) → o ≡ some n
-    → (w′ ≡ w) × (rec′ ≡ rec) × ((n ≡ 51 → ⊥) → work′ ≡ work)
+pub demand-1 : {w w′ : World} {work rec work′ rec′ : List ℕ} {o : Option ℕ} → Met w work rec o w′ work′ rec′ → (n : ℕ) → o ≡ some n → Unchanged n w work rec w′ work′ rec′
 demand-1 (opens file a b r a′ b′ m) n e =
-    (refused-open n a b a′ b′ (r .state) (opening file (length a) (length b)) (ap openRefusal (sym (m .answer)) ∙ e) (m .state) (m .left) (m .right), refl, λ h. refl)
+    let k = refused-open n a b a′ b′ (r .state) (opening file (length a) (length b)) (ap openRefusal (sym (m .answer)) ∙ e) (m .state) (m .left) (m .right) in
+    unchanged n k refl λ _. refl
 demand-1 (steps-on file w work rec r a b work′ rec′ m) n e =
     let u = untaken-on file w (length work) (length rec) λ p q. none-some (sym (ap refusalOf (m .answer ∙ q)) ∙ e) in
-    ((λ i. record { a = m .left i; b = m .right i; state = m .state i }) ∙ u .world, m .written ∙ rw (u .bytes), λ h. m .drawn ∙ ap (workAfter work) (u .work λ q. h (some-same (sym e ∙ ap refusalOf (m .answer ∙ q)))))
+    unchanged n (after-on m ∙ u .world) (m .written ∙ rw (u .bytes)) λ h. m .drawn ∙ ap (workAfter work) (u .work λ q. h (some-same (sym e ∙ ap refusalOf (m .answer ∙ q))))
 demand-1 (steps-back w bytes r a b m) n e =
     let u = untaken-back w bytes λ q. none-some (sym (ap refusalOf (m .answer ∙ q)) ∙ e) in
-    ((λ i. record { a = m .left i; b = m .right i; state = m .state i }) ∙ u .world, refl, λ h. refl)
+    unchanged n (after-back m ∙ u .world) refl λ _. refl
 
 -- End
 not-taken : {p : Report} → ended ≡ tookOn p → ⊥
@@ -108,4 +93,4 @@ pub end-keeps : (file : List ℕ) (w : World) (work rec : List ℕ) (r : Stepped
     → (_≡_ {A = World} (record { a = a; b = b; state = r .state }) w) × (rec′ ≡ rec) × (work′ ≡ work)
 end-keeps file w work rec r a b work′ rec′ m e =
     let u = untaken-on file w (length work) (length rec) λ p q. not-taken (sym e ∙ m .answer ∙ q) in
-    ((λ i. record { a = m .left i; b = m .right i; state = m .state i }) ∙ u .world, m .written ∙ rw (u .bytes), m .drawn ∙ ap (workAfter work) (u .work λ q. none-some (sym (ap refusalOf e) ∙ ap refusalOf (m .answer ∙ q))))
+    (after-on m ∙ u .world, m .written ∙ rw (u .bytes), m .drawn ∙ ap (workAfter work) (u .work λ q. none-some (sym (ap refusalOf e) ∙ ap refusalOf (m .answer ∙ q))))

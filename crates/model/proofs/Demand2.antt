@@ -1,36 +1,27 @@
 -- Demand 2: where the papers have no other refusal, a delta is taken exactly when it is well formed to its last needed byte; the hidden
--- picture becomes the one that the ANIM rules define, and the shown one doesn't change.
+-- picture becomes the one that the ANIM rules define, and the shown one doesn't change. The delta that is written for two pictures turns
+-- the first into the second.
 use Prim.Native.Nat.{ℕ, suc, _≤_}
 use mathlib.Core.Bool.{Bool, true, false, not}
-use mathlib.Core.List.{List, []}
+use mathlib.Core.List.{List, [], _++_}
 use mathlib.Core.Option.{none, some}
 use mathlib.Core.Path.{_≡_, refl, ap, _∙_}
-use lib.ListN.{length, take}
+use lib.ListN.{length, take, drop}
+use native.Mathlib.Omega.{arith}
 use borrow.Author.Tests.{le-leb}
 use Rattle.laws.specs.Result.{Res, Res.ok, Res.fault, _>>=_, pick}
-use Rattle.state.specs.State.{rowBytes}
-use Rattle.delta.specs.Delta.{Op, shapeOf, readDelta, draw}
-use Rattle.record.specs.Record.{recordBytes}
-use Rattle.frame.specs.Frame.{Frame, frameAt}
+use Rattle.anhd.specs.declared.Items.the-variants.{Bytes}
+use Rattle.delta.specs.Delta.{Op}
+use Rattle.writer.specs.Write.{Writes}
+use Rattle.roundtrip.specs.Calls.{delta-stands, delta-makes}
+use Rattle.frame.specs.Frame.{Frame}
 use Rattle.player.specs.declared.SteppedOn.{SteppedOn}
 use Rattle.state.specs.World.{World, isOdd, shownOf, hiddenOf}
 use Rattle.state.specs.Outcome.{Answer, Answer.refused, Answer.tookOn, Outcome, After}
-use Rattle.player.specs.Step.{ready, change, reportOf, makes, make, advance, settle, onHidden, stepOn, onOf, MeetsOn}
+use Rattle.player.specs.Step.{ready, change, reportOf, makes, make, advance, settle, onHidden, stepOn, onOf, workAfter, MeetsOn}
 use Rattle.player.specs.OutcomeLaws.{on-kept, on-put}
-use Rattle.model.proofs.Laws.{odd-suc}
-
--- a step on with nothing else to refuse: the tests of state and buffers passed, and a frame with a good header stands at the next place
-pub record Free (file : List ℕ) (w : World) (work : ℕ) (x : Frame) : Type 0 where
-  pub tests : ready (length file) (w .state) (length (w .a)) (length (w .b)) work ≡ ok tt
-  pub there : frameAt (take (w .state .end) file) (rowBytes (w .state .sizes .width)) (w .state .next) ≡ ok (some x)
-
--- the ops of its delta, or its first fault
-abbrev pub opsOf : World → Frame → Res (List Op)
-opsOf w x = readDelta (shapeOf (w .state .sizes) (x .header .items)) (x .dlta)
-
--- the picture that they make of the hidden one
-abbrev pub newOf : World → Frame → List Op → List ℕ
-newOf w x ops = draw (shapeOf (w .state .sizes) (x .header .items)) (x .dlta) ops (hiddenOf w)
+use Rattle.model.specs.Demands.{Free, opsOf, newOf, recordOf, Takes}
+use Rattle.model.proofs.Laws.{odd-suc, after-on}
 
 free-advance : (file : List ℕ) (w : World) (work : ℕ) (x : Frame) → Free file w work x
     → (ready (length file) (w .state) (length (w .a)) (length (w .b)) work >>= λ _. advance (take (w .state .end) file) (w .state) (shownOf w) (hiddenOf w)) ≡ make (w .state) (shownOf w) (hiddenOf w) (some x)
@@ -49,16 +40,20 @@ takenAs w x f = record {
   answer = tookOn (reportOf (w .state) x (hiddenOf w) f);
   state = record { sizes = w .state .sizes; frame = suc (w .state .frame); next = x .next; end = w .state .end };
   picture = f;
-  bytes = recordBytes (suc (w .state .frame)) (w .state .next) (hiddenOf w) f;
+  bytes = recordOf w f;
   work = some f;
 }
 
+-- what the frame makes of the pictures
+change-new : (w : World) (x : Frame) (ops : List Op) → opsOf w x ≡ ok ops → change (w .state .sizes) x (shownOf w) (hiddenOf w) ≡ ok (newOf w x ops)
+unfolding change
+change-new w x ops e = rw e refl
+
 -- it is taken, if its record fits
-pub taken : (file : List ℕ) (w : World) (work room : ℕ) (x : Frame) (ops : List Op) → Free file w work x → opsOf w x ≡ ok ops
-    → length (recordBytes (suc (w .state .frame)) (w .state .next) (hiddenOf w) (newOf w x ops)) ≤ room
-    → stepOn file w work room ≡ onHidden w (takenAs w x (newOf w x ops))
-unfolding stepOn settle change makes takenAs
-taken file w work room x ops f e h = rw (free-advance file w work x f, e) (rw (le-leb (length (recordBytes (suc (w .state .frame)) (w .state .next) (hiddenOf w) (newOf w x ops))) room h) refl)
+taken : (file : List ℕ) (w : World) (work room : ℕ) (x : Frame) (f : List ℕ) → Free file w work x → change (w .state .sizes) x (shownOf w) (hiddenOf w) ≡ ok f → length (recordOf w f) ≤ room
+    → stepOn file w work room ≡ onHidden w (takenAs w x f)
+unfolding stepOn settle makes takenAs
+taken file w work room x f k e h = rw (free-advance file w work x k, e) (rw (le-leb (length (recordOf w f)) room h) refl)
 
 -- then the hidden picture is the new one and is shown, and the one that was shown is hidden as it was
 pub shown-new : (w : World) (x : Frame) (f : List ℕ) → shownOf (onHidden w (takenAs w x f) .world) ≡ f
@@ -78,23 +73,31 @@ shown-kept w x f = rw (on-put w (takenAs w x f)) (rw (odd-suc (w .state .frame))
     go false = refl
 
 -- demand 2, of a step on that met its contract
-pub record Takes (w w′ : World) (x : Frame) (f : List ℕ) (y : Answer) : Type 0 where
-  pub answer : y ≡ tookOn (reportOf (w .state) x (hiddenOf w) f)
-  pub shown : shownOf w′ ≡ f
-  pub hidden : hiddenOf w′ ≡ shownOf w
-
 module _ (file : List ℕ) (w : World) (work rec : List ℕ) (r : SteppedOn) (a b work′ rec′ : List ℕ) (m : MeetsOn file w work rec r a b work′ rec′) (x : Frame) (f : Free file w (length work) x) where
   pub demand-2-refused : (n : ℕ) → opsOf w x ≡ fault n → onOf (r .answer) ≡ refused n
   demand-2-refused n e = m .answer ∙ ap (λ (o : After). o .answer) (malformed file w (length work) (length rec) x n f e)
 
-  pub demand-2-taken : (ops : List Op) → opsOf w x ≡ ok ops → length (recordBytes (suc (w .state .frame)) (w .state .next) (hiddenOf w) (newOf w x ops)) ≤ length rec
-      → Takes w (record { a = a; b = b; state = r .state }) x (newOf w x ops) (onOf (r .answer))
+  pub demand-2-taken : (ops : List Op) → opsOf w x ≡ ok ops → length (recordOf w (newOf w x ops)) ≤ length rec
+      → Takes w rec x (newOf w x ops) (onOf (r .answer)) (record { a = a; b = b; state = r .state }) work′ rec′
   unfolding takenAs makes
   demand-2-taken ops e h =
-      let g : stepOn file w (length work) (length rec) ≡ onHidden w (takenAs w x (newOf w x ops)) = taken file w (length work) (length rec) x ops f e h in
-      let k : _≡_ {A = World} (record { a = a; b = b; state = r .state }) (onHidden w (takenAs w x (newOf w x ops)) .world) = (λ i. record { a = m .left i; b = m .right i; state = m .state i }) ∙ ap (λ (o : After). o .world) g in
+      let g : stepOn file w (length work) (length rec) ≡ onHidden w (takenAs w x (newOf w x ops)) = taken file w (length work) (length rec) x (newOf w x ops) f (change-new w x ops e) h in
+      let p = g ∙ on-put w (takenAs w x (newOf w x ops)) in
+      let k = after-on m ∙ ap (λ (o : After). o .world) g in
       record {
-        answer = m .answer ∙ ap (λ (o : After). o .answer) (g ∙ on-put w (takenAs w x (newOf w x ops)));
+        answer = m .answer ∙ ap (λ (o : After). o .answer) p;
+        state = m .state ∙ ap (λ (o : After). o .world .state) p;
         shown = ap shownOf k ∙ shown-new w x (newOf w x ops);
         hidden = ap hiddenOf k ∙ shown-kept w x (newOf w x ops);
+        drawn = m .drawn ∙ ap (λ (o : After). workAfter work (o .work)) p;
+        written = m .written ∙ ap (λ (o : After). o .bytes ++ drop (length (o .bytes)) rec) p;
       }
+
+  -- a delta that `writer::write` wrote for the hidden picture and a new one leads to the new one
+  pub demand-2-written : (old new out out′ : List ℕ) (n : ℕ) → Writes (w .state .sizes) old new out (ok n) out′ → hiddenOf w ≡ old → x .header .items ≡ Bytes → x .dlta ≡ take n out′
+      → length (recordOf w new) ≤ length rec → Takes w rec x new (onOf (r .answer)) (record { a = a; b = b; state = r .state }) work′ rec′
+  demand-2-written old new out out′ n g i j d h = go (opsOf w x) refl (rw (j, d, delta-stands (w .state .sizes) old new out n out′ g, i) (delta-makes (w .state .sizes) old new out n out′ g))
+    where
+      go : (q : Res (List Op)) → opsOf w x ≡ q → (q >>= λ ops. ok (newOf w x ops)) ≡ ok new → Takes w rec x new (onOf (r .answer)) (record { a = a; b = b; state = r .state }) work′ rec′
+      go (ok ops) e f = let k : newOf w x ops ≡ new = cc in rw k at (demand-2-taken ops e (rw k h))
+      go (fault m) e f = let z : _≡_ {A = ℕ} 0 1 = cc in absurd (omega arith)

@@ -1,5 +1,5 @@
--- Demand 3: after an opening that wasn't refused, every answer, every taken step's record, both pictures and the state after every
--- call are the model's.
+-- Demand 3: after an opening that wasn't refused both pictures and the state are the model's, and so are every answer, every taken step
+-- on's record, both pictures and the state after every call.
 use Prim.Native.Nat.{ℕ, suc, _+_, _-_}
 use native.Mathlib.Omega.{arith}
 use mathlib.Core.Bool.{Bool, true, false}
@@ -24,7 +24,8 @@ use Rattle.opening.specs.declared.OpenedFile.{OpenedFile}
 use Rattle.state.specs.Film.{Film}
 use Rattle.opening.specs.Open.{opening, stateAfter, pictureAfter, openingOf, MeetsOpen}
 use Rattle.model.specs.Model.{Call, Seen, here, built, placeAt, picture, recordAt, stands, reportAt, answerFor, answerAt, answerOn, answerFirst, moved, leaves, model, modelOf}
-use Rattle.model.specs.Trace.{given, recordIn, untaken, seenOn, seenBack, Trace, Trace.none-left, Trace.stepped-on, Trace.stepped-back}
+use Rattle.model.specs.Trace.{Given, Given.latest, recordIn, untaken, seenOn, seenBack, Trace, Trace.none-left, Trace.stepped-on, Trace.stepped-back}
+use Rattle.model.proofs.Laws.{after-on, after-back}
 use Rattle.model.proofs.Opened.{Opened, size, OpenedAs, opening-opened}
 use Rattle.model.proofs.Reached.{Reached, records, Comes, Reached.first, Reached.next}
 use Rattle.model.proofs.StepsOn.{on-comes}
@@ -104,17 +105,15 @@ module _ (F : Film) (op : Opened F) {m : ℕ} (p : Reached F m) {w : World} (ew 
       let k : MeetsOn (F .file) (stands F m) work rec r a b work′ rec′ = rw ew at h in
       let c = on-comes F op m p (length rec) (length work) in
       let x : onOf (r .answer) ≡ answerOn F m (length work) (length rec) = k .answer ∙ c .answer in
-      let g : _≡_ {A = World} (record { a = a; b = b; state = r .state }) (stepOn (F .file) (stands F m) (length work) (length rec) .world) = λ i. record { a = k .left i; b = k .right i; state = k .state i } in
       let y : recordIn (onOf (r .answer)) rec′ ≡ leaves F m (answerOn F m (length work) (length rec)) =
       rw x (reports F m (length work) (length rec) .bytes rec′ (drop (length (stepOn (F .file) (stands F m) (length work) (length rec) .bytes)) rec) (k .written ∙ rw (c .bytes))) in
-      λ i. record { answer = x i; world = (g ∙ c .world) i; bytes = y i }
+      λ i. record { answer = x i; world = (after-on k ∙ c .world) i; bytes = y i }
 
   back-seen : (bytes : List ℕ) (x : Answer) (m′ : ℕ) (r : SteppedBack) (a b : List ℕ) → Comes F m m′ x [] (stepBack (stands F m) bytes) → MeetsBack w bytes r a b
       → seenBack r a b ≡ record { answer = x; world = stands F m′; bytes = [] }
   back-seen bytes x m′ r a b c h =
       let k : MeetsBack (stands F m) bytes r a b = rw ew at h in
-      let g : _≡_ {A = World} (record { a = a; b = b; state = r .state }) (stepBack (stands F m) bytes .world) = λ i. record { a = k .left i; b = k .right i; state = k .state i } in
-      λ i. record { answer = (k .answer ∙ c .answer) i; world = (g ∙ c .world) i; bytes = [] }
+      λ i. record { answer = (k .answer ∙ c .answer) i; world = (after-back k ∙ c .world) i; bytes = [] }
 
 untaken-first : (F : Film) (q : Option Past) → untaken (answerFirst q) [] [] ≡ []
 unfolding untaken
@@ -125,10 +124,15 @@ untaken-back : (F : Film) (m : ℕ) → untaken tookBack [] (records F (suc m)) 
 unfolding untaken records
 untaken-back F m = refl
 
+-- the bytes that a step back may be given at frame m + 2
+given-latest : (F : Film) (m : ℕ) (bytes : List ℕ) → Given (records F (suc m)) bytes → bytes ≡ recordAt F m
+unfolding records
+given-latest F m bytes latest = refl
+
 -- from every frame that can be reached
 from-there : (F : Film) → Opened F → {w : World} {rs : List (List ℕ)} {cs : List Call} {os : List Seen} → Trace (F .file) w rs cs os
     → (m : ℕ) → Reached F m → w ≡ stands F m → rs ≡ records F m → os ≡ model F m cs
-unfolding model records given
+unfolding model records
 from-there F o none-left m p ew er = refl
 from-there F o (stepped-on {rs = rs} work rec r a b work′ rec′ h t) m p ew er =
     let y : Answer = answerOn F m (length work) (length rec) in
@@ -136,16 +140,15 @@ from-there F o (stepped-on {rs = rs} work rec r a b work′ rec′ h t) m p ew e
     let c = on-comes F o m p (length rec) (length work) in
     let ih = from-there F o t (moved m y) (c .there) (ap (λ (s : Seen). s .world) e) (ap (λ (s : Seen). untaken (s .answer) (s .bytes) rs) e ∙ rw er (untaken-on F m y (on-forward F m (length work) (length rec)))) in
     rw (e, ih)
-from-there F o (stepped-back {rs = rs} bytes r a b h t) m first ew er =
+from-there F o (stepped-back {rs = rs} bytes r a b g h t) m first ew er =
     let c = back-first F o bytes in
-    let k : MeetsBack _ bytes r a b = rw er at h in
-    let e = back-seen F o first ew bytes (answerFirst (pastOf bytes (F .first))) 0 r a b c k in
+    let e = back-seen F o first ew bytes (answerFirst (pastOf bytes (F .first))) 0 r a b c h in
     let ih = from-there F o t 0 first (ap (λ (s : Seen). s .world) e) (ap (λ (s : Seen). untaken (s .answer) [] rs) e ∙ rw er (untaken-first F (pastOf bytes (F .first)))) in
     rw (e, ih)
-from-there F o (stepped-back {rs = rs} bytes r a b h t) m (next {m = n} x g p q d l) ew er =
-    let c = back-taken F o (next x g p q d l) in
-    let k : MeetsBack _ (recordAt F n) r a b = rw er at h in
-    let e = back-seen F o (next x g p q d l) ew (recordAt F n) tookBack n r a b c k in
+from-there F o (stepped-back {rs = rs} bytes r a b g h t) m (next {m = n} x i p q d l) ew er =
+    let c = back-taken F o (next x i p q d l) in
+    let k : MeetsBack _ (recordAt F n) r a b = rw (given-latest F n bytes (rw er at g)) at h in
+    let e = back-seen F o (next x i p q d l) ew (recordAt F n) tookBack n r a b c k in
     let ih = from-there F o t n p (ap (λ (s : Seen). s .world) e) (ap (λ (s : Seen). untaken (s .answer) [] rs) e ∙ rw er (untaken-back F n)) in
     rw (e, ih)
 
@@ -157,13 +160,15 @@ opened-stands F = refl
 -- demand 3
 pub demand-3 : (file a b : List ℕ) (r : OpenedFile) (a′ b′ : List ℕ) → MeetsOpen file a b r a′ b′ → openingOf (r .answer) ≡ ok tt
     → (calls : List Call) (seen : List Seen) → Trace file (record { a = a′; b = b′; state = r .state }) [] calls seen
-    → modelOf file calls ≡ ok seen
-unfolding records
+    → modelOf file calls ≡ ok (record { opened = record { a = a′; b = b′; state = r .state }; seen = seen })
+unfolding modelOf records
 demand-3 file a b r a′ b′ h e calls seen t = go (opening file (length a) (length b)) (h .answer) (h .state) (h .left) (h .right) (opening-opened file (length a) (length b))
   where
-    go : (x : Res Film) → openingOf (r .answer) ≡ answer x → r .state ≡ stateAfter x → a′ ≡ pictureAfter a x → b′ ≡ pictureAfter b x → Each (OpenedAs file) x → modelOf file calls ≡ ok seen
+    go : (x : Res Film) → openingOf (r .answer) ≡ answer x → r .state ≡ stateAfter x → a′ ≡ pictureAfter a x → b′ ≡ pictureAfter b x → Each (OpenedAs file) x
+        → modelOf file calls ≡ ok (record { opened = record { a = a′; b = b′; state = r .state }; seen = seen })
     go (ok F) _ s l u (each k) =
         let w : _≡_ {A = World} (record { a = a′; b = b′; state = r .state }) (stands F 0) = (λ i. record { a = l i; b = u i; state = s i }) ∙ opened-stands F in
         let t′ : Trace (F .file) (record { a = a′; b = b′; state = r .state }) [] calls seen = rw (k .same) t in
-        rw (k .read) (ap (λ (o : List Seen). ok o) (sym (from-there F (k .opened) t′ 0 first w refl)))
+        let o = from-there F (k .opened) t′ 0 first w refl in
+        rw (k .read) (λ i. ok (record { opened = sym w i; seen = sym o i }))
     go (fault n) x s l u k = let z : _≡_ {A = ℕ} 0 1 = cc in absurd (omega arith)

@@ -1,4 +1,5 @@
--- Two laws that demand 3 is proved from: a delta keeps the picture's length, and parity alternates.
+-- Laws that the demands are proved from: a delta keeps the picture's length, parity alternates, and what a step that met its contract
+-- hands on.
 use Prim.Native.Nat.{ℕ, zero, suc, _%_}
 use native.Mathlib.Omega.{arith}
 use mathlib.Core.Bool.{not}
@@ -12,8 +13,13 @@ use Rattle.laws.specs.ResultLaws.{Each.each, each-any, each-is}
 use Rattle.delta.specs.Delta.{shapeOf, readDelta}
 use Rattle.delta.specs.DeltaLaws.{draw-length}
 use Rattle.frame.specs.Frame.{Frame}
-use Rattle.state.specs.World.{isOdd}
+use Rattle.state.specs.World.{World, isOdd}
+use Rattle.state.specs.Outcome.{After}
 use Rattle.state.specs.Film.{Film}
+use Rattle.player.specs.declared.SteppedOn.{SteppedOn}
+use Rattle.player.specs.Step.{LeavesOn}
+use Rattle.back.specs.declared.SteppedBack.{SteppedBack}
+use Rattle.back.specs.Back.{LeavesBack}
 use Rattle.model.specs.Model.{built}
 
 pub built-length : (F : Film) (x : Frame) (p g : List ℕ) → built F x p ≡ ok g → length g ≡ length p
@@ -29,3 +35,9 @@ odd-suc n = go (n % 2) refl
     go zero e = rw (e, eq-eqb (suc n % 2) 1 (omega arith))
     go (suc zero) e = rw (e, ne-eqb (suc n % 2) 1 (λ h. omega arith))
     go (suc (suc r)) e = absurd (omega arith)
+
+pub after-on : {o : After} {work rec : List ℕ} {r : SteppedOn} {a b work′ rec′ : List ℕ} → LeavesOn o work rec r a b work′ rec′ → _≡_ {A = World} (record { a = a; b = b; state = r .state }) (o .world)
+after-on m = λ i. record { a = m .left i; b = m .right i; state = m .state i }
+
+pub after-back : {o : After} {r : SteppedBack} {a b : List ℕ} → LeavesBack o r a b → _≡_ {A = World} (record { a = a; b = b; state = r .state }) (o .world)
+after-back m = λ i. record { a = m .left i; b = m .right i; state = m .state i }

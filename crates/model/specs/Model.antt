@@ -1,6 +1,7 @@
 -- The model of demand 3 (document 01, "Opening, stepping on, stepping back"). It is fed the file and the calls in order, and holds
 -- a number n, at first 1. Here m is n − 1: picture m + 1 is shown at n, and picture m hidden, where picture 0 is picture 1 too.
--- It shares the reading of chunks, BMHD, BODY, ANHD and deltas and the bytes of a record with opening and the steps, and nothing else.
+-- With opening and the steps it shares the readings of chunks, BMHD, BODY, ANHD, deltas and records, the bytes of a record, the number of
+-- bytes that differ, what an odd number is and the ids BMHD and BODY; and nothing of what an opening or a step comes to.
 use Prim.Native.Nat.{ℕ, zero, suc}
 use mathlib.Core.List.{List, [], _∷_}
 use mathlib.Core.Option.{Option, none, some}
@@ -144,6 +145,10 @@ model F m (on work room ∷ cs) =
 model F zero (back bytes ∷ cs) = record { answer = answerFirst (pastOf bytes (F .first)); world = stands F zero; bytes = [] } ∷ model F zero cs
 model F (suc m) (back bytes ∷ cs) = record { answer = tookBack; world = stands F m; bytes = [] } ∷ model F m cs
 
--- what is seen of a file after each call
-abbrev pub modelOf : List ℕ → List Call → Res (List Seen)
-modelOf file calls = film file >>= λ F. ok (model F 0 calls)
+-- what is seen of a file: after its opening, and after each call
+pub record Played : Type 0 where
+  pub opened : World
+  pub seen : List Seen
+
+unfoldable pub modelOf : List ℕ → List Call → Res Played
+modelOf file calls = film file >>= λ F. ok (record { opened = stands F 0; seen = model F 0 calls })

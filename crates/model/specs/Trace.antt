@@ -12,10 +12,10 @@ use Rattle.player.specs.Step.{onOf, MeetsOn}
 use Rattle.back.specs.Back.{backOf, MeetsBack}
 use Rattle.model.specs.Model.{Call, Call.on, Call.back, Seen}
 
--- the bytes that a step back is given, of the records not yet taken back, the latest first
-unfoldable pub given : List (List ℕ) → List ℕ → List ℕ
-given [] bytes = bytes
-given (r ∷ rs) bytes = r
+-- the bytes that a step back may be given, by the records not yet taken back, the latest first: the latest, or any where there is none
+pub data Given : List (List ℕ) → List ℕ → Type 0 where
+  any : {bytes : List ℕ} → Given [] bytes
+  latest : {bytes : List ℕ} {rs : List (List ℕ)} → Given (bytes ∷ rs) bytes
 
 -- the record in a record buffer: as many bytes as are reported
 unfoldable pub recordIn : Answer → List ℕ → List ℕ
@@ -45,6 +45,7 @@ pub data Trace (file : List ℕ) : World → List (List ℕ) → List Call → L
       → Trace file (seenOn r a b rec′ .world) (untaken (seenOn r a b rec′ .answer) (seenOn r a b rec′ .bytes) rs) cs os
       → Trace file w rs (on (length work) (length rec) ∷ cs) (seenOn r a b rec′ ∷ os)
   stepped-back : {w : World} {rs : List (List ℕ)} {cs : List Call} {os : List Seen} (bytes : List ℕ) (r : SteppedBack) (a b : List ℕ)
-      → MeetsBack w (given rs bytes) r a b
+      → Given rs bytes
+      → MeetsBack w bytes r a b
       → Trace file (seenBack r a b .world) (untaken (seenBack r a b .answer) [] rs) cs os
       → Trace file w rs (back bytes ∷ cs) (seenBack r a b ∷ os)

@@ -15,6 +15,7 @@ use Rattle.state.specs.declared.Sizes.{Sizes}
 use Rattle.state.specs.declared.State.{State}
 use Rattle.state.specs.State.{rowBytes}
 use Rattle.anhd.specs.declared.Items.{Items}
+use Rattle.anhd.specs.Anhd.{columnsOk}
 use Rattle.delta.specs.Delta.{Op, shapeOf, draw, readFrame, newFrame, opCount, Applies}
 use Rattle.delta.specs.ApplyLaws.{frame-delta}
 use Rattle.anhd.specs.declared.FrameHeader.{FrameHeader}
@@ -112,10 +113,10 @@ abbrev pub frameOf : ℕ → FrameHeader → List ℕ → Frame
 frameOf next header dlta = record { start = 0; size = 0; next = next; header = header; dlta = dlta }
 
 -- building frame x
-module _ (s : State) (x : Frame) (hidden work rec : List ℕ) (k : Fits s (length hidden) (length work)) where
+module _ (s : State) (x : Frame) (hidden work rec : List ℕ) (k : Fits s (length hidden) (length work)) (c : columnsOk (x .header .items) (rowBytes (s .sizes .width)) ≡ true) where
   change-is : (shown : List ℕ) → change (s .sizes) x shown hidden ≡ newFrame (s .sizes) (x .header .items) (x .dlta) hidden (length work)
   unfolding change newFrame
-  change-is shown = rw (frame-delta (s .sizes) (x .header .items) (x .dlta) (length hidden) (length work) (k .sizes) refl (k .same))
+  change-is shown = rw (frame-delta (s .sizes) (x .header .items) (x .dlta) (length hidden) (length work) (k .sizes) refl (k .same) c)
 
   pub builds-refused : {why : Refusal} {work′ : List ℕ} → Applies (s .sizes) (x .header .items) (x .dlta) hidden work (fault (numberOf why)) work′
       → Builds (λ shown. make s shown hidden (some x)) s hidden work rec (record { answer = Refused why; state = s }) hidden work′ rec
@@ -124,7 +125,7 @@ module _ (s : State) (x : Frame) (hidden work rec : List ℕ) (k : Fits s (lengt
       let e = applied-refused p in
       record { steps = λ shown. rw (change-is shown, e) (record { answer = refl; state = refl; picture = refl; drawn = p .leaves ∙ rw e; written = refl }) }
 
-  pub builds-recorded : {c : ℕ} {f p rec′ : List ℕ} {r : SteppedOn} → Applies (s .sizes) (x .header .items) (x .dlta) hidden work (ok c) f
+  pub builds-recorded : {n : ℕ} {f p rec′ : List ℕ} {r : SteppedOn} → Applies (s .sizes) (x .header .items) (x .dlta) hidden work (ok n) f
       → Records (makes s (frameOf (x .next) (x .header) []) hidden f) s hidden rec r p rec′ → Builds (λ shown. make s shown hidden (some x)) s hidden work rec r p f rec′
   unfolding makes
   builds-recorded h q = record { steps = λ shown. rw (change-is shown, applied-drawn h) (q .steps work) }

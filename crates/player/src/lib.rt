@@ -1,8 +1,11 @@
 // Stepping on: the next frame is found, built, recorded and shown.
+ghost use mathlib.Core.Bool.{true};
 ghost use mathlib.Core.List.{[]};
 ghost use mathlib.Core.Option.{some};
 ghost use mathlib.Core.Path.{_≡_};
 ghost use lib.ListN.{length};
+ghost use Rattle.state.specs.State.{rowBytes};
+ghost use Rattle.anhd.specs.Anhd.{columnsOk};
 ghost use Rattle.player.specs.Step.{ready, makes, make, advance, MeetsOn};
 ghost use Rattle.player.specs.ReadyLaws.{readyOf, Fits};
 ghost use Rattle.player.specs.StepLaws.{frameOf, Records, Builds};
@@ -114,7 +117,7 @@ fn build_frame(
     work: &mut [u8],
     rec: &mut [u8],
 ) -> SteppedOn
-    requires { ⌜ Fits state (length (now hidden)) (length (now work)) ⌝ }
+    requires { ⌜ Fits state (length (now hidden)) (length (now work)) × (columnsOk (header .items) (rowBytes (state .sizes .width)) ≡ true) ⌝ }
     ensures { λ r. ⌜ Builds (λ shown. make state shown (now (hidden .entry)) (some (frameOf next header (now (dlta .entry))))) state (now (hidden .entry)) (now (work .entry)) (now (rec .entry)) r (now (hidden .exit)) (now (work .exit)) (now (rec .exit)) ⌝ }
 {
     let items = header.items;

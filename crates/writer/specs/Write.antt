@@ -3,6 +3,7 @@
 use Prim.Native.Nat.{ℕ, zero, suc, _+_, _-_, _*_, _/_, _%_}
 use mathlib.Core.Bool.{Bool, true, false}
 use mathlib.Core.List.{List, [], _∷_, _++_}
+use mathlib.Core.Path.{_≡_}
 use lib.Dec.{leb, eqb}
 use lib.ListN.{length, getD, take, drop, replicate}
 use Rattle.laws.specs.Result.{Res, Res.ok, Res.fault, _>>=_, need}
@@ -79,6 +80,11 @@ written z old new room =
 abbrev pub bufferAfter : List ℕ → List ℕ → Res ℕ → List ℕ
 bufferAfter bytes out (ok n) = bytes ++ drop (length bytes) out
 bufferAfter bytes out (fault n) = out
+
+-- what a call answers, and what it leaves in the output buffer
+pub record Writes (z : Sizes) (old new out : List ℕ) (answer : Res ℕ) (out′ : List ℕ) : Type 0 where
+  pub answers : answer ≡ written z old new (length out)
+  pub leaves : out′ ≡ bufferAfter (deltaBytes z old new) out (written z old new (length out))
 
 -- what an answer says in the paper's terms
 abbrev pub deltaOf : Delta → Res ℕ

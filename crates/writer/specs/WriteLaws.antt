@@ -9,13 +9,13 @@ use lib.Dec.{ltb}
 use lib.ListN.{length, replicate, length-append, length-replicate}
 use lib.Seq.{sets, sets-eq}
 use borrow.Author.Tests.{eq-eqb, ne-eqb, le-leb, lt-leb, ltb-true, ltb-false}
-use Rattle.laws.specs.Result.{Res, Res.ok, Res.fault}
+use Rattle.laws.specs.Result.{Res.ok, Res.fault}
 use Rattle.laws.specs.ResultLaws.{each-is}
 use Rattle.state.specs.declared.Sizes.{Sizes}
 use Rattle.state.specs.State.{rowBytes, frameBytes, frameLength}
 use Rattle.state.specs.StateLaws.{Sound, sizes-sound}
 use Rattle.writer.specs.Planes.{Frames}
-use Rattle.writer.specs.Write.{pointersBytes, listsBytes, deltaBytes, written, bufferAfter}
+use Rattle.writer.specs.Write.{pointersBytes, listsBytes, deltaBytes, written, Writes}
 use Rattle.writer.specs.PlaneLaws.{pointers-length}
 
 -- the frames of sizes within the limits
@@ -37,9 +37,6 @@ frames-are z e o w = frames-sound (each-is e (sizes-sound z)) o w
 
 -- what is answered, and what is left in the output buffer
 module _ (z : Sizes) (old new out : List ℕ) where
-  abbrev pub Answers : Res ℕ → List ℕ → Type 0
-  Answers r left = (r ≡ written z old new (length out)) × (left ≡ bufferAfter (deltaBytes z old new) out (written z old new (length out)))
-
   lists : List ℕ
   lists = listsBytes old new (rowBytes (z .width)) (z .height) (z .planes) 0
 
@@ -50,19 +47,19 @@ module _ (z : Sizes) (old new out : List ℕ) where
       let Z : List ℕ = replicate (64 - 4 * z .planes) 0 in
       omega (arith, length-append (P ++ Z) lists, length-append P Z, pointers-length old new (rowBytes (z .width)) (z .height) (z .planes) 0 64, length-replicate {A = ℕ} (64 - 4 * z .planes) 0)
 
-  answers-fault : {k : ℕ} → written z old new (length out) ≡ fault k → Answers (fault k) out
-  answers-fault e = (sym e, rw e)
+  answers-fault : {k : ℕ} → written z old new (length out) ≡ fault k → Writes z old new out (fault k) out
+  answers-fault e = record { answers = sym e; leaves = rw e }
 
-  pub limits : {k : ℕ} → frameLength z ≡ fault k → Answers (fault k) out
+  pub limits : {k : ℕ} → frameLength z ≡ fault k → Writes z old new out (fault k) out
   unfolding written
   limits e = answers-fault (simp e)
 
   module _ {n : ℕ} (e : frameLength z ≡ ok n) where
-    pub not-old : (length old ≡ n → ⊥) → Answers (fault 12) out
+    pub not-old : (length old ≡ n → ⊥) → Writes z old new out (fault 12) out
     unfolding written
     not-old h = answers-fault (simp (e, ne-eqb (length old) n h))
 
-    pub not-new : length old ≡ n → (length new ≡ n → ⊥) → Answers (fault 12) out
+    pub not-new : length old ≡ n → (length new ≡ n → ⊥) → Writes z old new out (fault 12) out
     unfolding written
     not-new o h = answers-fault (simp (e, eq-eqb (length old) n o, ne-eqb (length new) n h))
 
@@ -75,7 +72,7 @@ module _ (z : Sizes) (old new out : List ℕ) where
       size = delta-length (sound .planes-most)
 
       module _ {t : Bool} (l : t ≡ ltb (length out) (64 + length (listsBytes old new (rowBytes (z .width)) (z .height) (z .planes) 0))) where
-        pub no-room : t ≡ true → Answers (fault 51) out
+        pub no-room : t ≡ true → Writes z old new out (fault 51) out
         unfolding written
         no-room h =
             let k = ltb-true (length out) (64 + length (listsBytes old new (rowBytes (z .width)) (z .height) (z .planes) 0)) (sym l ∙ h) in
@@ -86,10 +83,10 @@ module _ (z : Sizes) (old new out : List ℕ) where
 
         pub all-written : t ≡ false → {r : ℕ} {left : List ℕ}
             → (r ≡ 64 + length (listsBytes old new (rowBytes (z .width)) (z .height) (z .planes) 0)) × (left ≡ sets out 0 (deltaBytes z old new))
-            → Answers (ok r) left
+            → Writes z old new out (ok r) left
         unfolding written
         all-written h f =
             let k : length (deltaBytes z old new) ≤ length out = omega (arith, size, has-room h) in
             let r : written z old new (length out) ≡ ok (length (deltaBytes z old new)) =
             simp (e, eq-eqb (length old) n o, eq-eqb (length new) n w, le-leb (length (deltaBytes z old new)) (length out) k) in
-            (ap (λ (j : ℕ). ok j) (f .0 ∙ sym size) ∙ sym r, f .1 ∙ sets-eq (deltaBytes z old new) out 0 (omega (arith, k)) ∙ rw (r, zero-add (length (deltaBytes z old new))))
+            record { answers = ap (λ (j : ℕ). ok j) (f .0 ∙ sym size) ∙ sym r; leaves = f .1 ∙ sets-eq (deltaBytes z old new) out 0 (omega (arith, k)) ∙ rw (r, zero-add (length (deltaBytes z old new))) }

@@ -9,7 +9,7 @@ ghost use lib.Seq.{sets};
 ghost use Rattle.laws.specs.Result.{pick};
 ghost use Rattle.state.specs.State.{rowBytes};
 ghost use Rattle.writer.specs.Planes.{Frames};
-ghost use Rattle.writer.specs.Write.{be32Bytes, pointersBytes, listsBytes, deltaBytes, written, bufferAfter, deltaOf};
+ghost use Rattle.writer.specs.Write.{be32Bytes, pointersBytes, listsBytes, deltaBytes, Writes, deltaOf};
 use crate::plane::plane_length;
 use crate::plane::write_plane;
 use buffer::fill;
@@ -115,7 +115,7 @@ fn write_delta(out: &mut [u8], old: &[u8], new: &[u8], sizes: Sizes) -> usize
 
 // Writes the delta that turns the old frame into the new one: 11 for the sizes, 12 for the frames, 51 if it doesn't fit.
 pub fn write(out: &mut [u8], old: &[u8], new: &[u8], sizes: Sizes) -> Delta
-    ensures { λ r. ⌜ (deltaOf r ≡ written sizes (now (old .entry)) (now (new .entry)) (length (now (out .entry)))) × (now (out .exit) ≡ bufferAfter (deltaBytes sizes (now (old .entry)) (now (new .entry))) (now (out .entry)) (written sizes (now (old .entry)) (now (new .entry)) (length (now (out .entry))))) ⌝ }
+    ensures { λ r. ⌜ Writes sizes (now (old .entry)) (now (new .entry)) (now (out .entry)) (deltaOf r) (now (out .exit)) ⌝ }
 {
     let l = sizes.frame_length();
     match l {

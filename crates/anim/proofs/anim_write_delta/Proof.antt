@@ -32,7 +32,7 @@ same-length : tie.Need-same-length
 same-length c = search needs
 
 returns-2 : tie.Need-returns-2
-returns-2 c = let k = c .before .before .before .before .before .before .before .before .before .before .before .before .before .args in write-sized (record { width = k .width; height = k .height; planes = k .planes }) (k .old .now) (k .new .now) (k .out .now) (k .len .now) (c .before .before .before .before .before .before .before .before .if1 .left) (told deltaOf (c .before .before .before .before .before .before .write .ensures .0) (c .before .before .d .given .1)) (c .before .before .before .before .before .before .write .ensures .1) (c .number .ensures) refl
+returns-2 c = let k = c .before .before .before .before .before .before .before .before .before .before .before .before .before .args in write-sized (record { width = k .width; height = k .height; planes = k .planes }) (k .old .now) (k .new .now) (k .out .now) (k .len .now) (c .before .before .before .before .before .before .before .before .if1 .left) (told deltaOf (c .before .before .before .before .before .before .write .ensures .answers) (c .before .before .d .given .1)) (c .before .before .before .before .before .before .write .ensures .leaves) (c .number .ensures) refl
 
 same-length-2 : tie.Need-same-length-2
 same-length-2 c = search needs
@@ -41,7 +41,7 @@ same-length-3 : tie.Need-same-length-3
 same-length-3 c = search needs
 
 returns-3 : tie.Need-returns-3
-returns-3 c = let k = c .before .before .before .before .before .before .before .before .before .before .before .before .before .before .before .before .args in write-sized (record { width = k .width; height = k .height; planes = k .planes }) (k .old .now) (k .new .now) (k .out .now) (k .len .now) (c .before .before .before .before .before .before .before .before .before .before .before .if1 .left) (told deltaOf (c .before .before .before .before .before .before .before .before .before .write .ensures .0) (c .before .before .before .before .before .d2 .given .1)) (c .before .before .before .before .before .before .before .before .before .write .ensures .1) refl (c .before .before .write-number .ensures)
+returns-3 c = let k = c .before .before .before .before .before .before .before .before .before .before .before .before .before .before .before .before .args in write-sized (record { width = k .width; height = k .height; planes = k .planes }) (k .old .now) (k .new .now) (k .out .now) (k .len .now) (c .before .before .before .before .before .before .before .before .before .before .before .if1 .left) (told deltaOf (c .before .before .before .before .before .before .before .before .before .write .ensures .answers) (c .before .before .before .before .before .d2 .given .1)) (c .before .before .before .before .before .before .before .before .before .write .ensures .leaves) refl (c .before .before .write-number .ensures)
 
 pub anim-write-delta-spec : {M : Type 1} → statement M
 anim-write-delta-spec =

@@ -4,8 +4,9 @@ use native.Mathlib.Omega.{arith}
 use mathlib.Core.Path.{_∙_}
 use Rattle.player.specs.StepLaws.{advance-refused, advance-ended, advance-built}
 use Rattle.frame.specs.Frame.{nextOf}
-use Rattle.frame.specs.FrameLaws.{Rises, frame-rises}
+use Rattle.frame.specs.FrameLaws.{Rises, frame-rises, frame-columns}
 use Rattle.laws.specs.ResultLaws.{told}
+use Rattle.state.specs.State.{rowBytes}
 use borrow.Author.Needs.{needs}
 use Rattle.player.proofs.advance.Statement.{statement}
 use Rattle.player.proofs.advance.Tie as tie
@@ -41,7 +42,13 @@ contents-requires : tie.Need-contents-requires
 contents-requires c κs = search needs
 
 build-frame-requires : tie.Need-build-frame-requires
-build-frame-requires c κs = search needs
+build-frame-requires c κs =
+    let t = c .before .before .before .before .before .before in
+    let f = t .before .before in
+    let s = f .before .before .before .before .before .before .before in
+    let e = told (nextOf (s .args .anim .now)) (rw (f .before .row-bytes .ensures) at (f .frame-at .ensures)) (t .f2 .given .1) in
+    let w = frame-columns (s .args .anim .now) (rowBytes (s .args .state .sizes .width)) (s .args .state .next) _ e in
+    (s .pre, w)
 
 returns : tie.Need-returns
 returns c = let k = c .before .before .before .before .before .before .before .before .before .before .args in advance-refused (k .anim .now) (k .state) (k .hidden .now) (k .work .now) (k .rec .now) (told (nextOf (k .anim .now)) (rw (c .before .before .before .before .row-bytes .ensures) at (c .before .before .before .frame-at .ensures)) (c .before .f .given .1))

@@ -14,7 +14,10 @@ enum-told : tie.Need-enum-told
 enum-told c = search needs
 
 record-frame-requires : tie.Need-record-frame-requires
-record-frame-requires c κs = search needs
+record-frame-requires c κs =
+    let s = c .before .before .before .before .before .before .before .before .before .before .before .before .before .before in
+    let f = s .pre .0 in
+    record { sizes = f .sizes; same = search needs; short = f .short; few = f .few; place = f .place }
 
 same-length : tie.Need-same-length
 same-length c = search needs
@@ -23,7 +26,7 @@ same-length-2 : tie.Need-same-length-2
 same-length-2 c = search needs
 
 returns : tie.Need-returns
-returns c = let k = c .before .before .before .before .before .before .before .before .before .before .before .before .args in builds-refused (k .state) (frameOf (k .next) (k .header) (k .dlta .now)) (k .hidden .now) (k .work .now) (k .rec .now) (c .before .before .before .before .before .before .before .before .before .before .before .before .pre) (rw (c .before .d .given .1) at (c .before .before .before .before .before .apply .ensures))
+returns c = let k = c .before .before .before .before .before .before .before .before .before .before .before .before .args in builds-refused (k .state) (frameOf (k .next) (k .header) (k .dlta .now)) (k .hidden .now) (k .work .now) (k .rec .now) (c .before .before .before .before .before .before .before .before .before .before .before .before .pre .0) (c .before .before .before .before .before .before .before .before .before .before .before .before .pre .1) (rw (c .before .d .given .1) at (c .before .before .before .before .before .apply .ensures))
 
 same-length-3 : tie.Need-same-length-3
 same-length-3 c = search needs
@@ -35,7 +38,7 @@ same-length-5 : tie.Need-same-length-5
 same-length-5 c = search needs
 
 returns-2 : tie.Need-returns-2
-returns-2 c = let k = c .before .before .before .before .before .before .before .before .before .before .before .before .before .before .before .before .before .before .before .args in builds-recorded (k .state) (frameOf (k .next) (k .header) (k .dlta .now)) (k .hidden .now) (k .work .now) (k .rec .now) (c .before .before .before .before .before .before .before .before .before .before .before .before .before .before .before .before .before .before .before .pre) (rw (c .before .before .before .before .before .before .before .before .enum-told .given .1) at (c .before .before .before .before .before .before .before .before .before .before .before .before .apply .ensures)) (c .before .before .before .before .record-frame .ensures)
+returns-2 c = let k = c .before .before .before .before .before .before .before .before .before .before .before .before .before .before .before .before .before .before .before .args in builds-recorded (k .state) (frameOf (k .next) (k .header) (k .dlta .now)) (k .hidden .now) (k .work .now) (k .rec .now) (c .before .before .before .before .before .before .before .before .before .before .before .before .before .before .before .before .before .before .before .pre .0) (c .before .before .before .before .before .before .before .before .before .before .before .before .before .before .before .before .before .before .before .pre .1) (rw (c .before .before .before .before .before .before .before .before .enum-told .given .1) at (c .before .before .before .before .before .before .before .before .before .before .before .before .apply .ensures)) (c .before .before .before .before .record-frame .ensures)
 
 pub build-frame-spec : {M : Type 1} → statement M
 build-frame-spec =

@@ -1,0 +1,18 @@
+-- A law of ANHD: a header that is read has whole columns.
+use Prim.Native.Nat.{ℕ}
+use mathlib.Core.Bool.{true, _||_}
+use mathlib.Core.List.{List}
+use mathlib.Core.Path.{_≡_}
+use lib.Dec.{leb, eqb}
+use lib.ListN.{length, getD}
+use Rattle.laws.specs.ResultLaws.{Each, Each.each, each-need}
+use Rattle.laws.specs.Bytes.{be32}
+use Rattle.anhd.specs.declared.FrameHeader.{FrameHeader}
+use Rattle.anhd.specs.Anhd.{bitsOk, itemsOf, columnsOk, frameHeader}
+
+pub header-columns : (B : ℕ) (s : List ℕ) → Each (λ (h : FrameHeader). columnsOk (h .items) B ≡ true) (frameHeader B s)
+unfolding frameHeader
+header-columns B s =
+    each-need (leb 40 (length s)) 32 _ λ _. each-need (eqb (getD s 0 0) 5 || eqb (getD s 0 0) 7) 33 _ λ _.
+    each-need (eqb (getD s 18 0) 0 || eqb (getD s 18 0) 2) 34 _ λ _. each-need (bitsOk (getD s 0 0) (be32 s 20)) 35 _ λ _.
+    each-need (columnsOk (itemsOf (getD s 0 0) (be32 s 20)) B) 36 _ λ e. each e

@@ -1,0 +1,75 @@
+-- What demands 1 and 2 speak of (document 01, "Refusal numbers", "Deltas" and "Opening, stepping on, stepping back").
+use Prim.Native.Nat.{ℕ, suc, _≤_}
+use mathlib.Core.List.{List, [], _++_}
+use mathlib.Core.Option.{Option, none, some}
+use mathlib.Core.Path.{_≡_}
+use lib.ListN.{length, take, drop}
+use Rattle.laws.specs.Result.{Res, Res.ok, Res.fault}
+use Rattle.state.specs.State.{rowBytes}
+use Rattle.state.specs.World.{World, shownOf, hiddenOf}
+use Rattle.state.specs.Outcome.{Answer, Answer.refused, Answer.ended, Answer.tookOn, Answer.tookBack}
+use Rattle.delta.specs.Delta.{Op, shapeOf, readDelta, draw}
+use Rattle.record.specs.Record.{recordBytes}
+use Rattle.frame.specs.Frame.{Frame, frameAt}
+use Rattle.opening.specs.declared.OpenedFile.{OpenedFile}
+use Rattle.opening.specs.Open.{zeros, openingOf, MeetsOpen}
+use Rattle.player.specs.declared.SteppedOn.{SteppedOn}
+use Rattle.player.specs.Step.{ready, reportOf, onOf, MeetsOn}
+use Rattle.back.specs.declared.SteppedBack.{SteppedBack}
+use Rattle.back.specs.Back.{backOf, MeetsBack}
+
+-- the number with which a step, or an opening, is refused, if it is
+abbrev pub refusalOf : Answer → Option ℕ
+refusalOf (refused n) = some n
+refusalOf ended = none
+refusalOf (tookOn r) = none
+refusalOf tookBack = none
+
+abbrev pub openRefusal : Res (Unit {0}) → Option ℕ
+openRefusal (ok u) = none
+openRefusal (fault n) = some n
+
+-- a call that met its contract: pictures and state, work and record buffer before it, its refusal if any, and the same after it. Before
+-- opening the state is six zeros; opening and stepping back are lent neither work nor record buffer.
+pub data Met : World → (work rec : List ℕ) → Option ℕ → World → (work′ rec′ : List ℕ) → Type 0 where
+  opens : (file a b : List ℕ) (r : OpenedFile) (a′ b′ : List ℕ) → MeetsOpen file a b r a′ b′
+      → Met (record { a = a; b = b; state = zeros }) [] [] (openRefusal (openingOf (r .answer))) (record { a = a′; b = b′; state = r .state }) [] []
+  steps-on : (file : List ℕ) (w : World) (work rec : List ℕ) (r : SteppedOn) (a b work′ rec′ : List ℕ) → MeetsOn file w work rec r a b work′ rec′
+      → Met w work rec (refusalOf (onOf (r .answer))) (record { a = a; b = b; state = r .state }) work′ rec′
+  steps-back : (w : World) (bytes : List ℕ) (r : SteppedBack) (a b : List ℕ) → MeetsBack w bytes r a b
+      → Met w [] [] (refusalOf (backOf (r .answer))) (record { a = a; b = b; state = r .state }) [] []
+
+-- what a call refused with n leaves: neither picture, nor the state, nor the record buffer is changed, nor the work buffer unless n is 51
+pub record Unchanged (n : ℕ) (w : World) (work rec : List ℕ) (w′ : World) (work′ rec′ : List ℕ) : Type 0 where
+  pub left : w′ .a ≡ w .a
+  pub right : w′ .b ≡ w .b
+  pub state : w′ .state ≡ w .state
+  pub written : rec′ ≡ rec
+  pub drawn : (n ≡ 51 → ⊥) → work′ ≡ work
+
+-- a step on with nothing else to refuse: the tests of state and buffers passed, and a frame with a good header stands at the next place
+pub record Free (file : List ℕ) (w : World) (work : ℕ) (x : Frame) : Type 0 where
+  pub tests : ready (length file) (w .state) (length (w .a)) (length (w .b)) work ≡ ok tt
+  pub there : frameAt (take (w .state .end) file) (rowBytes (w .state .sizes .width)) (w .state .next) ≡ ok (some x)
+
+-- the ops of its delta, or its first fault
+abbrev pub opsOf : World → Frame → Res (List Op)
+opsOf w x = readDelta (shapeOf (w .state .sizes) (x .header .items)) (x .dlta)
+
+-- the picture that they make of the hidden one
+abbrev pub newOf : World → Frame → List Op → List ℕ
+newOf w x ops = draw (shapeOf (w .state .sizes) (x .header .items)) (x .dlta) ops (hiddenOf w)
+
+-- the record of a step to a frame that makes f of the hidden picture
+abbrev pub recordOf : World → List ℕ → List ℕ
+recordOf w f = recordBytes (suc (w .state .frame)) (w .state .next) (hiddenOf w) f
+
+-- what a taken step to frame x, which makes f of the hidden picture, answers and leaves: f is in the hidden buffer, which is now the shown
+-- one, and in the work buffer; the shown picture doesn't change; the record's bytes stand in front of what was in its buffer
+pub record Takes (w : World) (rec : List ℕ) (x : Frame) (f : List ℕ) (y : Answer) (w′ : World) (work′ rec′ : List ℕ) : Type 0 where
+  pub answer : y ≡ tookOn (reportOf (w .state) x (hiddenOf w) f)
+  pub state : w′ .state ≡ record { sizes = w .state .sizes; frame = suc (w .state .frame); next = x .next; end = w .state .end }
+  pub shown : shownOf w′ ≡ f
+  pub hidden : hiddenOf w′ ≡ shownOf w
+  pub drawn : work′ ≡ f
+  pub written : rec′ ≡ recordOf w f ++ drop (length (recordOf w f)) rec

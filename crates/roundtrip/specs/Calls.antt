@@ -1,0 +1,55 @@
+-- Demand 2's last sentence, of calls: where `writer::write` met its contract and wasn't refused, the delta that it wrote, applied to the
+-- old picture by a `delta::apply` that met its contract, gives the new one.
+use Prim.Native.Nat.{ℕ}
+use mathlib.Core.List.{List, _++_}
+use mathlib.Core.Path.{_≡_, refl, sym, ap, _∙_}
+use lib.Dec.{leb, eqb}
+use lib.ListN.{length, take, drop}
+use lib.Seq.{take-append-seam}
+use borrow.Author.Tests.{eqb-true}
+use Rattle.laws.specs.Result.{Res, Res.ok, _>>=_, answer, orKeep}
+use Rattle.laws.specs.ResultLaws.{Each, Each.each, each-self, each-bind, each-need, each-is}
+use Rattle.state.specs.declared.Sizes.{Sizes}
+use Rattle.state.specs.State.{frameLength}
+use Rattle.state.specs.StateLaws.{sizes-sound}
+use Rattle.anhd.specs.declared.Items.the-variants.{Bytes}
+use Rattle.delta.specs.Delta.{shapeOf, readDelta, draw, newFrame, Applies}
+use Rattle.delta.specs.DeltaLaws.{same-answer}
+use Rattle.writer.specs.Write.{deltaBytes, written, bufferAfter, Writes}
+use Rattle.roundtrip.specs.RoundTrip.{delta-turns, written-turns}
+
+-- a delta of k bytes that can be written: the sizes are within the limits, and both pictures have a frame's length
+pub record Written (z : Sizes) (old new : List ℕ) (k : ℕ) : Type 0 where
+  pub size : k ≡ length (deltaBytes z old new)
+  pub sizes : frameLength z ≡ ok (length old)
+  pub same : length new ≡ length old
+
+written-whole : (z : Sizes) (old new : List ℕ) (room : ℕ) → Each (Written z old new) (written z old new room)
+unfolding written
+written-whole z old new room =
+    each-bind (each-self (frameLength z)) λ n e.
+    each-need (eqb (length old) n) 12 _ λ o. each-need (eqb (length new) n) 12 _ λ w. each-need (leb (length (deltaBytes z old new)) room) 51 _ λ _.
+    let l : length old ≡ n = eqb-true (length old) n o in
+    each (record { size = refl; sizes = e ∙ rw l; same = eqb-true (length new) n w ∙ sym l })
+
+module _ (z : Sizes) (old new out : List ℕ) (n : ℕ) (out′ : List ℕ) (m : Writes z old new out (ok n) out′) where
+  pub delta-written : Written z old new n
+  delta-written = each-is (sym (m .answers)) (written-whole z old new (length out))
+
+  -- the first n bytes of the output buffer are the delta
+  pub delta-stands : take n out′ ≡ deltaBytes z old new
+  delta-stands =
+      let e : out′ ≡ deltaBytes z old new ++ drop (length (deltaBytes z old new)) out = m .leaves ∙ ap (bufferAfter (deltaBytes z old new) out) (sym (m .answers)) in
+      rw (delta-written .size, e) (take-append-seam (deltaBytes z old new) (drop (length (deltaBytes z old new)) out))
+
+  -- their ops make the new picture of the old one
+  pub delta-makes : (readDelta (shapeOf z Bytes) (deltaBytes z old new) >>= λ ops. ok (draw (shapeOf z Bytes) (deltaBytes z old new) ops old)) ≡ ok new
+  delta-makes = delta-turns z (length old) old new (each-is (delta-written .sizes) (sizes-sound z)) refl (delta-written .same)
+
+  pub new-made : newFrame z Bytes (take n out′) old (length old) ≡ ok new
+  new-made = rw delta-stands (written-turns z (length old) old new (delta-written .sizes) refl (delta-written .same))
+
+  pub applied-new : (work : List ℕ) (x : Res ℕ) (work′ : List ℕ) → length work ≡ length old → Applies z Bytes (take n out′) old work x work′ → (answer x ≡ ok tt) × (work′ ≡ new)
+  applied-new work x work′ l p =
+      let e : newFrame z Bytes (take n out′) old (length work) ≡ ok new = rw l new-made in
+      (ap answer (p .counts) ∙ same-answer z Bytes (take n out′) old (length work) ∙ ap answer e, p .leaves ∙ ap (orKeep work) e)
