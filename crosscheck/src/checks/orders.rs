@@ -172,7 +172,7 @@ pub fn rows_and_deltas(check: &mut Check) -> Checked<()> {
         let mut length = Twin::new("length", if has(set, 5) { &[3; 7] } else { &[3; 8] });
         let mut out = Twin::new("out", if has(set, 4) { &[3; 64] } else { &[3; 90] });
         let sizes = [16, height, 1];
-        check.pair.write_delta(&mut player.a, &mut player.b, &mut out, &mut length, sizes)?;
+        check.pair.write_delta(sizes, &mut player.a, &mut player.b, &mut out, &mut length)?;
         if has(set, 5) {
             player.state.set(&[1; 47]);
         }
