@@ -224,6 +224,9 @@ pub fn step_back(state: &mut State, a: &mut [u8], b: &mut [u8], rec: &[u8]) -> A
 /// The place of a row of a plane in A and in B, of whose lengths it is told.
 pub fn row_place(plane: u64, row: u64, state: &State, a: usize, b: usize) -> Answer<usize> {
     let sizes = state.sizes()?;
+    if broken("far-row-before-lengths") {
+        need(plane < MAX_PLANES && row < MAX_SIDE, NoSuchRow)?;
+    }
     need(a == sizes.frame() && b == sizes.frame(), BufferLength)?;
     need(plane < state.planes && row < state.height, NoSuchRow)?;
     Ok((plane as usize * sizes.height + row as usize) * sizes.row())

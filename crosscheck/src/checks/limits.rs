@@ -118,7 +118,7 @@ pub fn lengths(check: &mut Check) -> Checked<()> {
         for length in wrong(bytes.len()) {
             let mut player = player.clone();
             buffer(&mut player, which).set(&stretched(&bytes, length));
-            player.row(&mut check.pair, 0, 1)?;
+            rows(check, &mut player)?;
             player.step_on(&mut check.pair)?;
             player.step_back(&mut check.pair, &record)?;
             player.open(&mut check.pair)?;
@@ -135,9 +135,17 @@ pub fn lengths(check: &mut Check) -> Checked<()> {
         player.open(&mut check.pair)?;
         player.step_on(&mut check.pair)?;
         player.step_back(&mut check.pair, &[])?;
-        player.row(&mut check.pair, 0, 0)?;
+        rows(check, &mut player)?;
     }
     writer_lengths(check)
+}
+
+/// Asks for a row that is there, and for some of a plane or with a number that no picture has.
+fn rows(check: &mut Check, player: &mut Player) -> Checked<()> {
+    for (plane, row) in [(0, 1), (8, 1), (0, 1_024), (1 << 32, 1 << 32), (u64::MAX, u64::MAX)] {
+        player.row(&mut check.pair, plane, row)?;
+    }
+    Ok(())
 }
 
 /// One of a player's buffers.
