@@ -6,10 +6,10 @@
  * and, with the records that it writes, back again, and it writes method 5 deltas.
  *
  *     rt staticlib anim
- *     cc -I include viewer.c target/staticlib/libanim.a -o viewer
+ *     cc -I include examples/viewer.c target/staticlib/libanim.a -o viewer
  *
- * libanim.a is for x86-64 Linux. crosscheck/c/play.c is a whole program: it plays a file to its end
- * and back again.
+ * libanim.a is for x86-64 Linux. examples/viewer.c is a whole program that plays a file to its end;
+ * crosscheck/c/play.c steps back too, and writes deltas.
  *
  * What holds for every function here
  *
@@ -22,6 +22,10 @@
  *     no alignment.
  *   - Calls may run at the same time in several threads if no buffer that one of them writes overlaps a
  *     buffer of another. Two players may share one file, which is only read.
+ *   - Its arguments stand in one order: numbers (sizes, plane, row); the file; the state; A, B; the work
+ *     buffer; the record or the output; the report or the length. Each function has a typed call at the
+ *     end of this header, which takes an anim_state, an anim_report or a uint64_t by its address, and
+ *     the length of A, B and the work buffer once.
  *   - Of several things that are wrong, the first in the order given here is answered.
  *   - A refused call changes nothing, with two exceptions: anim_open writes six zeros to the state,
  *     and a step on that is refused with ANIM_NO_ROOM leaves the frame in the work buffer.
@@ -50,13 +54,16 @@
 extern "C" {
 #endif
 
+/* The version of the interface. It grows by one with every landing that changes the interface. */
+#define ANIM_VERSION 1
+
 /* Limits. */
-#define ANIM_MAX_WIDTH 1024          /* pixels */
-#define ANIM_MAX_HEIGHT 1024         /* pixels */
+#define ANIM_MAX_WIDTH 1024                /* pixels */
+#define ANIM_MAX_HEIGHT 1024               /* pixels */
 #define ANIM_MAX_PLANES 8
-#define ANIM_MAX_FRAME 1000000       /* the highest frame number */
-#define ANIM_MAX_FRAME_BYTES 1048576 /* the longest frame: 1024 x 1024 in 8 planes */
-#define ANIM_MAX_FILE 2147483647     /* the longest file, in bytes */
+#define ANIM_MAX_FRAME_NUMBER 1000000      /* the highest frame number */
+#define ANIM_MAX_FRAME_BYTES 1048576       /* the longest frame: 1024 x 1024 in 8 planes */
+#define ANIM_MAX_FILE UINT64_C(2147483647) /* the longest file, in bytes */
 
 /* Answers that aren't refusals. */
 #define ANIM_OK 0  /* opened, taken or written; the size is answered; the row is there */
@@ -70,10 +77,10 @@ extern "C" {
 #define ANIM_CHUNK_PAST_PARENT 21  /* under 12 bytes; a chunk passes its parent; FORM ANIM or a FORM directly in it under 4 bytes */
 #define ANIM_NOT_FORM_ANIM 22      /* not a FORM ANIM */
 #define ANIM_NO_PICTURE 23         /* no FORM ILBM, or its first lacks BMHD or BODY */
-#define ANIM_BAD_HEADER 24         /* BMHD not 20 bytes, sizes outside the limits, masking 1, compression above 1 */
+#define ANIM_BAD_BMHD 24           /* BMHD not 20 bytes, sizes outside the limits, masking 1, compression above 1 */
 #define ANIM_BAD_BODY 25           /* BODY too short, or a run past its row */
 #define ANIM_NO_DELTA 31           /* a frame without ANHD or DLTA */
-#define ANIM_SHORT_ANIM_HEADER 32  /* ANHD under 40 bytes */
+#define ANIM_SHORT_ANHD 32         /* ANHD under 40 bytes */
 #define ANIM_UNKNOWN_METHOD 33     /* a method that is neither 5 nor 7 */
 #define ANIM_UNKNOWN_INTERLEAVE 34 /* an interleave that is neither 0 nor 2 */
 #define ANIM_UNKNOWN_OPTIONS 35    /* option bits: any for method 5, bits 1 to 31 for method 7 */
@@ -91,9 +98,9 @@ extern "C" {
  * Where a player stands. anim_open fills it; hand it to the other calls as anim_open or the last step
  * left it. It may be copied, kept and put back together with A and B.
  *
- * It crosses as its 48 bytes, each number with its low byte first, as on x86-64. Lend it as
- * (uint8_t *)&state, sizeof state: a struct of six uint64_t has no gaps, and its bytes may be read and
- * written through a uint8_t pointer.
+ * It crosses as its 48 bytes, each number with its low byte first, as on x86-64. It is lent as
+ * (uint8_t *)&state, sizeof state, which the typed calls do: a struct of six uint64_t has no gaps, and
+ * its bytes may be read and written through a uint8_t pointer.
  */
 typedef struct anim_state {
     uint64_t width;  /* pixels, 1 to 1024 */
@@ -106,11 +113,15 @@ typedef struct anim_state {
 
 /* What a step on tells of the frame it reached; it crosses as its 32 bytes, lent likewise. */
 typedef struct anim_report {
-    uint64_t method;  /* 5 or 7 */
-    uint64_t time;    /* ANHD's relative time, in sixtieths of a second */
-    uint64_t changed; /* how many bytes of the hidden buffer changed */
-    uint64_t record;  /* how many bytes of the record buffer are this step's record */
+    uint64_t method;        /* 5 or 7 */
+    uint64_t time;          /* ANHD's relative time, in sixtieths of a second */
+    uint64_t changed;       /* how many bytes of the hidden buffer changed */
+    uint64_t record_length; /* how many bytes of the record buffer are this step's record */
 } anim_report;
+
+/* These don't compile where a struct has another size than the library reads and writes. */
+typedef char anim_state_has_48_bytes[sizeof(anim_state) == 48 ? 1 : -1];
+typedef char anim_report_has_32_bytes[sizeof(anim_report) == 32 ? 1 : -1];
 
 /* Bytes of a row of a plane. Sizes within the limits fit in every type of 32 bits. */
 #define ANIM_ROW_BYTES(width) (((width) + 15) / 16 * 2)
@@ -119,33 +130,68 @@ typedef struct anim_report {
 #define ANIM_FRAME_BYTES(width, height, planes) (ANIM_ROW_BYTES(width) * (height) * (planes))
 
 /*
- * A record buffer's length that is enough for every step, for frames of so many bytes.
- * 320 x 200 x 5: 40000 + 20000 + 17 = 60017.
+ * A record buffer's length that is enough for every step, for frames of so many bytes: twice the frame
+ * and 16 bytes. This bound is proved (theorem record-short). 320 x 200 x 5: 2 * 40000 + 16 = 80016.
  *
  * A record is three numbers of at most five bytes each, and for each run of changed bytes two numbers
- * and the run's old bytes. Two runs have at least one unchanged byte between them, so the worst is
- * every second byte changed: a run then costs 3 bytes (a gap of 1, a count of 1 and an old byte) and
- * takes 2 bytes of the frame. Longer gaps and runs cost less: a number of two bytes stands for at
- * least 128 bytes of the frame, one of three for at least 16384, and no frame needs more than three.
- * Only the first run has no gap, and costs up to 2 bytes more. So 15 + 2 bytes and 3/2 of the frame
- * are enough. This bound is argued here and tested; the bound that is proved is larger, twice the
- * frame and 16 bytes. A shorter buffer is no harm: a step that has no room is refused and changes
- * nothing but the work buffer.
+ * and the run's old bytes. A shorter buffer does no harm: a step that has no room is refused with 51
+ * and changes nothing but the work buffer.
  */
-#define ANIM_RECORD_ROOM(frame_bytes) ((frame_bytes) + (frame_bytes) / 2 + 17)
+#define ANIM_RECORD_ROOM(frame_bytes) (2 * (frame_bytes) + 16)
 
 /*
- * A delta buffer's length that is enough for every two pictures.
- * 320 x 200 x 5: 64 + 200 * (200 + 100 + 2) = 60464, for 40 columns in each of 5 planes.
+ * A delta buffer's length that is enough for every two pictures: 64 bytes of pointers, and for each
+ * column of each plane 3/2 of the height, rounded down, and 2 bytes. This bound is proved (theorem
+ * longest-fits). 320 x 200 x 5: 64 + 40 * 5 * (300 + 2) = 60464.
  *
- * A delta is 64 bytes of pointers and a list for each column of a plane: a count byte and the ops. A
- * Skip costs a byte and goes down at least one row. Sames cost fewer bytes than they have rows. A
- * Uniq costs a byte more than it has rows, and unless it has 127 rows or is the last op, one row or
- * more of another op stands between it and the next: at most (height + 1) / 2 Uniqs. This bound is
- * proved.
+ * A column is a count byte and its ops. A Skip costs a byte and goes down at least one row. Sames cost
+ * fewer bytes than they have rows. A Uniq costs a byte more than it has rows, and unless it has 127 rows
+ * or is the last op, one row or more of another op stands between it and the next: at most
+ * (height + 1) / 2 Uniqs.
  */
-#define ANIM_DELTA_ROOM(width, height, planes) \
-    (64 + ANIM_ROW_BYTES(width) * (planes) * ((height) + (height) / 2 + 2))
+#define ANIM_DELTA_ROOM(width, height, planes) (64 + ANIM_ROW_BYTES(width) * (planes) * ((height) * 3 / 2 + 2))
+
+/* Which buffer is shown: A at odd frames, B at even ones. */
+static inline const uint8_t *anim_shown(const anim_state *state, const uint8_t *a, const uint8_t *b) {
+    return state->frame % 2 == 1 ? a : b;
+}
+
+/* Which buffer is hidden: the other one. The next step on builds its frame on this one. */
+static inline const uint8_t *anim_hidden(const anim_state *state, const uint8_t *a, const uint8_t *b) {
+    return state->frame % 2 == 1 ? b : a;
+}
+
+/* A refusal in a few words. ANIM_OK and ANIM_END have texts too, and so has every other number. */
+static inline const char *anim_refusal_text(uint64_t answer) {
+    switch (answer) {
+    case ANIM_OK: return "not refused";
+    case ANIM_END: return "no frame is left";
+    case ANIM_OUTSIDE_LIMITS: return "a state or size is outside the limits, or lent with a wrong length";
+    case ANIM_BUFFER_LENGTH: return "a picture or work buffer isn't a frame long";
+    case ANIM_FILE_TOO_LONG: return "the file is too long";
+    case ANIM_NO_SUCH_ROW: return "no such plane or row";
+    case ANIM_CHUNK_PAST_PARENT: return "a chunk passes its parent, or the file or a FORM is too short";
+    case ANIM_NOT_FORM_ANIM: return "not a FORM ANIM";
+    case ANIM_NO_PICTURE: return "no FORM ILBM, or its first lacks BMHD or BODY";
+    case ANIM_BAD_BMHD: return "BMHD has a wrong length, size, masking or compression";
+    case ANIM_BAD_BODY: return "BODY is too short, or a run passes its row";
+    case ANIM_NO_DELTA: return "a frame lacks ANHD or DLTA";
+    case ANIM_SHORT_ANHD: return "ANHD is too short";
+    case ANIM_UNKNOWN_METHOD: return "the method is neither 5 nor 7";
+    case ANIM_UNKNOWN_INTERLEAVE: return "the interleave is neither 0 nor 2";
+    case ANIM_UNKNOWN_OPTIONS: return "option bits that the method doesn't have";
+    case ANIM_ODD_LONG_COLUMNS: return "long data, and a row isn't a multiple of 4 bytes";
+    case ANIM_BAD_POINTER: return "DLTA is too short for its pointers, or a pointer is bad";
+    case ANIM_DELTA_TOO_SHORT: return "an op or its data passes DLTA's end";
+    case ANIM_OP_PAST_LAST_ROW: return "an op passes the last row";
+    case ANIM_ZERO_COUNT: return "an op has a count of 0";
+    case ANIM_NO_ROOM: return "the record or delta is longer than its buffer";
+    case ANIM_LAST_FRAME: return "no step goes on from frame 1000000";
+    case ANIM_BAD_RECORD: return "the record is malformed, or doesn't fit the shown picture";
+    case ANIM_OTHER_RECORD: return "the record is of another step";
+    default: return "no such answer";
+    }
+}
 
 /*
  * Asks how long A, B and the work buffer must be for a file.
@@ -167,9 +213,9 @@ uint64_t anim_frame_size(const uint8_t *file, size_t file_length,
  *
  * file       the whole file; it is read and never changed. FORM ANIM starts at its first byte, and
  *            bytes after the FORM's end aren't read.
+ * state      the 48 bytes of an anim_state.
  * a, b       each exactly a frame long, as anim_frame_size answers. A wrong guess does no harm, it is
  *            refused with 12.
- * state      the 48 bytes of an anim_state.
  *
  * Answers ANIM_OK, or the first of these refusals:
  *   11  the state isn't 48 bytes long; then the state isn't written either
@@ -191,9 +237,9 @@ uint64_t anim_frame_size(const uint8_t *file, size_t file_length,
  * which every other call refuses with 11.
  */
 uint64_t anim_open(const uint8_t *file, size_t file_length,
+                   uint8_t *state, size_t state_length,
                    uint8_t *a, size_t a_length,
-                   uint8_t *b, size_t b_length,
-                   uint8_t *state, size_t state_length);
+                   uint8_t *b, size_t b_length);
 
 /*
  * Steps on to the next frame.
@@ -203,7 +249,7 @@ uint64_t anim_open(const uint8_t *file, size_t file_length,
  * a, b       the two picture buffers, each exactly a frame long.
  * work       exactly a frame long, of any content. The new frame is built here.
  * record     of any length; ANIM_RECORD_ROOM of a frame is always enough. Keep the first
- *            report.record bytes for as long as the step may be taken back.
+ *            report.record_length bytes for as long as the step may be taken back.
  * report     the 32 bytes of an anim_report.
  *
  * Answers ANIM_OK if the step is taken, ANIM_END if no frame is left, or the first of these refusals:
@@ -246,9 +292,9 @@ uint64_t anim_step_on(const uint8_t *file, size_t file_length,
 /*
  * Takes the latest step on back.
  *
- * record     the record of the step that led to the shown frame, exactly as long as its report said.
  * state      the 48 bytes of the anim_state.
  * a, b       the two picture buffers, each exactly a frame long.
+ * record     the record of the step that led to the shown frame, exactly as long as its report said.
  *
  * The file isn't needed. Steps are taken back latest first, so keep the records of steps on as a stack.
  *
@@ -264,10 +310,10 @@ uint64_t anim_step_on(const uint8_t *file, size_t file_length,
  * and is now the shown one, and the state is at the frame before, as it was then. Refused: all is as
  * it was. At frame 1 the answer is never ANIM_OK.
  */
-uint64_t anim_step_back(const uint8_t *record, size_t record_length,
-                        uint8_t *state, size_t state_length,
+uint64_t anim_step_back(uint8_t *state, size_t state_length,
                         uint8_t *a, size_t a_length,
-                        uint8_t *b, size_t b_length);
+                        uint8_t *b, size_t b_length,
+                        const uint8_t *record, size_t record_length);
 
 /*
  * Where a row of a plane of the shown picture stands: (plane * height + row) * B, in A if the frame
@@ -276,10 +322,10 @@ uint64_t anim_step_back(const uint8_t *record, size_t record_length,
  * Answers the place, or 0 if it is refused. Row 0 of plane 0 stands at 0 too: anim_row_refusal tells
  * the two apart. Nothing is changed.
  */
-uint64_t anim_row_place(const uint8_t *state, size_t state_length,
+uint64_t anim_row_place(uint64_t plane, uint64_t row,
+                        const uint8_t *state, size_t state_length,
                         const uint8_t *a, size_t a_length,
-                        const uint8_t *b, size_t b_length,
-                        uint64_t plane, uint64_t row);
+                        const uint8_t *b, size_t b_length);
 
 /*
  * Whether such a row is there. Answers ANIM_OK, or the first of these refusals:
@@ -289,17 +335,18 @@ uint64_t anim_row_place(const uint8_t *state, size_t state_length,
  *   14  the plane isn't below the state's planes, or the row not below its height
  * Nothing is changed.
  */
-uint64_t anim_row_refusal(const uint8_t *state, size_t state_length,
+uint64_t anim_row_refusal(uint64_t plane, uint64_t row,
+                          const uint8_t *state, size_t state_length,
                           const uint8_t *a, size_t a_length,
-                          const uint8_t *b, size_t b_length,
-                          uint64_t plane, uint64_t row);
+                          const uint8_t *b, size_t b_length);
 
 /*
  * Writes the contents of a DLTA of method 5 that turns the old picture into the new one.
  *
- * old_frame, new_frame   each exactly a frame long.
+ * width, height, planes   the pictures' sizes.
+ * old_frame, new_frame    each exactly a frame long.
  * out        of any length; ANIM_DELTA_ROOM of the sizes is always enough.
- * length     8 bytes: a uint64_t that gets how many bytes of out are the delta.
+ * length     the 8 bytes of a uint64_t, which gets how many bytes of out are the delta.
  *
  * Answers ANIM_OK if it is written, or the first of these refusals:
  *   11  length isn't 8 bytes long
@@ -308,13 +355,56 @@ uint64_t anim_row_refusal(const uint8_t *state, size_t state_length,
  *   51  the delta is longer than out
  *
  * Written: the delta stands at the front of out, whose other bytes stay. Refused: all is as it was.
- * In a player that shows frame n, the old picture of frame n + 1 is the hidden one.
+ * In a player that shows frame n, the old picture of frame n + 1 is the hidden one (anim_hidden).
  */
-uint64_t anim_write_delta(const uint8_t *old_frame, size_t old_length,
+uint64_t anim_write_delta(uint64_t width, uint64_t height, uint64_t planes,
+                          const uint8_t *old_frame, size_t old_length,
                           const uint8_t *new_frame, size_t new_length,
                           uint8_t *out, size_t out_length,
-                          uint8_t *length, size_t length_length,
-                          uint64_t width, uint64_t height, uint64_t planes);
+                          uint8_t *length, size_t length_length);
+
+/*
+ * Typed calls. Each makes the call of its name without _typed, in which the state, the report, the size
+ * and the length have the right lengths, and each picture and the work buffer have frame_length bytes.
+ * Answers and refusals are that call's.
+ */
+static inline uint64_t anim_frame_size_typed(const uint8_t *file, size_t file_length, uint64_t *size) {
+    return anim_frame_size(file, file_length, (uint8_t *)size, sizeof *size);
+}
+
+static inline uint64_t anim_open_typed(const uint8_t *file, size_t file_length, anim_state *state,
+                                       uint8_t *a, uint8_t *b, size_t frame_length) {
+    return anim_open(file, file_length, (uint8_t *)state, sizeof *state, a, frame_length, b, frame_length);
+}
+
+static inline uint64_t anim_step_on_typed(const uint8_t *file, size_t file_length, anim_state *state,
+                                          uint8_t *a, uint8_t *b, uint8_t *work, size_t frame_length,
+                                          uint8_t *record, size_t record_length, anim_report *report) {
+    return anim_step_on(file, file_length, (uint8_t *)state, sizeof *state, a, frame_length, b, frame_length,
+                        work, frame_length, record, record_length, (uint8_t *)report, sizeof *report);
+}
+
+static inline uint64_t anim_step_back_typed(anim_state *state, uint8_t *a, uint8_t *b, size_t frame_length,
+                                            const uint8_t *record, size_t record_length) {
+    return anim_step_back((uint8_t *)state, sizeof *state, a, frame_length, b, frame_length, record, record_length);
+}
+
+static inline uint64_t anim_row_place_typed(uint64_t plane, uint64_t row, const anim_state *state,
+                                            const uint8_t *a, const uint8_t *b, size_t frame_length) {
+    return anim_row_place(plane, row, (const uint8_t *)state, sizeof *state, a, frame_length, b, frame_length);
+}
+
+static inline uint64_t anim_row_refusal_typed(uint64_t plane, uint64_t row, const anim_state *state,
+                                              const uint8_t *a, const uint8_t *b, size_t frame_length) {
+    return anim_row_refusal(plane, row, (const uint8_t *)state, sizeof *state, a, frame_length, b, frame_length);
+}
+
+static inline uint64_t anim_write_delta_typed(uint64_t width, uint64_t height, uint64_t planes,
+                                              const uint8_t *old_frame, const uint8_t *new_frame, size_t frame_length,
+                                              uint8_t *out, size_t out_length, uint64_t *length) {
+    return anim_write_delta(width, height, planes, old_frame, frame_length, new_frame, frame_length,
+                            out, out_length, (uint8_t *)length, sizeof *length);
+}
 
 #ifdef __cplusplus
 }

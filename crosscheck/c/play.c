@@ -5,9 +5,6 @@
 #include <stdlib.h>
 #include <string.h>
 
-/* A state, report or length as the bytes that a call is lent. */
-#define BYTES(x) ((uint8_t *)&(x)), sizeof(x)
-
 /* A record that is kept until its step is taken back. */
 struct kept {
     uint8_t *bytes;
@@ -50,7 +47,7 @@ static void read_file(struct player *p, const char *name) {
 
 static uint64_t open_file(struct player *p) {
     uint64_t frame = 0;
-    uint64_t answer = anim_frame_size(p->file, p->file_length, BYTES(frame));
+    uint64_t answer = anim_frame_size_typed(p->file, p->file_length, &frame);
     p->frame = (size_t)frame;
     p->room = ANIM_RECORD_ROOM(p->frame);
     p->a = memory(p->frame);
@@ -60,20 +57,20 @@ static uint64_t open_file(struct player *p) {
     p->latest = NULL;
     if (answer != ANIM_OK)
         return answer;
-    return anim_open(p->file, p->file_length, p->a, p->frame, p->b, p->frame, BYTES(p->state));
+    return anim_open_typed(p->file, p->file_length, &p->state, p->a, p->b, p->frame);
 }
 
 /* Steps on and keeps the record in memory of its own length. */
 static uint64_t step_on(struct player *p) {
     struct kept *k;
-    uint64_t answer = anim_step_on(p->file, p->file_length, BYTES(p->state), p->a, p->frame, p->b, p->frame,
-                                   p->work, p->frame, p->record, p->room, BYTES(p->report));
+    uint64_t answer = anim_step_on_typed(p->file, p->file_length, &p->state, p->a, p->b, p->work, p->frame,
+                                         p->record, p->room, &p->report);
     if (answer != ANIM_OK)
         return answer;
     k = (struct kept *)malloc(sizeof *k);
     if (k == NULL)
         stop("no memory");
-    k->length = (size_t)p->report.record;
+    k->length = (size_t)p->report.record_length;
     k->bytes = memory(k->length);
     memcpy(k->bytes, p->record, k->length);
     k->before = p->latest;
@@ -84,7 +81,7 @@ static uint64_t step_on(struct player *p) {
 /* Takes the latest step back and gives its record up. */
 static void step_back(struct player *p) {
     struct kept *k = p->latest;
-    if (anim_step_back(k->bytes, k->length, BYTES(p->state), p->a, p->frame, p->b, p->frame) != ANIM_OK)
+    if (anim_step_back_typed(&p->state, p->a, p->b, p->frame, k->bytes, k->length) != ANIM_OK)
         stop("a step back is refused");
     p->latest = k->before;
     free(k->bytes);
@@ -93,26 +90,26 @@ static void step_back(struct player *p) {
 
 /* Asks for every row of the shown picture and looks at its bytes. */
 static unsigned look(const struct player *p) {
-    const uint8_t *shown = p->state.frame % 2 == 1 ? p->a : p->b;
-    const uint8_t *state = (const uint8_t *)&p->state;
+    const uint8_t *shown = anim_shown(&p->state, p->a, p->b);
     unsigned sum = 0;
     uint64_t plane, row, at, x;
     for (plane = 0; plane < p->state.planes; plane++)
         for (row = 0; row < p->state.height; row++) {
-            if (anim_row_refusal(state, sizeof p->state, p->a, p->frame, p->b, p->frame, plane, row) != ANIM_OK)
+            if (anim_row_refusal_typed(plane, row, &p->state, p->a, p->b, p->frame) != ANIM_OK)
                 stop("a row is refused");
-            at = anim_row_place(state, sizeof p->state, p->a, p->frame, p->b, p->frame, plane, row);
+            at = anim_row_place_typed(plane, row, &p->state, p->a, p->b, p->frame);
             for (x = 0; x < ANIM_ROW_BYTES(p->state.width); x++)
                 sum = sum * 31 + shown[at + x];
         }
     return sum;
 }
 
-/* Writes the delta from A to B into memory of so many bytes, and gives the memory up unless it is kept. */
+/* Writes the delta from the hidden frame to the shown one into memory of so many bytes, and gives the memory up unless it is kept. */
 static uint64_t delta_in(const struct player *p, size_t room, uint64_t *length, uint8_t **kept) {
     uint8_t *out = memory(room);
-    uint64_t answer = anim_write_delta(p->a, p->frame, p->b, p->frame, out, room, BYTES(*length),
-                                       p->state.width, p->state.height, p->state.planes);
+    const anim_state *s = &p->state;
+    uint64_t answer = anim_write_delta_typed(s->width, s->height, s->planes, anim_hidden(s, p->a, p->b),
+                                             anim_shown(s, p->a, p->b), p->frame, out, room, length);
     if (kept != NULL)
         *kept = out;
     else
@@ -120,7 +117,7 @@ static uint64_t delta_in(const struct player *p, size_t room, uint64_t *length, 
     return answer;
 }
 
-/* Writes the delta from A to B; it must have 64 bytes exactly if they are equal, and need just as many as it has. */
+/* Writes the delta from the hidden frame to the shown one; it must have 64 bytes exactly if they are equal, and need just as many as it has. */
 static void write_delta(const struct player *p) {
     size_t room = ANIM_DELTA_ROOM(p->state.width, p->state.height, p->state.planes);
     int equal = memcmp(p->a, p->b, p->frame) == 0;

@@ -29,7 +29,7 @@ pub fn frame_size(file: &[u8], size: &mut [u8]) -> u64 {
     number(asked)
 }
 
-pub fn open(file: &[u8], a: &mut [u8], b: &mut [u8], state: &mut [u8]) -> u64 {
+pub fn open(file: &[u8], state: &mut [u8], a: &mut [u8], b: &mut [u8]) -> u64 {
     if state.len() != 48 {
         return WRONG_LENGTH;
     }
@@ -46,7 +46,7 @@ pub fn step_on(file: &[u8], state: &mut [u8], a: &mut [u8], b: &mut [u8], work: 
     match plain::step_on(file, &mut now, a, b, work, record) {
         Ok(Some(r)) => {
             state.copy_from_slice(&state_bytes(now));
-            report.copy_from_slice(&numbers(&[r.method, r.time, r.changed, r.record]));
+            report.copy_from_slice(&numbers(&[r.method, r.time, r.changed, r.record_length]));
             0
         }
         Ok(None) => END,
@@ -54,12 +54,12 @@ pub fn step_on(file: &[u8], state: &mut [u8], a: &mut [u8], b: &mut [u8], work: 
     }
 }
 
-pub fn step_back(record: &[u8], state: &mut [u8], a: &mut [u8], b: &mut [u8]) -> u64 {
+pub fn step_back(state: &mut [u8], a: &mut [u8], b: &mut [u8], record: &[u8]) -> u64 {
     if state.len() != 48 {
         return WRONG_LENGTH;
     }
     let mut now = state_in(state);
-    let taken = plain::step_back(record, &mut now, a, b);
+    let taken = plain::step_back(&mut now, a, b, record);
     if taken.is_ok() {
         state.copy_from_slice(&state_bytes(now));
     }
@@ -67,21 +67,21 @@ pub fn step_back(record: &[u8], state: &mut [u8], a: &mut [u8], b: &mut [u8]) ->
 }
 
 /// A row's place, 0 if it is refused, and the number of the refusal.
-pub fn row(state: &[u8], a: &[u8], b: &[u8], plane: u64, row: u64) -> (u64, u64) {
+pub fn row(plane: u64, row: u64, state: &[u8], a: &[u8], b: &[u8]) -> (u64, u64) {
     if state.len() != 48 {
         return (0, WRONG_LENGTH);
     }
-    match plain::row_place(&state_in(state), a.len(), b.len(), plane, row) {
+    match plain::row_place(plane, row, &state_in(state), a.len(), b.len()) {
         Ok(at) => (at as u64, 0),
         Err(refusal) => (0, refusal.number()),
     }
 }
 
-pub fn write_delta(old: &[u8], new: &[u8], out: &mut [u8], length: &mut [u8], width: u64, height: u64, planes: u64) -> u64 {
+pub fn write_delta(width: u64, height: u64, planes: u64, old: &[u8], new: &[u8], out: &mut [u8], length: &mut [u8]) -> u64 {
     if length.len() != 8 {
         return WRONG_LENGTH;
     }
-    let written = plain::write_delta(old, new, out, width, height, planes);
+    let written = plain::write_delta(width, height, planes, old, new, out);
     if let Ok(n) = written {
         length.copy_from_slice(&numbers(&[n as u64]));
     }

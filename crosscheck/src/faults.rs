@@ -13,6 +13,7 @@ pub const NAMES: &[(&str, &str)] = &[
     ("frame-not-walked", "a chunk that passes its frame is not seen behind the ones that are needed"),
     ("wide-by-one", "a width of 1,025 is within the limits"),
     ("lengths-before-limits", "12 is asked before 11"),
+    ("far-row-before-lengths", "14 is asked before 12 where the plane is above 7 or the row above 1,023"),
     ("last-frame-after-end", "53 is asked after the walk"),
     ("method-before-length", "33 is asked before 32"),
     ("interleave-1", "interleave 1 is taken as 2"),

@@ -7,14 +7,14 @@ type Buffer = *mut c_uchar;
 #[rustfmt::skip]
 extern "C" {
     fn anim_frame_size(file: Bytes, file_len: usize, size: Buffer, size_len: usize) -> u64;
-    fn anim_open(file: Bytes, file_len: usize, a: Buffer, a_len: usize, b: Buffer, b_len: usize, state: Buffer, state_len: usize) -> u64;
+    fn anim_open(file: Bytes, file_len: usize, state: Buffer, state_len: usize, a: Buffer, a_len: usize, b: Buffer, b_len: usize) -> u64;
     fn anim_step_on(file: Bytes, file_len: usize, state: Buffer, state_len: usize, a: Buffer, a_len: usize, b: Buffer, b_len: usize,
                     work: Buffer, work_len: usize, record: Buffer, record_len: usize, report: Buffer, report_len: usize) -> u64;
-    fn anim_step_back(record: Bytes, record_len: usize, state: Buffer, state_len: usize, a: Buffer, a_len: usize, b: Buffer, b_len: usize) -> u64;
-    fn anim_row_place(state: Bytes, state_len: usize, a: Bytes, a_len: usize, b: Bytes, b_len: usize, plane: u64, row: u64) -> u64;
-    fn anim_row_refusal(state: Bytes, state_len: usize, a: Bytes, a_len: usize, b: Bytes, b_len: usize, plane: u64, row: u64) -> u64;
-    fn anim_write_delta(old: Bytes, old_len: usize, new: Bytes, new_len: usize, out: Buffer, out_len: usize, len: Buffer, len_len: usize,
-                        width: u64, height: u64, planes: u64) -> u64;
+    fn anim_step_back(state: Buffer, state_len: usize, a: Buffer, a_len: usize, b: Buffer, b_len: usize, record: Bytes, record_len: usize) -> u64;
+    fn anim_row_place(plane: u64, row: u64, state: Bytes, state_len: usize, a: Bytes, a_len: usize, b: Bytes, b_len: usize) -> u64;
+    fn anim_row_refusal(plane: u64, row: u64, state: Bytes, state_len: usize, a: Bytes, a_len: usize, b: Bytes, b_len: usize) -> u64;
+    fn anim_write_delta(width: u64, height: u64, planes: u64, old: Bytes, old_len: usize, new: Bytes, new_len: usize,
+                        out: Buffer, out_len: usize, length: Buffer, length_len: usize) -> u64;
 }
 
 // Each call below is safe because a slice's pointer and length name memory that is lent for the call.
@@ -23,8 +23,8 @@ pub fn frame_size(file: &[u8], size: &mut [u8]) -> u64 {
     unsafe { anim_frame_size(file.as_ptr(), file.len(), size.as_mut_ptr(), size.len()) }
 }
 
-pub fn open(file: &[u8], a: &mut [u8], b: &mut [u8], state: &mut [u8]) -> u64 {
-    unsafe { anim_open(file.as_ptr(), file.len(), a.as_mut_ptr(), a.len(), b.as_mut_ptr(), b.len(), state.as_mut_ptr(), state.len()) }
+pub fn open(file: &[u8], state: &mut [u8], a: &mut [u8], b: &mut [u8]) -> u64 {
+    unsafe { anim_open(file.as_ptr(), file.len(), state.as_mut_ptr(), state.len(), a.as_mut_ptr(), a.len(), b.as_mut_ptr(), b.len()) }
 }
 
 #[rustfmt::skip]
@@ -35,22 +35,22 @@ pub fn step_on(file: &[u8], state: &mut [u8], a: &mut [u8], b: &mut [u8], work: 
     }
 }
 
-pub fn step_back(record: &[u8], state: &mut [u8], a: &mut [u8], b: &mut [u8]) -> u64 {
-    unsafe { anim_step_back(record.as_ptr(), record.len(), state.as_mut_ptr(), state.len(), a.as_mut_ptr(), a.len(), b.as_mut_ptr(), b.len()) }
+pub fn step_back(state: &mut [u8], a: &mut [u8], b: &mut [u8], record: &[u8]) -> u64 {
+    unsafe { anim_step_back(state.as_mut_ptr(), state.len(), a.as_mut_ptr(), a.len(), b.as_mut_ptr(), b.len(), record.as_ptr(), record.len()) }
 }
 
-pub fn row_place(state: &[u8], a: &[u8], b: &[u8], plane: u64, row: u64) -> u64 {
-    unsafe { anim_row_place(state.as_ptr(), state.len(), a.as_ptr(), a.len(), b.as_ptr(), b.len(), plane, row) }
+pub fn row_place(plane: u64, row: u64, state: &[u8], a: &[u8], b: &[u8]) -> u64 {
+    unsafe { anim_row_place(plane, row, state.as_ptr(), state.len(), a.as_ptr(), a.len(), b.as_ptr(), b.len()) }
 }
 
-pub fn row_refusal(state: &[u8], a: &[u8], b: &[u8], plane: u64, row: u64) -> u64 {
-    unsafe { anim_row_refusal(state.as_ptr(), state.len(), a.as_ptr(), a.len(), b.as_ptr(), b.len(), plane, row) }
+pub fn row_refusal(plane: u64, row: u64, state: &[u8], a: &[u8], b: &[u8]) -> u64 {
+    unsafe { anim_row_refusal(plane, row, state.as_ptr(), state.len(), a.as_ptr(), a.len(), b.as_ptr(), b.len()) }
 }
 
 #[rustfmt::skip]
-pub fn write_delta(old: &[u8], new: &[u8], out: &mut [u8], length: &mut [u8], width: u64, height: u64, planes: u64) -> u64 {
+pub fn write_delta(width: u64, height: u64, planes: u64, old: &[u8], new: &[u8], out: &mut [u8], length: &mut [u8]) -> u64 {
     unsafe {
-        anim_write_delta(old.as_ptr(), old.len(), new.as_ptr(), new.len(), out.as_mut_ptr(), out.len(), length.as_mut_ptr(), length.len(),
-                         width, height, planes)
+        anim_write_delta(width, height, planes, old.as_ptr(), old.len(), new.as_ptr(), new.len(),
+                         out.as_mut_ptr(), out.len(), length.as_mut_ptr(), length.len())
     }
 }

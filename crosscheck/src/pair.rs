@@ -92,10 +92,10 @@ impl Pair {
         Err(lines.join("\n"))
     }
 
-    pub fn write_delta(&mut self, old: &mut Twin, new: &mut Twin, out: &mut Twin, length: &mut Twin, sizes: [u64; 3]) -> Checked<u64> {
+    pub fn write_delta(&mut self, sizes: [u64; 3], old: &mut Twin, new: &mut Twin, out: &mut Twin, length: &mut Twin) -> Checked<u64> {
         let [w, h, p] = sizes;
-        let x = library::write_delta(old.bytes(), new.bytes(), out.library(), length.library(), w, h, p);
-        let y = cover::write_delta(old.plain_bytes(), new.plain_bytes(), out.plain(), length.plain(), w, h, p);
+        let x = library::write_delta(w, h, p, old.bytes(), new.bytes(), out.library(), length.library());
+        let y = cover::write_delta(w, h, p, old.plain_bytes(), new.plain_bytes(), out.plain(), length.plain());
         let call = format!("sizes {w} x {h} x {p}");
         self.compare("anim_write_delta", x, y, &[old, new, out, length]).map_err(|e| format!("{e}\n  {call}"))
     }
@@ -165,9 +165,9 @@ impl Player {
         for length in [8, 7] {
             self.frame_size(pair, length)?;
         }
-        let x = library::open(self.file.bytes(), self.a.library(), self.b.library(), self.state.library());
-        let y = cover::open(self.file.plain_bytes(), self.a.plain(), self.b.plain(), self.state.plain());
-        pair.compare("anim_open", x, y, &[&self.file, &self.a, &self.b, &self.state])
+        let x = library::open(self.file.bytes(), self.state.library(), self.a.library(), self.b.library());
+        let y = cover::open(self.file.plain_bytes(), self.state.plain(), self.a.plain(), self.b.plain());
+        pair.compare("anim_open", x, y, &[&self.file, &self.state, &self.a, &self.b])
     }
 
     pub fn step_on(&mut self, pair: &mut Pair) -> Checked<u64> {
@@ -197,16 +197,16 @@ impl Player {
     pub fn step_back(&mut self, pair: &mut Pair, record: &[u8]) -> Checked<u64> {
         let before = self.state.bytes().to_vec();
         let record = Twin::new("record", record);
-        let x = library::step_back(record.bytes(), self.state.library(), self.a.library(), self.b.library());
-        let y = cover::step_back(record.plain_bytes(), self.state.plain(), self.a.plain(), self.b.plain());
-        pair.compare("anim_step_back", x, y, &[&record, &self.state, &self.a, &self.b]).map_err(|e| from_state(e, &before))
+        let x = library::step_back(self.state.library(), self.a.library(), self.b.library(), record.bytes());
+        let y = cover::step_back(self.state.plain(), self.a.plain(), self.b.plain(), record.plain_bytes());
+        pair.compare("anim_step_back", x, y, &[&self.state, &self.a, &self.b, &record]).map_err(|e| from_state(e, &before))
     }
 
     /// Asks for a row's place and for its refusal.
     pub fn row(&mut self, pair: &mut Pair, plane: u64, row: u64) -> Checked<u64> {
-        let place = library::row_place(self.state.bytes(), self.a.bytes(), self.b.bytes(), plane, row);
-        let refusal = library::row_refusal(self.state.bytes(), self.a.bytes(), self.b.bytes(), plane, row);
-        let plain = cover::row(self.state.plain_bytes(), self.a.plain_bytes(), self.b.plain_bytes(), plane, row);
+        let place = library::row_place(plane, row, self.state.bytes(), self.a.bytes(), self.b.bytes());
+        let refusal = library::row_refusal(plane, row, self.state.bytes(), self.a.bytes(), self.b.bytes());
+        let plain = cover::row(plane, row, self.state.plain_bytes(), self.a.plain_bytes(), self.b.plain_bytes());
         let buffers = [&self.state, &self.a, &self.b];
         let asked = |e: String| format!("{e}\n  plane {plane}, row {row}");
         if place != plain.0 {
@@ -225,12 +225,12 @@ impl Player {
 
 /// A record buffer that is long enough for every step, as include/anim.h works it out.
 pub fn record_room(frame: usize) -> usize {
-    frame + frame / 2 + 17
+    2 * frame + 16
 }
 
 /// A delta buffer that is long enough for every delta, as include/anim.h works it out.
 pub fn delta_room(sizes: plain::Sizes) -> usize {
-    64 + sizes.planes * sizes.row() * (sizes.height + sizes.height / 2 + 2)
+    64 + sizes.row() * sizes.planes * (sizes.height * 3 / 2 + 2)
 }
 
 fn from_state(difference: String, before: &[u8]) -> String {

@@ -131,7 +131,7 @@ pub struct Report {
     pub method: u64,
     pub time: u64,
     pub changed: u64,
-    pub record: u64,
+    pub record_length: u64,
 }
 
 /// Opens a file: A and B get its first picture.
@@ -198,11 +198,11 @@ pub fn step_on(file: &[u8], state: &mut State, a: &mut [u8], b: &mut [u8], work:
     hidden.copy_from_slice(work);
     state.frame += 1;
     state.next = form.next as u64;
-    Ok(Some(Report { method: header.method, time: header.time, changed: written.changed, record: written.length }))
+    Ok(Some(Report { method: header.method, time: header.time, changed: written.changed, record_length: written.length }))
 }
 
 /// Steps back with the record of the step that led here.
-pub fn step_back(rec: &[u8], state: &mut State, a: &mut [u8], b: &mut [u8]) -> Answer<()> {
+pub fn step_back(state: &mut State, a: &mut [u8], b: &mut [u8], rec: &[u8]) -> Answer<()> {
     let length = state.sizes()?.frame();
     need(a.len() == length && b.len() == length, BufferLength)?;
     let shown = if state.shows_a() { a } else { b };
@@ -222,8 +222,11 @@ pub fn step_back(rec: &[u8], state: &mut State, a: &mut [u8], b: &mut [u8]) -> A
 }
 
 /// The place of a row of a plane in A and in B, of whose lengths it is told.
-pub fn row_place(state: &State, a: usize, b: usize, plane: u64, row: u64) -> Answer<usize> {
+pub fn row_place(plane: u64, row: u64, state: &State, a: usize, b: usize) -> Answer<usize> {
     let sizes = state.sizes()?;
+    if broken("far-row-before-lengths") {
+        need(plane < MAX_PLANES && row < MAX_SIDE, NoSuchRow)?;
+    }
     need(a == sizes.frame() && b == sizes.frame(), BufferLength)?;
     need(plane < state.planes && row < state.height, NoSuchRow)?;
     Ok((plane as usize * sizes.height + row as usize) * sizes.row())

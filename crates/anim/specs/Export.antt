@@ -1,5 +1,6 @@
 -- The C interface (document 01, "Opening, stepping on, stepping back"): the contract of each exported function, which is what it
--- answers and what it leaves in the buffers. A state is passed as 48 bytes, a report as 32 and a length as 8 (numbers of eight
+-- answers and what it leaves in the buffers. Each has its function's order of arguments: what they hold at entry, the answer, and
+-- what the buffers that are written hold at exit. A state is passed as 48 bytes, a report as 32 and a length as 8 (numbers of eight
 -- bytes); a slice for one of them of another length is 11, before everything.
 use Prim.Native.Nat.{ℕ}
 use mathlib.Core.Bool.{Bool, _&&_}
@@ -32,16 +33,16 @@ abbrev pub sized : {A : Type 0} → Bool → Res A → Res A
 sized t q = pick t q (fault 11)
 
 -- opening that comes to q and answers the state s
-pub record LeavesOpenC (q : Res Film) (s : State) (a b state : List ℕ) (r : ℕ) (a′ b′ state′ : List ℕ) : Type 0 where
+pub record LeavesOpenC (q : Res Film) (s : State) (state a b : List ℕ) (r : ℕ) (state′ a′ b′ : List ℕ) : Type 0 where
   pub answer : r ≡ numberOr q
+  pub stateOut : state′ ≡ lay (stateWords s) state
   pub left : a′ ≡ pictureAfter a q
   pub right : b′ ≡ pictureAfter b q
-  pub stateOut : state′ ≡ lay (stateWords s) state
 
 -- the contract of `anim_open`
-abbrev pub OpensC : (file a b state : List ℕ) (r : ℕ) (a′ b′ state′ : List ℕ) → Type 0
-OpensC file a b state r a′ b′ state′ =
-    LeavesOpenC (sized (eqb (length state) 48) (opening file (length a) (length b))) (stateAfter (opening file (length a) (length b))) a b state r a′ b′ state′
+abbrev pub OpensC : (file state a b : List ℕ) (r : ℕ) (state′ a′ b′ : List ℕ) → Type 0
+OpensC file state a b r state′ a′ b′ =
+    LeavesOpenC (sized (eqb (length state) 48) (opening file (length a) (length b))) (stateAfter (opening file (length a) (length b))) state a b r state′ a′ b′
 
 -- a step's answer: 0 taken, 1 End, otherwise the refusal's number
 abbrev pub answerNumber : Answer → ℕ
@@ -77,35 +78,43 @@ pub record HandsOn (o : SteppedOn) (state report : List ℕ) (r : ℕ) (state′
   pub stateOut : state′ ≡ stateLeft (onOf (o .answer)) (o .state) state
   pub reportOut : report′ ≡ reportLeft (onOf (o .answer)) report
 
+-- what stepping on comes to, by the state in its slice, with buffers for work, record and report of these lengths
+abbrev pub onC : (file state a b : List ℕ) (work rec report : ℕ) → After
+onC file state a b work rec report = sizedStep (eqb (length state) 48 && eqb report 32) (worldIn state a b) (stepOn file (worldIn state a b) work rec)
+
 -- stepping on that comes to o
-pub record LeavesOnC (o : After) (work rec state report : List ℕ) (r : ℕ) (a′ b′ work′ rec′ state′ report′ : List ℕ) : Type 0 where
+pub record LeavesOnC (o : After) (state work rec report : List ℕ) (r : ℕ) (state′ a′ b′ work′ rec′ report′ : List ℕ) : Type 0 where
   pub answer : r ≡ answerNumber (o .answer)
+  pub stateOut : state′ ≡ stateLeft (o .answer) (o .world .state) state
   pub left : a′ ≡ o .world .a
   pub right : b′ ≡ o .world .b
   pub drawn : work′ ≡ workAfter work (o .work)
   pub written : rec′ ≡ o .bytes ++ drop (length (o .bytes)) rec
-  pub stateOut : state′ ≡ stateLeft (o .answer) (o .world .state) state
   pub reportOut : report′ ≡ reportLeft (o .answer) report
 
 -- the contract of `anim_step_on`
-abbrev pub StepsOnC : (file a b work rec state report : List ℕ) (r : ℕ) (a′ b′ work′ rec′ state′ report′ : List ℕ) → Type 0
-StepsOnC file a b work rec state report r a′ b′ work′ rec′ state′ report′ =
-    LeavesOnC (sizedStep (eqb (length state) 48 && eqb (length report) 32) (worldIn state a b) (stepOn file (worldIn state a b) (length work) (length rec))) work rec state report r a′ b′ work′ rec′ state′ report′
+abbrev pub StepsOnC : (file state a b work rec report : List ℕ) (r : ℕ) (state′ a′ b′ work′ rec′ report′ : List ℕ) → Type 0
+StepsOnC file state a b work rec report r state′ a′ b′ work′ rec′ report′ =
+    LeavesOnC (onC file state a b (length work) (length rec) (length report)) state work rec report r state′ a′ b′ work′ rec′ report′
+
+-- what stepping back comes to, by the state in its slice
+abbrev pub backC : (state a b rec : List ℕ) → After
+backC state a b rec = sizedStep (eqb (length state) 48) (worldIn state a b) (stepBack (worldIn state a b) rec)
 
 -- stepping back that comes to o
-pub record LeavesBackC (o : After) (state : List ℕ) (r : ℕ) (a′ b′ state′ : List ℕ) : Type 0 where
+pub record LeavesBackC (o : After) (state : List ℕ) (r : ℕ) (state′ a′ b′ : List ℕ) : Type 0 where
   pub answer : r ≡ answerNumber (o .answer)
+  pub stateOut : state′ ≡ stateLeft (o .answer) (o .world .state) state
   pub left : a′ ≡ o .world .a
   pub right : b′ ≡ o .world .b
-  pub stateOut : state′ ≡ stateLeft (o .answer) (o .world .state) state
 
 -- the contract of `anim_step_back`
-abbrev pub StepsBackC : (bytes a b state : List ℕ) (r : ℕ) (a′ b′ state′ : List ℕ) → Type 0
-StepsBackC bytes a b state r a′ b′ state′ = LeavesBackC (sizedStep (eqb (length state) 48) (worldIn state a b) (stepBack (worldIn state a b) bytes)) state r a′ b′ state′
+abbrev pub StepsBackC : (state a b rec : List ℕ) (r : ℕ) (state′ a′ b′ : List ℕ) → Type 0
+StepsBackC state a b rec r state′ a′ b′ = LeavesBackC (backC state a b rec) state r state′ a′ b′
 
--- a row's place, or its refusal
-abbrev pub rowC : List ℕ → ℕ → ℕ → ℕ → ℕ → Res ℕ
-rowC state a b plane row = sized (eqb (length state) 48) (rowPlace (stateIn state) a b plane row)
+-- a row's place, or its refusal, with A and B of these lengths
+abbrev pub rowC : (plane row : ℕ) (state : List ℕ) (a b : ℕ) → Res ℕ
+rowC plane row state a b = sized (eqb (length state) 48) (rowPlace (stateIn state) a b plane row)
 
 -- the place, 0 if the row is refused
 abbrev pub placeOr : Res ℕ → ℕ
@@ -123,15 +132,21 @@ pub record LeavesDeltaC (q : Res ℕ) (bytes out len : List ℕ) (r : ℕ) (out�
   pub deltaOut : out′ ≡ bufferAfter bytes out q
   pub lengthOut : len′ ≡ lengthLeft len q
 
+-- the sizes as one record
+abbrev pub sizesIn : (width height planes : ℕ) → Sizes
+sizesIn width height planes = record { width = width; height = height; planes = planes }
+
 -- the contract of `anim_write_delta`
-abbrev pub WritesC : (z : Sizes) (old new out len : List ℕ) (r : ℕ) (out′ len′ : List ℕ) → Type 0
-WritesC z old new out len r out′ len′ = LeavesDeltaC (sized (eqb (length len) 8) (written z old new (length out))) (deltaBytes z old new) out len r out′ len′
+abbrev pub WritesC : (width height planes : ℕ) (old new out len : List ℕ) (r : ℕ) (out′ len′ : List ℕ) → Type 0
+WritesC width height planes old new out len r out′ len′ =
+    let z : Sizes = sizesIn width height planes in
+    LeavesDeltaC (sized (eqb (length len) 8) (written z old new (length out))) (deltaBytes z old new) out len r out′ len′
 
 -- asking for the length of a frame that comes to q
-pub record LeavesSizeC (q : Res ℕ) (len : List ℕ) (r : ℕ) (len′ : List ℕ) : Type 0 where
+pub record LeavesSizeC (q : Res ℕ) (size : List ℕ) (r : ℕ) (size′ : List ℕ) : Type 0 where
   pub answer : r ≡ numberOr q
-  pub lengthOut : len′ ≡ lengthLeft len q
+  pub sizeOut : size′ ≡ lengthLeft size q
 
 -- the contract of `anim_frame_size`
-abbrev pub SizesC : (file len : List ℕ) (r : ℕ) (len′ : List ℕ) → Type 0
-SizesC file len r len′ = LeavesSizeC (sized (eqb (length len) 8) (firstSize file)) len r len′
+abbrev pub SizesC : (file size : List ℕ) (r : ℕ) (size′ : List ℕ) → Type 0
+SizesC file size r size′ = LeavesSizeC (sized (eqb (length size) 8) (firstSize file)) size r size′

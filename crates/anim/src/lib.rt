@@ -1,4 +1,5 @@
-// The C interface: each function calls one of the library's, on numbers and byte slices.
+// The C interface: each function calls one of the library's, on numbers and byte slices. The order of arguments is one: numbers,
+// the file, the state, A and B, the work buffer, the record or the output, the report or the length.
 ghost use mathlib.Core.Path.{_≡_};
 ghost use mathlib.Core.Bool.{_&&_};
 ghost use lib.Dec.{eqb};
@@ -51,10 +52,10 @@ pub extern "C" fn anim_frame_size(file: &[u8], size: &mut [u8]) -> u64
     }
 }
 
-// Opens a file: A and B get its first picture, and state the state after it.
+// Opens a file: state gets the state after its first picture, and A and B that picture.
 #[no_mangle]
-pub extern "C" fn anim_open(file: &[u8], a: &mut [u8], b: &mut [u8], state: &mut [u8]) -> u64
-    ensures { λ r. ⌜ OpensC (now (file .entry)) (now (a .entry)) (now (b .entry)) (now (state .entry)) r (now (a .exit)) (now (b .exit)) (now (state .exit)) ⌝ }
+pub extern "C" fn anim_open(file: &[u8], state: &mut [u8], a: &mut [u8], b: &mut [u8]) -> u64
+    ensures { λ r. ⌜ OpensC (now (file .entry)) (now (state .entry)) (now (a .entry)) (now (b .entry)) r (now (state .exit)) (now (a .exit)) (now (b .exit)) ⌝ }
 {
     if state.len() != 48 {
         return wrong_length();
@@ -100,7 +101,9 @@ pub extern "C" fn anim_step_on(
     rec: &mut [u8],
     report: &mut [u8],
 ) -> u64
-    ensures { λ r. ⌜ StepsOnC (now (file .entry)) (now (a .entry)) (now (b .entry)) (now (work .entry)) (now (rec .entry)) (now (state .entry)) (now (report .entry)) r (now (a .exit)) (now (b .exit)) (now (work .exit)) (now (rec .exit)) (now (state .exit)) (now (report .exit)) ⌝ }
+    ensures { λ r. ⌜ StepsOnC
+        (now (file .entry)) (now (state .entry)) (now (a .entry)) (now (b .entry)) (now (work .entry)) (now (rec .entry)) (now (report .entry)) r
+        (now (state .exit)) (now (a .exit)) (now (b .exit)) (now (work .exit)) (now (rec .exit)) (now (report .exit)) ⌝ }
 {
     if !sized(state.len(), report.len()) {
         return wrong_length();
@@ -111,13 +114,13 @@ pub extern "C" fn anim_step_on(
 
 // Steps back from the state in its slice with a record.
 #[no_mangle]
-pub extern "C" fn anim_step_back(bytes: &[u8], state: &mut [u8], a: &mut [u8], b: &mut [u8]) -> u64
-    ensures { λ r. ⌜ StepsBackC (now (bytes .entry)) (now (a .entry)) (now (b .entry)) (now (state .entry)) r (now (a .exit)) (now (b .exit)) (now (state .exit)) ⌝ }
+pub extern "C" fn anim_step_back(state: &mut [u8], a: &mut [u8], b: &mut [u8], rec: &[u8]) -> u64
+    ensures { λ r. ⌜ StepsBackC (now (state .entry)) (now (a .entry)) (now (b .entry)) (now (rec .entry)) r (now (state .exit)) (now (a .exit)) (now (b .exit)) ⌝ }
 {
     if state.len() != 48 {
         return wrong_length();
     }
-    let s = back::step_back(words::read_state(state), a, b, bytes);
+    let s = back::step_back(words::read_state(state), a, b, rec);
     let answer = s.answer;
     match answer {
         Back::Refused(why) => why.number(),
@@ -129,8 +132,8 @@ pub extern "C" fn anim_step_back(bytes: &[u8], state: &mut [u8], a: &mut [u8], b
 }
 
 // Where a row of a plane stands, by the state in its slice.
-fn row_in(state: &[u8], a: &[u8], b: &[u8], plane: u64, row: u64) -> Place
-    ensures { λ r. ⌜ placeOf r ≡ rowC (now (state .entry)) (length (now (a .entry))) (length (now (b .entry))) plane row ⌝ }
+fn row_in(plane: u64, row: u64, state: &[u8], a: &[u8], b: &[u8]) -> Place
+    ensures { λ r. ⌜ placeOf r ≡ rowC plane row (now (state .entry)) (length (now (a .entry))) (length (now (b .entry))) ⌝ }
 {
     if state.len() != 48 {
         return Place::Refused(Refusal::OutsideLimits);
@@ -140,10 +143,10 @@ fn row_in(state: &[u8], a: &[u8], b: &[u8], plane: u64, row: u64) -> Place
 
 // The place of a row of a plane in A or B, 0 if it is refused.
 #[no_mangle]
-pub extern "C" fn anim_row_place(state: &[u8], a: &[u8], b: &[u8], plane: u64, row: u64) -> u64
-    ensures { λ r. ⌜ r ≡ placeOr (rowC (now (state .entry)) (length (now (a .entry))) (length (now (b .entry))) plane row) ⌝ }
+pub extern "C" fn anim_row_place(plane: u64, row: u64, state: &[u8], a: &[u8], b: &[u8]) -> u64
+    ensures { λ r. ⌜ r ≡ placeOr (rowC plane row (now (state .entry)) (length (now (a .entry))) (length (now (b .entry)))) ⌝ }
 {
-    let p = row_in(state, a, b, plane, row);
+    let p = row_in(plane, row, state, a, b);
     match p {
         Place::Refused(_) => 0,
         Place::At(at) => at as u64,
@@ -152,10 +155,10 @@ pub extern "C" fn anim_row_place(state: &[u8], a: &[u8], b: &[u8], plane: u64, r
 
 // The number of the refusal of such a row, 0 if it isn't refused.
 #[no_mangle]
-pub extern "C" fn anim_row_refusal(state: &[u8], a: &[u8], b: &[u8], plane: u64, row: u64) -> u64
-    ensures { λ r. ⌜ r ≡ numberOr (rowC (now (state .entry)) (length (now (a .entry))) (length (now (b .entry))) plane row) ⌝ }
+pub extern "C" fn anim_row_refusal(plane: u64, row: u64, state: &[u8], a: &[u8], b: &[u8]) -> u64
+    ensures { λ r. ⌜ r ≡ numberOr (rowC plane row (now (state .entry)) (length (now (a .entry))) (length (now (b .entry)))) ⌝ }
 {
-    let p = row_in(state, a, b, plane, row);
+    let p = row_in(plane, row, state, a, b);
     match p {
         Place::Refused(why) => why.number(),
         Place::At(_) => 0,
@@ -165,15 +168,16 @@ pub extern "C" fn anim_row_refusal(state: &[u8], a: &[u8], b: &[u8], plane: u64,
 // Writes the delta that turns the old frame into the new one, and its length.
 #[no_mangle]
 pub extern "C" fn anim_write_delta(
+    width: u64,
+    height: u64,
+    planes: u64,
     old: &[u8],
     new: &[u8],
     out: &mut [u8],
     len: &mut [u8],
-    width: u64,
-    height: u64,
-    planes: u64,
 ) -> u64
-    ensures { λ r. ⌜ WritesC (record { width = width; height = height; planes = planes }) (now (old .entry)) (now (new .entry)) (now (out .entry)) (now (len .entry)) r (now (out .exit)) (now (len .exit)) ⌝ }
+    ensures { λ r. ⌜ WritesC width height planes
+        (now (old .entry)) (now (new .entry)) (now (out .entry)) (now (len .entry)) r (now (out .exit)) (now (len .exit)) ⌝ }
 {
     if len.len() != 8 {
         return wrong_length();

@@ -123,7 +123,7 @@ fn opening(least: usize, file: &[u8], sizes: Sizes) -> Best {
     let (mut l, mut p) = (Side::new(sizes), Side::new(sizes));
     let mut state = [0; 48];
     for _ in turns(least) {
-        let x = time(&mut best.library, || library::open(black_box(file), &mut l.a, &mut l.b, &mut state));
+        let x = time(&mut best.library, || library::open(black_box(file), &mut state, &mut l.a, &mut l.b));
         let y = time(&mut best.plain, || plain::open(black_box(file), &mut p.a, &mut p.b));
         assert!(x == 0 && y == Ok(cover::state_in(&state)) && l.a == p.a && l.b == p.b);
     }
@@ -135,15 +135,15 @@ fn steps(least: usize, file: &[u8], sizes: Sizes) -> (Best, Best) {
     let (mut on, mut back) = (Best::new(), Best::new());
     let (mut l, mut p) = (Side::new(sizes), Side::new(sizes));
     let (mut state, mut report) = ([0; 48], [0; 32]);
-    assert_eq!(library::open(file, &mut l.a, &mut l.b, &mut state), 0);
+    assert_eq!(library::open(file, &mut state, &mut l.a, &mut l.b), 0);
     let mut now: State = plain::open(file, &mut p.a, &mut p.b).expect("it opens");
     for _ in turns(least) {
         let x = time(&mut on.library, || library::step_on(black_box(file), &mut state, &mut l.a, &mut l.b, &mut l.work, &mut l.record, &mut report));
         let y = time(&mut on.plain, || plain::step_on(black_box(file), &mut now, &mut p.a, &mut p.b, &mut p.work, &mut p.record));
-        let length = y.expect("a step").expect("a frame").record as usize;
+        let length = y.expect("a step").expect("a frame").record_length as usize;
         assert!(x == 0 && l.b == p.b && l.record[..length] == p.record[..length]);
-        let x = time(&mut back.library, || library::step_back(black_box(&l.record[..length]), &mut state, &mut l.a, &mut l.b));
-        let y = time(&mut back.plain, || plain::step_back(black_box(&p.record[..length]), &mut now, &mut p.a, &mut p.b));
+        let x = time(&mut back.library, || library::step_back(&mut state, &mut l.a, &mut l.b, black_box(&l.record[..length])));
+        let y = time(&mut back.plain, || plain::step_back(&mut now, &mut p.a, &mut p.b, black_box(&p.record[..length])));
         assert!(x == 0 && y.is_ok() && l.b == p.b);
     }
     (on, back)
@@ -155,8 +155,8 @@ fn writing(least: usize, old: &[u8], new: &[u8], sizes: Sizes) -> Best {
     let (mut out, mut other) = (vec![0; delta_room(sizes)], vec![0; delta_room(sizes)]);
     let mut length = [0; 8];
     for _ in turns(least) {
-        let x = time(&mut best.library, || library::write_delta(black_box(old), new, &mut out, &mut length, w, h, p));
-        let y = time(&mut best.plain, || plain::write_delta(black_box(old), new, &mut other, w, h, p));
+        let x = time(&mut best.library, || library::write_delta(w, h, p, black_box(old), new, &mut out, &mut length));
+        let y = time(&mut best.plain, || plain::write_delta(w, h, p, black_box(old), new, &mut other));
         assert!(x == 0 && y == Ok(u64::from_le_bytes(length) as usize) && out == other);
     }
     best
@@ -168,7 +168,7 @@ fn method_delta(old: &[u8], new: &[u8], sizes: Sizes, items: usize) -> Vec<u8> {
     }
     let mut out = vec![0; delta_room(sizes)];
     let [w, h, p] = [sizes.width as u64, sizes.height as u64, sizes.planes as u64];
-    let length = plain::write_delta(old, new, &mut out, w, h, p).expect("room");
+    let length = plain::write_delta(w, h, p, old, new, &mut out).expect("room");
     out.truncate(length);
     out
 }

@@ -25,9 +25,9 @@ fn play(check: &mut Check, file: &[u8], side: Side) -> Checked<()> {
     let (file, mut a, mut b, mut work) = (lend(file), lend(&vec![1; length]), lend(&vec![2; length]), lend(&vec![3; length]));
     let (mut record, mut state, mut report) = (lend(&vec![4; record_room(length)]), lend(&[5; 48]), lend(&[6; 32]));
     let (mut plain_a, mut plain_b, mut plain_state) = (vec![1; length], vec![2; length], vec![5; 48]);
-    let opened = library::open(file.bytes(), a.bytes_mut(), b.bytes_mut(), state.bytes_mut());
+    let opened = library::open(file.bytes(), state.bytes_mut(), a.bytes_mut(), b.bytes_mut());
     check.pair.count("anim_open", opened);
-    if opened != cover::open(file.bytes(), &mut plain_a, &mut plain_b, &mut plain_state) || state.bytes() != plain_state {
+    if opened != cover::open(file.bytes(), &mut plain_state, &mut plain_a, &mut plain_b) || state.bytes() != plain_state {
         return Err("anim_open between fences differs".into());
     }
     let mut past = Vec::new();
@@ -41,11 +41,11 @@ fn play(check: &mut Check, file: &[u8], side: Side) -> Checked<()> {
             past.push(lend(&record.bytes()[..length]));
         }
         let now = cover::state_in(state.bytes());
-        library::row_place(state.bytes(), a.bytes(), b.bytes(), now.planes.wrapping_sub(1), now.height.wrapping_sub(1));
+        library::row_place(now.planes.wrapping_sub(1), now.height.wrapping_sub(1), state.bytes(), a.bytes(), b.bytes());
         check.pair.calls += 1;
     }
     while let Some(record) = past.pop() {
-        let answer = library::step_back(record.bytes(), state.bytes_mut(), a.bytes_mut(), b.bytes_mut());
+        let answer = library::step_back(state.bytes_mut(), a.bytes_mut(), b.bytes_mut(), record.bytes());
         check.pair.count("anim_step_back", answer);
     }
     if (a.bytes(), b.bytes(), state.bytes()) != (&plain_a, &plain_b, &plain_state) {
@@ -61,10 +61,10 @@ fn write(check: &mut Check, sizes: Sizes, side: Side) -> Checked<()> {
     let old: Vec<u8> = (0..sizes.frame()).map(|_| random.below(3) as u8).collect();
     let new: Vec<u8> = old.iter().map(|&b| if random.once_in(3) { random.below(3) as u8 } else { b }).collect();
     let mut wanted = vec![0; delta_room(sizes)];
-    let length = plain::write_delta(&old, &new, &mut wanted, w, h, p).map_err(|refusal| format!("refused {refusal:?}"))?;
+    let length = plain::write_delta(w, h, p, &old, &new, &mut wanted).map_err(|refusal| format!("refused {refusal:?}"))?;
     let (old, new) = (Fenced::new(&old, side), Fenced::new(&new, side));
     let (mut out, mut size) = (Fenced::new(&vec![9; length], side), Fenced::new(&[0; 8], side));
-    let answer = library::write_delta(old.bytes(), new.bytes(), out.bytes_mut(), size.bytes_mut(), w, h, p);
+    let answer = library::write_delta(w, h, p, old.bytes(), new.bytes(), out.bytes_mut(), size.bytes_mut());
     check.pair.count("anim_write_delta", answer);
     if answer != 0 || out.bytes() != &wanted[..length] {
         return Err("anim_write_delta between fences differs".into());

@@ -37,7 +37,7 @@ fn every_call(check: &mut Check, file: &[u8], state: State) -> Checked<()> {
     let sizes = [state.width, state.height, state.planes];
     let mut out = Twin::new("out", &[3; 64]);
     let mut size = Twin::new("length", &[9; 8]);
-    check.pair.write_delta(&mut player.a.clone(), &mut player.a, &mut out, &mut size, sizes)?;
+    check.pair.write_delta(sizes, &mut player.a.clone(), &mut player.a, &mut out, &mut size)?;
     Ok(())
 }
 
@@ -118,7 +118,7 @@ pub fn lengths(check: &mut Check) -> Checked<()> {
         for length in wrong(bytes.len()) {
             let mut player = player.clone();
             buffer(&mut player, which).set(&stretched(&bytes, length));
-            player.row(&mut check.pair, 0, 1)?;
+            rows(check, &mut player)?;
             player.step_on(&mut check.pair)?;
             player.step_back(&mut check.pair, &record)?;
             player.open(&mut check.pair)?;
@@ -135,9 +135,17 @@ pub fn lengths(check: &mut Check) -> Checked<()> {
         player.open(&mut check.pair)?;
         player.step_on(&mut check.pair)?;
         player.step_back(&mut check.pair, &[])?;
-        player.row(&mut check.pair, 0, 0)?;
+        rows(check, &mut player)?;
     }
     writer_lengths(check)
+}
+
+/// Asks for a row that is there, and for some of a plane or with a number that no picture has.
+fn rows(check: &mut Check, player: &mut Player) -> Checked<()> {
+    for (plane, row) in [(0, 1), (8, 1), (0, 1_024), (1 << 32, 1 << 32), (u64::MAX, u64::MAX)] {
+        player.row(&mut check.pair, plane, row)?;
+    }
+    Ok(())
 }
 
 /// One of a player's buffers.
@@ -158,7 +166,7 @@ fn writer_lengths(check: &mut Check) -> Checked<()> {
     let sizes = [16, 2, 1];
     let mut good = [Twin::new("old", &[0; 4]), Twin::new("new", &[1, 2, 0, 0]), Twin::new("out", &[7; 80]), Twin::new("length", &[7; 8])];
     let [old, new, out, length] = &mut good;
-    check.pair.write_delta(old, new, out, length, sizes)?;
+    check.pair.write_delta(sizes, old, new, out, length)?;
     out.set(&vec![7; usize::from(length.bytes()[0])]);
     for which in 0..good.len() {
         let bytes = good[which].bytes().to_vec();
@@ -166,7 +174,7 @@ fn writer_lengths(check: &mut Check) -> Checked<()> {
             let mut spoilt = good.clone();
             spoilt[which].set(&stretched(&bytes, wanted));
             let [old, new, out, length] = &mut spoilt;
-            check.pair.write_delta(old, new, out, length, sizes)?;
+            check.pair.write_delta(sizes, old, new, out, length)?;
         }
     }
     Ok(())
@@ -198,10 +206,10 @@ fn long_open(check: &mut Check, file: &[u8]) -> Checked<()> {
     if (x, size) != (y, plain_size) {
         return Err(format!("anim_frame_size of {} bytes differs: library {x}, plain {y}", file.len()));
     }
-    let x = library::open(file, &mut a, &mut b, &mut state);
-    let y = cover::open(file, &mut pa, &mut pb, &mut plain_state);
+    let x = library::open(file, &mut state, &mut a, &mut b);
+    let y = cover::open(file, &mut plain_state, &mut pa, &mut pb);
     check.pair.count("anim_open", x);
-    if (x, a, b, state) == (y, pa, pb, plain_state) {
+    if (x, state, a, b) == (y, plain_state, pa, pb) {
         return Ok(());
     }
     Err(format!("anim_open of {} bytes differs: library {x}, plain {y}", file.len()))

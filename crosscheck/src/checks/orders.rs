@@ -157,26 +157,48 @@ pub fn steps_back(check: &mut Check) -> Checked<()> {
     Ok(())
 }
 
-/// Rows and the writer with each set of six things wrong.
-pub fn rows_and_deltas(check: &mut Check) -> Checked<()> {
-    for set in 0..1 << 6 {
-        let mut player = Player::new(&mut check.random, &[], 4);
-        let height = if has(set, 0) { 1_025 } else { 2 };
-        player.set_state(State { width: 16, height, planes: 1, frame: 2, next: 41, end: 80 });
-        if has(set, 1) {
+/// Heights: one within the limits, the first above them, and far ones.
+const HEIGHTS: [u64; 4] = [2, 1_025, 1 << 32, u64::MAX];
+/// Planes for a picture of one plane: the one it has, the first that it hasn't, the first that no picture has, and far ones.
+const PLANES: [u64; 6] = [0, 1, 8, 1 << 32, 1 << 63, u64::MAX];
+/// Rows for a picture of two rows, likewise.
+const ROWS: [u64; 6] = [1, 2, 1_024, 1 << 32, 1 << 63, u64::MAX];
+
+/// A player without a file at frame 2 of such a height, with A and B as long as for height 2.
+fn standing(check: &mut Check, height: u64) -> Player {
+    let mut player = Player::new(&mut check.random, &[], 4);
+    player.set_state(State { width: 16, height, planes: 1, frame: 2, next: 41, end: 80 });
+    player
+}
+
+/// Each plane and row with each set of three things wrong, and each height.
+pub fn rows(check: &mut Check) -> Checked<()> {
+    for (height, set) in HEIGHTS.into_iter().flat_map(|height| (0..1 << 3).map(move |set| (height, set))) {
+        let mut player = standing(check, height);
+        if has(set, 0) {
             player.a.set(&[1; 3]);
         }
-        if has(set, 2) {
+        if has(set, 1) {
             player.b.set(&[1; 5]);
         }
-        let mut length = Twin::new("length", if has(set, 5) { &[3; 7] } else { &[3; 8] });
-        let mut out = Twin::new("out", if has(set, 4) { &[3; 64] } else { &[3; 90] });
-        let sizes = [16, height, 1];
-        check.pair.write_delta(&mut player.a, &mut player.b, &mut out, &mut length, sizes)?;
-        if has(set, 5) {
+        if has(set, 2) {
             player.state.set(&[1; 47]);
         }
-        player.row(&mut check.pair, u64::from(has(set, 3)), if has(set, 4) { 2 } else { 1 })?;
+        for (plane, row) in PLANES.into_iter().flat_map(|plane| ROWS.map(|row| (plane, row))) {
+            player.row(&mut check.pair, plane, row)?;
+        }
+    }
+    Ok(())
+}
+
+/// The writer with each set of four things wrong, and each height.
+pub fn deltas(check: &mut Check) -> Checked<()> {
+    for (height, set) in HEIGHTS.into_iter().flat_map(|height| (0..1 << 4).map(move |set| (height, set))) {
+        let mut old = Twin::new("old", if has(set, 0) { &[1; 3] } else { &[1; 4] });
+        let mut new = Twin::new("new", if has(set, 1) { &[2; 5] } else { &[2; 4] });
+        let mut out = Twin::new("out", if has(set, 2) { &[3; 64] } else { &[3; 90] });
+        let mut length = Twin::new("length", if has(set, 3) { &[3; 7] } else { &[3; 8] });
+        check.pair.write_delta([16, height, 1], &mut old, &mut new, &mut out, &mut length)?;
     }
     Ok(())
 }

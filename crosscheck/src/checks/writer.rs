@@ -34,13 +34,13 @@ pub fn write(check: &mut Check, sizes: Sizes, old: &[u8], new: &[u8]) -> Checked
     let (mut was, mut is) = (Twin::new("old", old), Twin::new("new", new));
     let mut size = Twin::new("length", &[0xee; 8]);
     let mut out = Twin::new("out", &vec![0xdd; delta_room(sizes)]);
-    if check.pair.write_delta(&mut was, &mut is, &mut out, &mut size, numbers)? != 0 {
+    if check.pair.write_delta(numbers, &mut was, &mut is, &mut out, &mut size)? != 0 {
         return Err(format!("{sizes:?}: a buffer of the length of anim.h is too short"));
     }
     let length = u64::from_le_bytes(size.bytes().try_into().expect("eight bytes")) as usize;
     for room in [length, length - 1, length + 1, check.random.below(length)] {
         let mut out = Twin::new("out", &vec![0xcc; room]);
-        check.pair.write_delta(&mut was, &mut is, &mut out, &mut size, numbers)?;
+        check.pair.write_delta(numbers, &mut was, &mut is, &mut out, &mut size)?;
     }
     turns_into(check, sizes, old, new, &out.bytes()[..length])
 }

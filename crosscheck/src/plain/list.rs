@@ -23,7 +23,9 @@ pub fn list(file: &[u8]) -> String {
     let mut lines = format!("picture {}x{}x{}\n", state.width, state.height, state.planes);
     loop {
         match step_on(file, &mut state, &mut a, &mut b, &mut work, &mut record) {
-            Ok(Some(r)) => lines += &format!("frame {} method {} time {} changed {} record {}\n", state.frame, r.method, r.time, r.changed, r.record),
+            Ok(Some(r)) => {
+                lines += &format!("frame {} method {} time {} changed {} record {}\n", state.frame, r.method, r.time, r.changed, r.record_length)
+            }
             Ok(None) => return lines + &format!("end {}\n", state.frame),
             Err(refusal) => return lines + &format!("refused {}\n", refusal.number()),
         }

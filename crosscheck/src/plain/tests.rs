@@ -87,9 +87,9 @@ fn record_of_a_step() {
 #[test]
 fn written_deltas() {
     let mut out = vec![0; 100];
-    assert_eq!(write_delta(&[0; 4], &[0xaa, 0, 0xbb, 0], &mut out, 16, 2, 1), Ok(69));
+    assert_eq!(write_delta(16, 2, 1, &[0; 4], &[0xaa, 0, 0xbb, 0], &mut out), Ok(69));
     assert_eq!(&out[..69], delta_of(&[1, 0x82, 0xaa, 0xbb, 0]));
-    assert_eq!(write_delta(&[7; 4], &[7; 4], &mut out, 16, 2, 1), Ok(64));
+    assert_eq!(write_delta(16, 2, 1, &[7; 4], &[7; 4], &mut out), Ok(64));
     assert_eq!(&out[..64], [0; 64]);
 }
 

@@ -7,7 +7,7 @@ const LEAST_SAME: usize = 4;
 const MOST_OPS: usize = 255;
 
 /// Writes the delta that turns the old frame into the new one, and answers its length.
-pub fn write_delta(old: &[u8], new: &[u8], out: &mut [u8], width: u64, height: u64, planes: u64) -> Answer<usize> {
+pub fn write_delta(width: u64, height: u64, planes: u64, old: &[u8], new: &[u8], out: &mut [u8]) -> Answer<usize> {
     let sizes = Sizes::new(width, height, planes).ok_or(OutsideLimits)?;
     need(old.len() == sizes.frame() && new.len() == sizes.frame(), BufferLength)?;
     let delta = delta(old, new, sizes);

@@ -1,7 +1,5 @@
 -- `anim::anim_frame_size`: what opening says of the frame's length, in bytes.
 use Rattle.anim.specs.ExportLaws.{size-unsized, size-sized}
-use Rattle.opening.specs.Open.{sizeOf}
-use Rattle.laws.specs.ResultLaws.{told}
 use mathlib.Core.Path.{refl}
 use borrow.Author.Needs.{needs}
 use Rattle.anim.proofs.anim_frame_size.Statement.{statement}
@@ -29,13 +27,13 @@ write-number-requires : tie.Need-write-number-requires
 write-number-requires c κs = search needs
 
 returns-2 : tie.Need-returns-2
-returns-2 c = let k = c .before .before .before .before .before .before .before .before .args in size-sized (k .file .now) (k .size .now) (c .before .before .before .before .before .if1 .left) (told sizeOf (c .before .before .before .before .frame-size .ensures) (c .before .before .s .given .1)) (c .number .ensures) refl
+returns-2 c = let k = c .before .before .before .before .before .before .before .before .args in size-sized (k .file .now) (k .size .now) (c .before .before .before .before .before .if1 .left) (c .before .before .before .before .frame-size .ensures) (c .before .before .s .given .1) (c .number .ensures) refl
 
 same-length : tie.Need-same-length
 same-length c = search needs
 
 returns-3 : tie.Need-returns-3
-returns-3 c = let k = c .before .before .before .before .before .before .before .before .before .before .before .args in size-sized (k .file .now) (k .size .now) (c .before .before .before .before .before .before .before .before .if1 .left) (told sizeOf (c .before .before .before .before .before .before .before .frame-size .ensures) (c .before .before .before .before .before .s2 .given .1)) refl (c .before .before .write-number .ensures)
+returns-3 c = let k = c .before .before .before .before .before .before .before .before .before .before .before .args in size-sized (k .file .now) (k .size .now) (c .before .before .before .before .before .before .before .before .if1 .left) (c .before .before .before .before .before .before .before .frame-size .ensures) (c .before .before .before .before .before .s2 .given .1) refl (c .before .before .write-number .ensures)
 
 pub anim-frame-size-spec : {M : Type 1} → statement M
 anim-frame-size-spec =

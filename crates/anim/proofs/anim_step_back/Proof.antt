@@ -1,5 +1,5 @@
 -- `anim::anim_step_back`: what stepping back answers; the state in bytes where it is taken.
-use Rattle.anim.specs.ExportLaws.{back-no-state, back-sized}
+use Rattle.anim.specs.ExportLaws.{back-unsized, back-sized}
 use mathlib.Core.Path.{refl}
 use borrow.Author.Needs.{needs}
 use Rattle.anim.proofs.anim_step_back.Statement.{statement}
@@ -9,7 +9,7 @@ wrong-length-requires : tie.Need-wrong-length-requires
 wrong-length-requires c κs = search needs
 
 returns : tie.Need-returns
-returns c = let k = c .before .before .before .before .before .before .args in back-no-state (k .bytes .now) (k .a .now) (k .b .now) (k .state .now) (c .wrong-length .ensures) (c .before .if1 .taken)
+returns c = let k = c .before .before .before .before .before .before .args in back-unsized (k .state .now) (k .a .now) (k .b .now) (k .rec .now) (c .wrong-length .ensures) (c .before .if1 .taken)
 
 read-state-requires : tie.Need-read-state-requires
 read-state-requires c κs = search needs
@@ -39,7 +39,7 @@ same-length-3 : tie.Need-same-length-3
 same-length-3 c = search needs
 
 returns-2 : tie.Need-returns-2
-returns-2 c = let k = c .before .before .before .before .before .before .before .before .before .before .before .before .before .before .before .before .before .before .args in back-sized (k .bytes .now) (k .a .now) (k .b .now) (k .state .now) (c .before .before .before .before .before .before .before .before .before .before .before .before .before .if1 .left) (rw (c .before .before .before .before .before .before .before .before .before .before .before .read-state .ensures) at (c .before .before .before .before .before .before .before .before .step-back .ensures)) (c .before .before .answer .given .1) (c .number .ensures) refl
+returns-2 c = let k = c .before .before .before .before .before .before .before .before .before .before .before .before .before .before .before .before .before .before .args in back-sized (k .state .now) (k .a .now) (k .b .now) (k .rec .now) (c .before .before .before .before .before .before .before .before .before .before .before .before .before .if1 .left) (rw (c .before .before .before .before .before .before .before .before .before .before .before .read-state .ensures) at (c .before .before .before .before .before .before .before .before .step-back .ensures)) (c .before .before .answer .given .1) (c .number .ensures) refl
 
 same-length-4 : tie.Need-same-length-4
 same-length-4 c = search needs
@@ -51,7 +51,7 @@ same-length-6 : tie.Need-same-length-6
 same-length-6 c = search needs
 
 returns-3 : tie.Need-returns-3
-returns-3 c = let k = c .before .before .before .before .before .before .before .before .before .before .before .before .before .before .before .before .before .before .before .before .args in back-sized (k .bytes .now) (k .a .now) (k .b .now) (k .state .now) (c .before .before .before .before .before .before .before .before .before .before .before .before .before .before .before .if1 .left) (rw (c .before .before .before .before .before .before .before .before .before .before .before .before .before .read-state .ensures) at (c .before .before .before .before .before .before .before .before .before .before .step-back .ensures)) (c .before .before .before .before .enum-told .given .1) refl (c .before .before .write-state .ensures)
+returns-3 c = let k = c .before .before .before .before .before .before .before .before .before .before .before .before .before .before .before .before .before .before .before .before .args in back-sized (k .state .now) (k .a .now) (k .b .now) (k .rec .now) (c .before .before .before .before .before .before .before .before .before .before .before .before .before .before .before .if1 .left) (rw (c .before .before .before .before .before .before .before .before .before .before .before .before .before .read-state .ensures) at (c .before .before .before .before .before .before .before .before .before .before .step-back .ensures)) (c .before .before .before .before .enum-told .given .1) refl (c .before .before .write-state .ensures)
 
 pub anim-step-back-spec : {M : Type 1} → statement M
 anim-step-back-spec =

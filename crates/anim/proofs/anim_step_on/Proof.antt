@@ -12,7 +12,7 @@ wrong-length-requires : tie.Need-wrong-length-requires
 wrong-length-requires c κs = search needs
 
 returns : tie.Need-returns
-returns c = let k = c .before .before .before .before .before .before .before .before .before .before .args in on-unsized (k .file .now) (k .a .now) (k .b .now) (k .work .now) (k .rec .now) (k .state .now) (k .report .now) (c .before .before .sized .ensures) (not-true _ (c .before .if1 .taken)) (c .wrong-length .ensures)
+returns c = let k = c .before .before .before .before .before .before .before .before .before .before .args in on-unsized (k .file .now) (k .state .now) (k .a .now) (k .b .now) (k .work .now) (k .rec .now) (k .report .now) (c .before .before .sized .ensures) (not-true _ (c .before .if1 .taken)) (c .wrong-length .ensures)
 
 read-state-requires : tie.Need-read-state-requires
 read-state-requires c κs = search needs
@@ -42,7 +42,7 @@ same-length-6 : tie.Need-same-length-6
 same-length-6 c = search needs
 
 returns-2 : tie.Need-returns-2
-returns-2 c = let k = c .before .before .before .before .before .before .before .before .before .before .before .before .before .before .before .before .before .before .before .before .before .before .before .before .before .before .before .before .before .before .before .args in on-sized (k .file .now) (k .a .now) (k .b .now) (k .work .now) (k .rec .now) (k .state .now) (k .report .now) (c .before .before .before .before .before .before .before .before .before .before .before .before .before .before .before .before .before .before .before .before .before .before .before .sized .ensures) (rw (c .before .before .before .before .before .before .before .before .before .before .before .before .before .before .before .before .before .before .before .before .read-state .ensures) at (c .before .before .before .before .before .before .before .before .before .before .before .before .before .before .before .step-on .ensures)) (not-false _ (c .before .before .before .before .before .before .before .before .before .before .before .before .before .before .before .before .before .before .before .before .before .before .if1 .left)) (c .before .before .before .before .hand-on .ensures)
+returns-2 c = let k = c .before .before .before .before .before .before .before .before .before .before .before .before .before .before .before .before .before .before .before .before .before .before .before .before .before .before .before .before .before .before .before .args in on-sized (k .file .now) (k .state .now) (k .a .now) (k .b .now) (k .work .now) (k .rec .now) (k .report .now) (c .before .before .before .before .before .before .before .before .before .before .before .before .before .before .before .before .before .before .before .before .before .before .before .sized .ensures) (rw (c .before .before .before .before .before .before .before .before .before .before .before .before .before .before .before .before .before .before .before .before .read-state .ensures) at (c .before .before .before .before .before .before .before .before .before .before .before .before .before .before .before .step-on .ensures)) (not-false _ (c .before .before .before .before .before .before .before .before .before .before .before .before .before .before .before .before .before .before .before .before .before .before .if1 .left)) (c .before .before .before .before .hand-on .ensures)
 
 pub anim-step-on-spec : {M : Type 1} → statement M
 anim-step-on-spec =

@@ -1,7 +1,5 @@
 -- `anim::anim_write_delta`: what the writer answers, and the length in bytes where it is written.
 use Rattle.anim.specs.ExportLaws.{write-unsized, write-sized}
-use Rattle.writer.specs.Write.{deltaOf}
-use Rattle.laws.specs.ResultLaws.{told}
 use mathlib.Core.Path.{refl}
 use borrow.Author.Needs.{needs}
 use Rattle.anim.proofs.anim_write_delta.Statement.{statement}
@@ -11,7 +9,7 @@ wrong-length-requires : tie.Need-wrong-length-requires
 wrong-length-requires c κs = search needs
 
 returns : tie.Need-returns
-returns c = let k = c .before .before .before .before .before .before .args in write-unsized (record { width = k .width; height = k .height; planes = k .planes }) (k .old .now) (k .new .now) (k .out .now) (k .len .now) (c .wrong-length .ensures) (c .before .if1 .taken)
+returns c = let k = c .before .before .before .before .before .before .args in write-unsized (k .width) (k .height) (k .planes) (k .old .now) (k .new .now) (k .out .now) (k .len .now) (c .wrong-length .ensures) (c .before .if1 .taken)
 
 write-requires : tie.Need-write-requires
 write-requires c κs = search needs
@@ -32,7 +30,7 @@ same-length : tie.Need-same-length
 same-length c = search needs
 
 returns-2 : tie.Need-returns-2
-returns-2 c = let k = c .before .before .before .before .before .before .before .before .before .before .before .before .before .args in write-sized (record { width = k .width; height = k .height; planes = k .planes }) (k .old .now) (k .new .now) (k .out .now) (k .len .now) (c .before .before .before .before .before .before .before .before .if1 .left) (told deltaOf (c .before .before .before .before .before .before .write .ensures .answers) (c .before .before .d .given .1)) (c .before .before .before .before .before .before .write .ensures .leaves) (c .number .ensures) refl
+returns-2 c = let k = c .before .before .before .before .before .before .before .before .before .before .before .before .before .args in write-sized (k .width) (k .height) (k .planes) (k .old .now) (k .new .now) (k .out .now) (k .len .now) (c .before .before .before .before .before .before .before .before .if1 .left) (c .before .before .before .before .before .before .write .ensures) (c .before .before .d .given .1) (c .number .ensures) refl
 
 same-length-2 : tie.Need-same-length-2
 same-length-2 c = search needs
@@ -41,7 +39,7 @@ same-length-3 : tie.Need-same-length-3
 same-length-3 c = search needs
 
 returns-3 : tie.Need-returns-3
-returns-3 c = let k = c .before .before .before .before .before .before .before .before .before .before .before .before .before .before .before .before .args in write-sized (record { width = k .width; height = k .height; planes = k .planes }) (k .old .now) (k .new .now) (k .out .now) (k .len .now) (c .before .before .before .before .before .before .before .before .before .before .before .if1 .left) (told deltaOf (c .before .before .before .before .before .before .before .before .before .write .ensures .answers) (c .before .before .before .before .before .d2 .given .1)) (c .before .before .before .before .before .before .before .before .before .write .ensures .leaves) refl (c .before .before .write-number .ensures)
+returns-3 c = let k = c .before .before .before .before .before .before .before .before .before .before .before .before .before .before .before .before .args in write-sized (k .width) (k .height) (k .planes) (k .old .now) (k .new .now) (k .out .now) (k .len .now) (c .before .before .before .before .before .before .before .before .before .before .before .if1 .left) (c .before .before .before .before .before .before .before .before .before .write .ensures) (c .before .before .before .before .before .d2 .given .1) refl (c .before .before .write-number .ensures)
 
 pub anim-write-delta-spec : {M : Type 1} → statement M
 anim-write-delta-spec =
