@@ -20,7 +20,7 @@ use Rattle.player.specs.Step.{onOf, MeetsOn}
 use Rattle.back.specs.Back.{backOf, stepBack, MeetsBack}
 use Rattle.shown.specs.Row.{rowPlace}
 use Rattle.writer.specs.declared.Delta.{Delta}
-use Rattle.writer.specs.Write.{deltaBytes, deltaOf, written, bufferAfter}
+use Rattle.writer.specs.Write.{deltaOf, Writes}
 use Rattle.words.specs.Words.{stateIn, stateWords, lay}
 use Rattle.words.specs.WordLaws.{not-laid}
 use Rattle.anim.specs.Export.{numberOr, OpensC, answerNumber, stateLeft, reportLeft, worldIn, HandsOn, StepsOnC, StepsBackC, rowC, lengthLeft, sizesIn, WritesC, SizesC}
@@ -81,12 +81,11 @@ module _ (width height planes : ℕ) (old new out len : List ℕ) where
   pub write-unsized : {r : ℕ} → r ≡ 11 → (length len ≡ 8 → ⊥) → WritesC width height planes old new out len r out len
   write-unsized e h = rw (ne-eqb (length len) 8 h) (record { answer = e; deltaOut = refl; lengthOut = refl })
 
-  pub write-sized : {d : Delta} {out′ : List ℕ} → length len ≡ 8
-      → (deltaOf d ≡ written (sizesIn width height planes) old new (length out)) × (out′ ≡ bufferAfter (deltaBytes (sizesIn width height planes) old new) out (written (sizesIn width height planes) old new (length out)))
+  pub write-sized : {d : Delta} {out′ : List ℕ} → length len ≡ 8 → Writes (sizesIn width height planes) old new out (deltaOf d) out′
       → {x : Delta} {r : ℕ} {len′ : List ℕ} → d ≡ x → r ≡ numberOr (deltaOf x) → len′ ≡ lengthLeft len (deltaOf x) → WritesC width height planes old new out len r out′ len′
   write-sized h m k n l =
-      let e = told deltaOf (m .0) k in
-      rw (eq-eqb (length len) 8 h, e) (record { answer = n; deltaOut = rw e at (m .1); lengthOut = l })
+      let e = told deltaOf (m .answers) k in
+      rw (eq-eqb (length len) 8 h, e) (record { answer = n; deltaOut = rw e at (m .leaves); lengthOut = l })
 
 -- the length of a frame
 module _ (file size : List ℕ) where

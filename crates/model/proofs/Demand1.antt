@@ -10,17 +10,15 @@ use lib.Dec.{leb}
 use lib.ListN.{length, take}
 use Rattle.laws.specs.Result.{Res, Res.ok, Res.fault, _>>=_, pick, answer}
 use Rattle.laws.specs.ResultLaws.{none-some, some-same}
-use Rattle.opening.specs.declared.OpenedFile.{OpenedFile}
 use Rattle.state.specs.Film.{Film}
-use Rattle.opening.specs.Open.{opening, zeros, stateAfter, pictureAfter, openingOf, MeetsOpen}
+use Rattle.opening.specs.Open.{opening, zeros, stateAfter, pictureAfter}
 use Rattle.record.specs.Record.{Past}
 use Rattle.player.specs.declared.SteppedOn.{SteppedOn}
-use Rattle.back.specs.declared.SteppedBack.{SteppedBack}
 use Rattle.state.specs.declared.State.{State}
 use Rattle.state.specs.World.{World, shownOf, hiddenOf}
 use Rattle.state.specs.Outcome.{Report, Answer, Answer.refused, Answer.ended, Answer.tookOn, Answer.tookBack, Outcome, After}
 use Rattle.player.specs.Step.{onOf, MeetsOn, workAfter, ready, Made, advance, settle, onHidden, stepOn}
-use Rattle.back.specs.Back.{backOf, MeetsBack, retreat, settleBack, onShown, stepBack}
+use Rattle.back.specs.Back.{retreat, settleBack, onShown, stepBack}
 use Rattle.player.specs.OutcomeLaws.{on-kept, on-put}
 use Rattle.back.specs.BackLaws.{back-kept, back-put}
 use Rattle.model.specs.Demands.{refusalOf, openRefusal, Met, Met.opens, Met.steps-on, Met.steps-back, Unchanged}

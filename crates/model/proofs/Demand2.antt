@@ -17,7 +17,7 @@ use Rattle.roundtrip.specs.Calls.{delta-stands, delta-makes}
 use Rattle.frame.specs.Frame.{Frame}
 use Rattle.player.specs.declared.SteppedOn.{SteppedOn}
 use Rattle.state.specs.World.{World, isOdd, shownOf, hiddenOf}
-use Rattle.state.specs.Outcome.{Answer, Answer.refused, Answer.tookOn, Outcome, After}
+use Rattle.state.specs.Outcome.{Answer.refused, Answer.tookOn, Outcome, After}
 use Rattle.player.specs.Step.{ready, change, reportOf, makes, make, advance, settle, onHidden, stepOn, onOf, workAfter, MeetsOn}
 use Rattle.player.specs.OutcomeLaws.{on-kept, on-put}
 use Rattle.model.specs.Demands.{Free, opsOf, newOf, recordOf, Takes}

@@ -1,5 +1,5 @@
 -- What demands 1 and 2 speak of (document 01, "Refusal numbers", "Deltas" and "Opening, stepping on, stepping back").
-use Prim.Native.Nat.{ℕ, suc, _≤_}
+use Prim.Native.Nat.{ℕ, suc}
 use mathlib.Core.List.{List, [], _++_}
 use mathlib.Core.Option.{Option, none, some}
 use mathlib.Core.Path.{_≡_}
