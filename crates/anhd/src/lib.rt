@@ -57,7 +57,7 @@ fn items_of(method: usize, bits: usize) -> Items
     Items::Shorts
 }
 
-// Whether rows of so many bytes are made of whole columns of such items.
+// Whether rows of so many bytes, an even number, are made of whole columns of such items.
 pub fn columns_ok(items: Items, row: usize) -> bool
     ensures { λ r. ⌜ r ≡ columnsOk items row ⌝ }
 {

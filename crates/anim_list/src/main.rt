@@ -9,7 +9,7 @@ struct Input {
     failed: bool,
 }
 
-// Reads standard input to its end, or until the buffer is full.
+// Reads standard input to its end, until the buffer is full, or until a read fails.
 fn read_input(buf: &mut [u8]) -> Input
     ensures { λ r. ⌜ Counts (r .length) (now (buf .exit)) ⌝ }
 {

@@ -1,5 +1,5 @@
--- Demand 1: a refused call changes neither picture, nor the state, nor the record buffer, nor the work buffer, but that a 51 on stepping
--- on leaves the would-be frame there. End changes nothing.
+-- Demand 1: a refused call changes neither picture, nor the state, nor the record buffer, nor the work buffer unless it is refused with
+-- 51. End changes nothing.
 use Prim.Native.Nat.{ℕ, suc}
 use native.Mathlib.Omega.{arith}
 use mathlib.Core.Bool.{Bool, true, false}
@@ -34,9 +34,9 @@ kept-on : (w : World) (x : Answer) (k : Option (List ℕ)) → ((x ≡ refused 5
 kept-on w x k h = rw (on-kept w x k) (record { world = refl; bytes = refl; work = h })
 
 -- a step that isn't taken
-untaken-on : (file : List ℕ) (w : World) (work room : ℕ) → ((r : Report) → stepOn file w work room .answer ≡ tookOn r → ⊥) → Untouched w (stepOn file w work room)
+not-taken-on : (file : List ℕ) (w : World) (work room : ℕ) → ((r : Report) → stepOn file w work room .answer ≡ tookOn r → ⊥) → Untouched w (stepOn file w work room)
 unfolding stepOn settle
-untaken-on file w work room h = go (ready (length file) (w .state) (length (w .a)) (length (w .b)) work >>= λ _. advance (take (w .state .end) file) (w .state) (shownOf w) (hiddenOf w)) h
+not-taken-on file w work room h = go (ready (length file) (w .state) (length (w .a)) (length (w .b)) work >>= λ _. advance (take (w .state .end) file) (w .state) (shownOf w) (hiddenOf w)) h
   where
     took : Made → Outcome
     took m = record { answer = tookOn (m .report); state = record { sizes = w .state .sizes; frame = suc (w .state .frame); next = m .next; end = w .state .end }; picture = m .picture; bytes = m .bytes; work = some (m .picture) }
@@ -53,17 +53,13 @@ untaken-on file w work room h = go (ready (length file) (w .state) (length (w .a
     go (ok none) q = kept-on w ended none λ _. refl
     go (ok (some m)) q = fits m (leb (length (m .bytes)) room) q
 
-untaken-back : (w : World) (bytes : List ℕ) → (stepBack w bytes .answer ≡ tookBack → ⊥) → Untouched w (stepBack w bytes)
+not-taken-back : (w : World) (bytes : List ℕ) → (stepBack w bytes .answer ≡ tookBack → ⊥) → Untouched w (stepBack w bytes)
 unfolding stepBack settleBack
-untaken-back w bytes h = go (retreat w bytes) h
+not-taken-back w bytes h = go (retreat w bytes) h
   where
     go : (r : Res Past) → (onShown w (settleBack (w .state) (shownOf w) r) .answer ≡ tookBack → ⊥) → Untouched w (onShown w (settleBack (w .state) (shownOf w) r))
     go (fault k) q = rw (back-kept w (refused k) none) (record { world = refl; bytes = refl; work = λ _. refl })
     go (ok p) q = absurd (q (ap (λ (o : After). o .answer) (back-put w (settleBack (w .state) (shownOf w) (ok p)))))
-
--- what a call leaves, if it hands the same on and leaves the same buffers
-unchanged : (n : ℕ) {w w′ : World} {work rec work′ rec′ : List ℕ} → w′ ≡ w → rec′ ≡ rec → ((n ≡ 51 → ⊥) → work′ ≡ work) → Unchanged n w work rec w′ work′ rec′
-unchanged n e f g = record { left = ap (λ (x : World). x .a) e; right = ap (λ (x : World). x .b) e; state = ap (λ (x : World). x .state) e; written = f; drawn = g }
 
 -- a refused opening leaves both buffers, and answers six zeros for the state
 refused-open : (n : ℕ) (a b a′ b′ : List ℕ) (s : State) (q : Res Film) → openRefusal (answer q) ≡ some n → s ≡ stateAfter q → a′ ≡ pictureAfter a q → b′ ≡ pictureAfter b q
@@ -74,21 +70,24 @@ refused-open n a b a′ b′ s (ok F) e p l u = none-some e
 -- demand 1
 pub demand-1 : {w w′ : World} {work rec work′ rec′ : List ℕ} {o : Option ℕ} → Met w work rec o w′ work′ rec′ → (n : ℕ) → o ≡ some n → Unchanged n w work rec w′ work′ rec′
 demand-1 (opens file a b r a′ b′ m) n e =
-    let k = refused-open n a b a′ b′ (r .state) (opening file (length a) (length b)) (ap openRefusal (sym (m .answer)) ∙ e) (m .state) (m .left) (m .right) in
-    unchanged n k refl λ _. refl
+    record { world = refused-open n a b a′ b′ (r .state) (opening file (length a) (length b)) (ap openRefusal (sym (m .answer)) ∙ e) (m .state) (m .left) (m .right); written = refl; drawn = λ h. refl }
 demand-1 (steps-on file w work rec r a b work′ rec′ m) n e =
-    let u = untaken-on file w (length work) (length rec) λ p q. none-some (sym (ap refusalOf (m .answer ∙ q)) ∙ e) in
-    unchanged n (after-on m ∙ u .world) (m .written ∙ rw (u .bytes)) λ h. m .drawn ∙ ap (workAfter work) (u .work λ q. h (some-same (sym e ∙ ap refusalOf (m .answer ∙ q))))
+    let u = not-taken-on file w (length work) (length rec) λ p q. none-some (sym (ap refusalOf (m .answer ∙ q)) ∙ e) in
+    record {
+      world = after-on m ∙ u .world;
+      written = m .written ∙ rw (u .bytes);
+      drawn = λ h. m .drawn ∙ ap (workAfter work) (u .work λ q. h (some-same (sym e ∙ ap refusalOf (m .answer ∙ q))));
+    }
 demand-1 (steps-back w bytes r a b m) n e =
-    let u = untaken-back w bytes λ q. none-some (sym (ap refusalOf (m .answer ∙ q)) ∙ e) in
-    unchanged n (after-back m ∙ u .world) refl λ _. refl
+    let u = not-taken-back w bytes λ q. none-some (sym (ap refusalOf (m .answer ∙ q)) ∙ e) in
+    record { world = after-back m ∙ u .world; written = refl; drawn = λ h. refl }
 
 -- End
-not-taken : {p : Report} → ended ≡ tookOn p → ⊥
-not-taken e = let z : _≡_ {A = ℕ} 0 1 = cc in omega arith
+end-not-taken : {p : Report} → ended ≡ tookOn p → ⊥
+end-not-taken e = let z : _≡_ {A = ℕ} 0 1 = cc in omega arith
 
 pub end-keeps : (file : List ℕ) (w : World) (work rec : List ℕ) (r : SteppedOn) (a b work′ rec′ : List ℕ) → MeetsOn file w work rec r a b work′ rec′ → onOf (r .answer) ≡ ended
     → (_≡_ {A = World} (record { a = a; b = b; state = r .state }) w) × (rec′ ≡ rec) × (work′ ≡ work)
 end-keeps file w work rec r a b work′ rec′ m e =
-    let u = untaken-on file w (length work) (length rec) λ p q. not-taken (sym e ∙ m .answer ∙ q) in
+    let u = not-taken-on file w (length work) (length rec) λ p q. end-not-taken (sym e ∙ m .answer ∙ q) in
     (after-on m ∙ u .world, m .written ∙ rw (u .bytes), m .drawn ∙ ap (workAfter work) (u .work λ q. none-some (sym (ap refusalOf e) ∙ ap refusalOf (m .answer ∙ q))))

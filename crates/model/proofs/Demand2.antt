@@ -1,14 +1,14 @@
 -- Demand 2: where the papers have no other refusal, a delta is taken exactly when it is well formed to its last needed byte; the hidden
 -- picture becomes the one that the ANIM rules define, and the shown one doesn't change. The delta that is written for two pictures turns
 -- the first into the second.
-use Prim.Native.Nat.{ℕ, suc, _≤_}
+use Prim.Native.Nat.{ℕ, suc, _<_, _≤_}
 use mathlib.Core.Bool.{Bool, true, false, not}
 use mathlib.Core.List.{List, [], _++_}
 use mathlib.Core.Option.{none, some}
 use mathlib.Core.Path.{_≡_, refl, ap, _∙_}
 use lib.ListN.{length, take, drop}
 use native.Mathlib.Omega.{arith}
-use borrow.Author.Tests.{le-leb}
+use borrow.Author.Tests.{le-leb, lt-leb}
 use Rattle.laws.specs.Result.{Res, Res.ok, Res.fault, _>>=_, pick}
 use Rattle.anhd.specs.declared.Items.the-variants.{Bytes}
 use Rattle.delta.specs.Delta.{Op}
@@ -20,7 +20,7 @@ use Rattle.state.specs.World.{World, isOdd, shownOf, hiddenOf}
 use Rattle.state.specs.Outcome.{Answer.refused, Answer.tookOn, Outcome, After}
 use Rattle.player.specs.Step.{ready, change, reportOf, makes, make, advance, settle, onHidden, stepOn, onOf, workAfter, MeetsOn}
 use Rattle.player.specs.OutcomeLaws.{on-kept, on-put}
-use Rattle.model.specs.Demands.{Free, opsOf, newOf, recordOf, Takes}
+use Rattle.model.specs.Demands.{Free, deltaOps, newOf, recordOf, Takes}
 use Rattle.model.proofs.Laws.{odd-suc, after-on}
 
 free-advance : (file : List ℕ) (w : World) (work : ℕ) (x : Frame) → Free file w work x
@@ -29,7 +29,7 @@ unfolding advance
 free-advance file w work x f = rw (f .tests, f .there)
 
 -- a delta that isn't well formed is refused with its first fault, and nothing changes
-pub malformed : (file : List ℕ) (w : World) (work room : ℕ) (x : Frame) (n : ℕ) → Free file w work x → opsOf w x ≡ fault n
+pub malformed : (file : List ℕ) (w : World) (work room : ℕ) (x : Frame) (n : ℕ) → Free file w work x → deltaOps w x ≡ fault n
     → stepOn file w work room ≡ record { answer = refused n; world = w; bytes = []; work = none }
 unfolding stepOn settle change
 malformed file w work room x n f e = rw (free-advance file w work x f, e) (on-kept w (refused n) none)
@@ -45,7 +45,7 @@ takenAs w x f = record {
 }
 
 -- what the frame makes of the pictures
-change-new : (w : World) (x : Frame) (ops : List Op) → opsOf w x ≡ ok ops → change (w .state .sizes) x (shownOf w) (hiddenOf w) ≡ ok (newOf w x ops)
+change-new : (w : World) (x : Frame) (ops : List Op) → deltaOps w x ≡ ok ops → change (w .state .sizes) x (shownOf w) (hiddenOf w) ≡ ok (newOf w x ops)
 unfolding change
 change-new w x ops e = rw e refl
 
@@ -55,7 +55,13 @@ taken : (file : List ℕ) (w : World) (work room : ℕ) (x : Frame) (f : List �
 unfolding stepOn settle makes takenAs
 taken file w work room x f k e h = rw (free-advance file w work x k, e) (rw (le-leb (length (recordOf w f)) room h) refl)
 
--- then the hidden picture is the new one and is shown, and the one that was shown is hidden as it was
+-- else it is 51
+unfit : (file : List ℕ) (w : World) (work room : ℕ) (x : Frame) (f : List ℕ) → Free file w work x → change (w .state .sizes) x (shownOf w) (hiddenOf w) ≡ ok f → room < length (recordOf w f)
+    → stepOn file w work room ≡ record { answer = refused 51; world = w; bytes = []; work = some f }
+unfolding stepOn settle makes
+unfit file w work room x f k e h = rw (free-advance file w work x k, e) (rw (lt-leb (length (recordOf w f)) room h) (on-kept w (refused 51) (some f)))
+
+-- after a taken step the hidden picture is the new one and is shown, and the one that was shown is hidden as it was
 pub shown-new : (w : World) (x : Frame) (f : List ℕ) → shownOf (onHidden w (takenAs w x f) .world) ≡ f
 unfolding shownOf takenAs
 shown-new w x f = rw (on-put w (takenAs w x f)) (rw (odd-suc (w .state .frame)) (go (isOdd (w .state .frame))))
@@ -74,10 +80,10 @@ shown-kept w x f = rw (on-put w (takenAs w x f)) (rw (odd-suc (w .state .frame))
 
 -- demand 2, of a step on that met its contract
 module _ (file : List ℕ) (w : World) (work rec : List ℕ) (r : SteppedOn) (a b work′ rec′ : List ℕ) (m : MeetsOn file w work rec r a b work′ rec′) (x : Frame) (f : Free file w (length work) x) where
-  pub demand-2-refused : (n : ℕ) → opsOf w x ≡ fault n → onOf (r .answer) ≡ refused n
+  pub demand-2-refused : (n : ℕ) → deltaOps w x ≡ fault n → onOf (r .answer) ≡ refused n
   demand-2-refused n e = m .answer ∙ ap (λ (o : After). o .answer) (malformed file w (length work) (length rec) x n f e)
 
-  pub demand-2-taken : (ops : List Op) → opsOf w x ≡ ok ops → length (recordOf w (newOf w x ops)) ≤ length rec
+  pub demand-2-taken : (ops : List Op) → deltaOps w x ≡ ok ops → length (recordOf w (newOf w x ops)) ≤ length rec
       → Takes w rec x (newOf w x ops) (onOf (r .answer)) (record { a = a; b = b; state = r .state }) work′ rec′
   unfolding takenAs makes
   demand-2-taken ops e h =
@@ -93,11 +99,18 @@ module _ (file : List ℕ) (w : World) (work rec : List ℕ) (r : SteppedOn) (a 
         written = m .written ∙ ap (λ (o : After). o .bytes ++ drop (length (o .bytes)) rec) p;
       }
 
+  -- one whose record doesn't fit is refused with 51, and leaves the new picture in the work buffer
+  pub demand-2-no-room : (ops : List Op) → deltaOps w x ≡ ok ops → length rec < length (recordOf w (newOf w x ops)) → (onOf (r .answer) ≡ refused 51) × (work′ ≡ newOf w x ops)
+  demand-2-no-room ops e h =
+      let g = unfit file w (length work) (length rec) x (newOf w x ops) f (change-new w x ops e) h in
+      (m .answer ∙ ap (λ (o : After). o .answer) g, m .drawn ∙ ap (λ (o : After). workAfter work (o .work)) g)
+
   -- a delta that `writer::write` wrote for the hidden picture and a new one leads to the new one
-  pub demand-2-written : (old new out out′ : List ℕ) (n : ℕ) → Writes (w .state .sizes) old new out (ok n) out′ → hiddenOf w ≡ old → x .header .items ≡ Bytes → x .dlta ≡ take n out′
+  pub demand-2-written : (new out out′ : List ℕ) (n : ℕ) → Writes (w .state .sizes) (hiddenOf w) new out (ok n) out′ → x .header .items ≡ Bytes → x .dlta ≡ take n out′
       → length (recordOf w new) ≤ length rec → Takes w rec x new (onOf (r .answer)) (record { a = a; b = b; state = r .state }) work′ rec′
-  demand-2-written old new out out′ n g i j d h = go (opsOf w x) refl (rw (j, d, delta-stands (w .state .sizes) old new out n out′ g, i) (delta-makes (w .state .sizes) old new out n out′ g))
+  demand-2-written new out out′ n g j d h =
+      go (deltaOps w x) refl (rw (j, d, delta-stands (w .state .sizes) (hiddenOf w) new out n out′ g) (delta-makes (w .state .sizes) (hiddenOf w) new out n out′ g))
     where
-      go : (q : Res (List Op)) → opsOf w x ≡ q → (q >>= λ ops. ok (newOf w x ops)) ≡ ok new → Takes w rec x new (onOf (r .answer)) (record { a = a; b = b; state = r .state }) work′ rec′
-      go (ok ops) e f = let k : newOf w x ops ≡ new = cc in rw k at (demand-2-taken ops e (rw k h))
-      go (fault m) e f = let z : _≡_ {A = ℕ} 0 1 = cc in absurd (omega arith)
+      go : (q : Res (List Op)) → deltaOps w x ≡ q → (q >>= λ ops. ok (newOf w x ops)) ≡ ok new → Takes w rec x new (onOf (r .answer)) (record { a = a; b = b; state = r .state }) work′ rec′
+      go (ok ops) e k = let i : newOf w x ops ≡ new = cc in rw i at (demand-2-taken ops e (rw i h))
+      go (fault m) e k = let z : _≡_ {A = ℕ} 0 1 = cc in absurd (omega arith)

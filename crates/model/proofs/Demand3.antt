@@ -24,7 +24,7 @@ use Rattle.opening.specs.declared.OpenedFile.{OpenedFile}
 use Rattle.state.specs.Film.{Film}
 use Rattle.opening.specs.Open.{opening, stateAfter, pictureAfter, openingOf, MeetsOpen}
 use Rattle.model.specs.Model.{Call, Seen, here, built, placeAt, picture, recordAt, stands, reportAt, answerFor, answerAt, answerOn, answerFirst, moved, leaves, model, modelOf}
-use Rattle.model.specs.Trace.{Given, Given.latest, recordIn, untaken, seenOn, seenBack, Trace, Trace.none-left, Trace.stepped-on, Trace.stepped-back}
+use Rattle.model.specs.Trace.{Handed, Handed.latest, recordIn, untaken, seenOn, seenBack, Trace, Trace.none-left, Trace.stepped-on, Trace.stepped-back}
 use Rattle.model.proofs.Laws.{after-on, after-back}
 use Rattle.model.proofs.Opened.{Opened, size, OpenedAs, opening-opened}
 use Rattle.model.proofs.Reached.{Reached, records, Comes, Reached.first, Reached.next}
@@ -124,10 +124,10 @@ untaken-back : (F : Film) (m : ℕ) → untaken tookBack [] (records F (suc m)) 
 unfolding untaken records
 untaken-back F m = refl
 
--- the bytes that a step back may be given at frame m + 2
-given-latest : (F : Film) (m : ℕ) (bytes : List ℕ) → Given (records F (suc m)) bytes → bytes ≡ recordAt F m
+-- the bytes that a step back may be handed at frame m + 2
+handed-latest : (F : Film) (m : ℕ) (bytes : List ℕ) → Handed (records F (suc m)) bytes → bytes ≡ recordAt F m
 unfolding records
-given-latest F m bytes latest = refl
+handed-latest F m bytes latest = refl
 
 -- from every frame that can be reached
 from-there : (F : Film) → Opened F → {w : World} {rs : List (List ℕ)} {cs : List Call} {os : List Seen} → Trace (F .file) w rs cs os
@@ -147,7 +147,7 @@ from-there F o (stepped-back {rs = rs} bytes r a b g h t) m first ew er =
     rw (e, ih)
 from-there F o (stepped-back {rs = rs} bytes r a b g h t) m (next {m = n} x i p q d l) ew er =
     let c = back-taken F o (next x i p q d l) in
-    let k : MeetsBack _ (recordAt F n) r a b = rw (given-latest F n bytes (rw er at g)) at h in
+    let k : MeetsBack _ (recordAt F n) r a b = rw (handed-latest F n bytes (rw er at g)) at h in
     let e = back-seen F o (next x i p q d l) ew (recordAt F n) tookBack n r a b c k in
     let ih = from-there F o t n p (ap (λ (s : Seen). s .world) e) (ap (λ (s : Seen). untaken (s .answer) [] rs) e ∙ rw er (untaken-back F n)) in
     rw (e, ih)

@@ -30,7 +30,7 @@ openRefusal (ok u) = none
 openRefusal (fault n) = some n
 
 -- a call that met its contract: pictures and state, work and record buffer before it, its refusal if any, and the same after it. Before
--- opening the state is six zeros; opening and stepping back are lent neither work nor record buffer.
+-- opening the state is six zeros; opening and stepping back are lent no work buffer, and no record buffer to write to.
 pub data Met : World → (work rec : List ℕ) → Option ℕ → World → (work′ rec′ : List ℕ) → Type 0 where
   opens : (file a b : List ℕ) (r : OpenedFile) (a′ b′ : List ℕ) → MeetsOpen file a b r a′ b′
       → Met (record { a = a; b = b; state = zeros }) [] [] (openRefusal (openingOf (r .answer))) (record { a = a′; b = b′; state = r .state }) [] []
@@ -41,20 +41,19 @@ pub data Met : World → (work rec : List ℕ) → Option ℕ → World → (wor
 
 -- what a call refused with n leaves: neither picture, nor the state, nor the record buffer is changed, nor the work buffer unless n is 51
 pub record Unchanged (n : ℕ) (w : World) (work rec : List ℕ) (w′ : World) (work′ rec′ : List ℕ) : Type 0 where
-  pub left : w′ .a ≡ w .a
-  pub right : w′ .b ≡ w .b
-  pub state : w′ .state ≡ w .state
+  pub world : w′ ≡ w
   pub written : rec′ ≡ rec
   pub drawn : (n ≡ 51 → ⊥) → work′ ≡ work
 
--- a step on with nothing else to refuse: the tests of state and buffers passed, and a frame with a good header stands at the next place
+-- a step on that only its delta and its record's length can refuse: the tests of state and buffers passed, and x, the next frame from the
+-- next place on, has a good header
 pub record Free (file : List ℕ) (w : World) (work : ℕ) (x : Frame) : Type 0 where
   pub tests : ready (length file) (w .state) (length (w .a)) (length (w .b)) work ≡ ok tt
   pub there : frameAt (take (w .state .end) file) (rowBytes (w .state .sizes .width)) (w .state .next) ≡ ok (some x)
 
 -- the ops of its delta, or its first fault
-abbrev pub opsOf : World → Frame → Res (List Op)
-opsOf w x = readDelta (shapeOf (w .state .sizes) (x .header .items)) (x .dlta)
+abbrev pub deltaOps : World → Frame → Res (List Op)
+deltaOps w x = readDelta (shapeOf (w .state .sizes) (x .header .items)) (x .dlta)
 
 -- the picture that they make of the hidden one
 abbrev pub newOf : World → Frame → List Op → List ℕ
@@ -65,7 +64,7 @@ abbrev pub recordOf : World → List ℕ → List ℕ
 recordOf w f = recordBytes (suc (w .state .frame)) (w .state .next) (hiddenOf w) f
 
 -- what a taken step to frame x, which makes f of the hidden picture, answers and leaves: f is in the hidden buffer, which is now the shown
--- one, and in the work buffer; the shown picture doesn't change; the record's bytes stand in front of what was in its buffer
+-- one, and in the work buffer; the shown picture doesn't change; the record stands at the front of its buffer, and the bytes past it stay
 pub record Takes (w : World) (rec : List ℕ) (x : Frame) (f : List ℕ) (y : Answer) (w′ : World) (work′ rec′ : List ℕ) : Type 0 where
   pub answer : y ≡ tookOn (reportOf (w .state) x (hiddenOf w) f)
   pub state : w′ .state ≡ record { sizes = w .state .sizes; frame = suc (w .state .frame); next = x .next; end = w .state .end }

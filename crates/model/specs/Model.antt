@@ -1,7 +1,8 @@
 -- The model of demand 3 (document 01, "Opening, stepping on, stepping back"). It is fed the file and the calls in order, and holds
 -- a number n, at first 1. Here m is n − 1: picture m + 1 is shown at n, and picture m hidden, where picture 0 is picture 1 too.
--- With opening and the steps it shares the readings of chunks, BMHD, BODY, ANHD, deltas and records, the bytes of a record, the number of
--- bytes that differ, what an odd number is and the ids BMHD and BODY; and nothing of what an opening or a step comes to.
+-- With opening and the steps it shares the readings of chunks, BMHD, BODY, ANHD, deltas and records, what ops draw, the bytes of a record,
+-- the lengths of a row and of a frame, how many bytes differ, what an odd number is, the ids BMHD and BODY, and the types of what is
+-- answered; and nothing of what an opening or a step comes to.
 use Prim.Native.Nat.{ℕ, zero, suc}
 use mathlib.Core.List.{List, [], _∷_}
 use mathlib.Core.Option.{Option, none, some}
@@ -46,7 +47,7 @@ film file =
     body (z .packed) (z .sizes) (contents BODY (chunksOf (take end file) x)) >>= λ f.
     ok (record { file = file; end = end; sizes = z .sizes; start = x .next; first = f })
 
--- the frame that stands at a place
+-- the next frame from a place on, if there is one
 abbrev pub here : Film → ℕ → Res (Option Frame)
 here F at = frameAt (take (F .end) (F .file)) (rowBytes (F .sizes .width)) at
 
@@ -62,7 +63,7 @@ built F x p =
     readDelta (shapeOf (F .sizes) (x .header .items)) (x .dlta) >>= λ ops.
     ok (draw (shapeOf (F .sizes) (x .header .items)) (x .dlta) ops p)
 
--- what the frame at a place makes of it; the picture stays where there is no frame, or its delta is refused
+-- what such a frame makes of a picture, which stays where there is no frame, or its delta is refused
 unfoldable pub drawn : Film → List ℕ → Res (Option Frame) → List ℕ
 drawn F p (ok (some x)) = orKeep p (built F x p)
 drawn F p (ok none) = p

@@ -12,10 +12,10 @@ use Rattle.player.specs.Step.{onOf, MeetsOn}
 use Rattle.back.specs.Back.{backOf, MeetsBack}
 use Rattle.model.specs.Model.{Call, Call.on, Call.back, Seen}
 
--- the bytes that a step back may be given, by the records not yet taken back, the latest first: the latest, or any where there is none
-pub data Given : List (List ℕ) → List ℕ → Type 0 where
-  any : {bytes : List ℕ} → Given [] bytes
-  latest : {bytes : List ℕ} {rs : List (List ℕ)} → Given (bytes ∷ rs) bytes
+-- the bytes that a step back may be handed, by the records not yet taken back, the latest first: the latest, or any where there is none
+pub data Handed : List (List ℕ) → List ℕ → Type 0 where
+  any : {bytes : List ℕ} → Handed [] bytes
+  latest : {bytes : List ℕ} {rs : List (List ℕ)} → Handed (bytes ∷ rs) bytes
 
 -- the record in a record buffer: as many bytes as are reported
 unfoldable pub recordIn : Answer → List ℕ → List ℕ
@@ -38,6 +38,7 @@ seenOn r a b rec = record { answer = onOf (r .answer); world = record { a = a; b
 abbrev pub seenBack : SteppedBack → List ℕ → List ℕ → Seen
 seenBack r a b = record { answer = backOf (r .answer); world = record { a = a; b = b; state = r .state }; bytes = [] }
 
+-- the calls from pictures and state on, by the records not yet taken back, and what is seen after each
 pub data Trace (file : List ℕ) : World → List (List ℕ) → List Call → List Seen → Type 0 where
   none-left : {w : World} {rs : List (List ℕ)} → Trace file w rs [] []
   stepped-on : {w : World} {rs : List (List ℕ)} {cs : List Call} {os : List Seen} (work rec : List ℕ) (r : SteppedOn) (a b work′ rec′ : List ℕ)
@@ -45,7 +46,7 @@ pub data Trace (file : List ℕ) : World → List (List ℕ) → List Call → L
       → Trace file (seenOn r a b rec′ .world) (untaken (seenOn r a b rec′ .answer) (seenOn r a b rec′ .bytes) rs) cs os
       → Trace file w rs (on (length work) (length rec) ∷ cs) (seenOn r a b rec′ ∷ os)
   stepped-back : {w : World} {rs : List (List ℕ)} {cs : List Call} {os : List Seen} (bytes : List ℕ) (r : SteppedBack) (a b : List ℕ)
-      → Given rs bytes
+      → Handed rs bytes
       → MeetsBack w bytes r a b
       → Trace file (seenBack r a b .world) (untaken (seenBack r a b .answer) [] rs) cs os
       → Trace file w rs (back bytes ∷ cs) (seenBack r a b ∷ os)

@@ -75,15 +75,15 @@ firstOf h d a b =
     ok (record { sizes = z .sizes; picture = p })
 
 -- what is fixed with it: the file, its end place and the place after frame 1
-abbrev pub film : List ℕ → ℕ → ℕ → First → Film
-film file end start p = record { file = file; end = end; sizes = p .sizes; start = start; first = p .picture }
+abbrev pub filmOf : List ℕ → ℕ → ℕ → First → Film
+filmOf file end start p = record { file = file; end = end; sizes = p .sizes; start = start; first = p .picture }
 
 -- opening a file, with buffers A and B of so many bytes
 unfoldable pub opening : List ℕ → ℕ → ℕ → Res Film
 opening file a b =
     firstPlaces file >>= λ p.
     firstOf (bmhdAt file p) (bodyAt file p) a b >>= λ f.
-    ok (film file (p .end) (p .form .next) f)
+    ok (filmOf file (p .end) (p .form .next) f)
 
 -- the state after it: six zeros where it is refused
 abbrev pub zeros : State

@@ -28,7 +28,7 @@ use Rattle.opening.specs.declared.Opening.the-variants.{Opened, Refused}
 use Rattle.opening.specs.declared.OpenedFile.{OpenedFile}
 use Rattle.opening.specs.declared.Places.{Places as Found}
 use Rattle.opening.specs.declared.Places.the-variants.{At, Nowhere}
-use Rattle.opening.specs.Open.{BMHD, BODY, Places, placesIn, firstPlaces, bmhdAt, bodyAt, firstSize, First, firstOf, film, opening, zeros, Opens}
+use Rattle.opening.specs.Open.{BMHD, BODY, Places, placesIn, firstPlaces, bmhdAt, bodyAt, firstSize, First, firstOf, filmOf, opening, zeros, Opens}
 
 -- what the walk's answer says in the paper's terms
 abbrev pub placesOf : Found → Res Places
@@ -114,7 +114,7 @@ module _ (file : List ℕ) where
 
 -- a first picture in whatever file, with its end place and the place after its FORM
 pub record OpensFirst (end start : ℕ) (q : Res First) (a b : List ℕ) (r : OpenedFile) (a′ b′ : List ℕ) : Type 0 where
-  pub opens : (file : List ℕ) → Opens (q >>= λ p. ok (film file end start p)) a b r a′ b′
+  pub opens : (file : List ℕ) → Opens (q >>= λ p. ok (filmOf file end start p)) a b r a′ b′
 
 -- a refused opening
 opens-refused : {q : Res Film} {why : Refusal} {r : OpenedFile} {a b : List ℕ} → q ≡ fault (numberOf why) → r ≡ record { answer = Refused why; state = zeros } → Opens q a b r a b

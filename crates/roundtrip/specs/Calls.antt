@@ -1,12 +1,12 @@
--- Demand 2's last sentence, of calls: where `writer::write` met its contract and wasn't refused, the delta that it wrote, applied to the
--- old picture by a `delta::apply` that met its contract, gives the new one.
-use Prim.Native.Nat.{ℕ}
+-- Demand 2's last sentence, of calls: where `writer::write` met its contract and there was room, the delta that it wrote, applied to the old
+-- picture by a `delta::apply` that met its contract, gives the new one.
+use Prim.Native.Nat.{ℕ, _≤_}
 use mathlib.Core.List.{List, _++_}
 use mathlib.Core.Path.{_≡_, refl, sym, ap, _∙_}
 use lib.Dec.{leb, eqb}
 use lib.ListN.{length, take, drop}
 use lib.Seq.{take-append-seam}
-use borrow.Author.Tests.{eqb-true}
+use borrow.Author.Tests.{eqb-true, eq-eqb, le-leb}
 use Rattle.laws.specs.Result.{Res, Res.ok, _>>=_, answer, orKeep}
 use Rattle.laws.specs.ResultLaws.{Each, Each.each, each-self, each-bind, each-need, each-is}
 use Rattle.state.specs.declared.Sizes.{Sizes}
@@ -19,12 +19,12 @@ use Rattle.writer.specs.Write.{deltaBytes, written, bufferAfter, Writes}
 use Rattle.roundtrip.specs.RoundTrip.{delta-turns, written-turns}
 
 -- a delta of k bytes that can be written: the sizes are within the limits, and both pictures have a frame's length
-pub record Written (z : Sizes) (old new : List ℕ) (k : ℕ) : Type 0 where
+pub record Measured (z : Sizes) (old new : List ℕ) (k : ℕ) : Type 0 where
   pub size : k ≡ length (deltaBytes z old new)
   pub sizes : frameLength z ≡ ok (length old)
   pub same : length new ≡ length old
 
-written-whole : (z : Sizes) (old new : List ℕ) (room : ℕ) → Each (Written z old new) (written z old new room)
+written-whole : (z : Sizes) (old new : List ℕ) (room : ℕ) → Each (Measured z old new) (written z old new room)
 unfolding written
 written-whole z old new room =
     each-bind (each-self (frameLength z)) λ n e.
@@ -32,8 +32,15 @@ written-whole z old new room =
     let l : length old ≡ n = eqb-true (length old) n o in
     each (record { size = refl; sizes = e ∙ rw l; same = eqb-true (length new) n w ∙ sym l })
 
+-- where there is room it is written
+pub written-fits : (z : Sizes) (old new out : List ℕ) (x : Res ℕ) (out′ : List ℕ) → Writes z old new out x out′ → frameLength z ≡ ok (length old) → length new ≡ length old
+    → length (deltaBytes z old new) ≤ length out → x ≡ ok (length (deltaBytes z old new))
+unfolding written
+written-fits z old new out x out′ m e w h =
+    m .answers ∙ simp (e, eq-eqb (length old) (length old) refl, eq-eqb (length new) (length old) w, le-leb (length (deltaBytes z old new)) (length out) h)
+
 module _ (z : Sizes) (old new out : List ℕ) (n : ℕ) (out′ : List ℕ) (m : Writes z old new out (ok n) out′) where
-  pub delta-written : Written z old new n
+  pub delta-written : Measured z old new n
   delta-written = each-is (sym (m .answers)) (written-whole z old new (length out))
 
   -- the first n bytes of the output buffer are the delta
@@ -49,6 +56,7 @@ module _ (z : Sizes) (old new out : List ℕ) (n : ℕ) (out′ : List ℕ) (m :
   pub new-made : newFrame z Bytes (take n out′) old (length old) ≡ ok new
   new-made = rw delta-stands (written-turns z (length old) old new (delta-written .sizes) refl (delta-written .same))
 
+  -- and so does a call that applies them to the old one
   pub applied-new : (work : List ℕ) (x : Res ℕ) (work′ : List ℕ) → length work ≡ length old → Applies z Bytes (take n out′) old work x work′ → (answer x ≡ ok tt) × (work′ ≡ new)
   applied-new work x work′ l p =
       let e : newFrame z Bytes (take n out′) old (length work) ≡ ok new = rw l new-made in
