@@ -73,7 +73,7 @@ pub fn read_header(s: &[u8], row: usize) -> Anhd
     ensures { λ r. ⌜ anhdOf r ≡ frameHeader row (now (s .entry)) ⌝ }
 {
     if s.len() < 40 {
-        return Anhd::Unread(Refusal::ShortAnimHeader);
+        return Anhd::Unread(Refusal::ShortAnhd);
     }
     let method = byte(s, 0);
     if !either(method, 5, 7) {

@@ -36,18 +36,18 @@ pub fn read_header(s: &[u8]) -> Bmhd
     ensures { λ r. ⌜ headerOf r ≡ header (now (s .entry)) ⌝ }
 {
     if s.len() != 20 {
-        return Bmhd::Unread(Refusal::BadHeader);
+        return Bmhd::Unread(Refusal::BadBmhd);
     }
     let sizes = sizes_at(s);
     let Length::Bytes(length) = sizes.frame_length() else {
-        return Bmhd::Unread(Refusal::BadHeader);
+        return Bmhd::Unread(Refusal::BadBmhd);
     };
     if byte(s, 9) == 1 {
-        return Bmhd::Unread(Refusal::BadHeader);
+        return Bmhd::Unread(Refusal::BadBmhd);
     }
     let compression = byte(s, 10);
     if 1 < compression {
-        return Bmhd::Unread(Refusal::BadHeader);
+        return Bmhd::Unread(Refusal::BadBmhd);
     }
     Bmhd::Picture(Header {
         sizes,

@@ -25,8 +25,8 @@ impl Header {
         if broken("method-before-length") {
             need(anhd.first().is_none_or(|&method| method == 5 || method == 7), UnknownMethod)?;
         }
-        need(anhd.len() >= 40, ShortAnimHeader)?;
-        need(anhd.len() == 40 || !broken("anhd-exactly"), ShortAnimHeader)?;
+        need(anhd.len() >= 40, ShortAnhd)?;
+        need(anhd.len() == 40 || !broken("anhd-exactly"), ShortAnhd)?;
         let (method, interleave, bits) = (anhd[0], anhd[18], be32(&anhd[20..]));
         need(method == 5 || method == 7, UnknownMethod)?;
         need(matches!(interleave, 0 | 2) || interleave == 1 && broken("interleave-1"), UnknownInterleave)?;

@@ -24,11 +24,11 @@ pub fn find(file: &[u8]) -> Answer<First<'_>> {
 
 /// The sizes in BMHD, and whether BODY is packed.
 fn read_header(bmhd: &[u8]) -> Answer<(Sizes, bool)> {
-    need(bmhd.len() == 20, BadHeader)?;
+    need(bmhd.len() == 20, BadBmhd)?;
     let (planes, masking, compression) = (bmhd[8], bmhd[9], bmhd[10]);
-    let sizes = Sizes::new(be16(bmhd), be16(&bmhd[2..]), u64::from(planes)).ok_or(BadHeader)?;
-    need(masking != 1 && compression <= 1, BadHeader)?;
-    need(masking == 0 || !broken("masking-above-1"), BadHeader)?;
+    let sizes = Sizes::new(be16(bmhd), be16(&bmhd[2..]), u64::from(planes)).ok_or(BadBmhd)?;
+    need(masking != 1 && compression <= 1, BadBmhd)?;
+    need(masking == 0 || !broken("masking-above-1"), BadBmhd)?;
     Ok((sizes, compression == 1))
 }
 
