@@ -1,5 +1,5 @@
 -- Laws of counting runs: a run ends at each changed byte that is the last, or has an unchanged one after it.
-use Prim.Native.Nat.{ℕ, suc, _+_, _<_, _≤_}
+use Prim.Native.Nat.{ℕ, suc, _+_, _<_, _≤_, min}
 use native.Mathlib.Nat.{add-zero}
 use native.Mathlib.Numerals.{add-one}
 use native.Mathlib.Omega.{arith}
@@ -23,6 +23,10 @@ use Rattle.changes.specs.declared.Counts.{Counts}
 byte-small : (t : Bool) → boolByte t ≤ 1
 byte-small true = omega arith
 byte-small false = omega arith
+
+-- the same as an equation, which a proof can use without naming the test
+pub byte-most : (t : Bool) → boolByte t ≡ min (boolByte t) 1
+byte-most t = omega (arith, byte-small t)
 
 -- how many runs there are with one element more in front
 pub count-kept : (rs : List Run) → length (kept rs) ≡ length rs

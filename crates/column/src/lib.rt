@@ -169,7 +169,8 @@ fn write_in(out: &mut [u8], at: usize, old: &[u8], new: &[u8], room: &mut [u8]) 
     if out.len() < at {
         return Placed::Refused(Refusal::NoRoom);
     }
-    if out.len() - at <= totals.bytes {
+    let size = 1 + totals.bytes;
+    if out.len() - at < size {
         return Placed::Refused(Refusal::NoRoom);
     }
     out[at] = totals.ops as u8;

@@ -54,7 +54,9 @@ impl Sizes {
         if !within(self.planes, 1, State::MAX_PLANES) {
             return Length::Refused(Refusal::OutsideLimits);
         }
-        Length::Bytes(self.planes * (self.height * self.row_bytes()))
+        let plane = self.height * self.row_bytes();
+        let frame = self.planes * plane;
+        Length::Bytes(frame)
     }
 }
 

@@ -16,6 +16,9 @@ same-length c = search needs
 returns : tie.Need-returns
 returns c = no-room _ _ _ _ (measured _ _ (c .before .before .before .before .before .before .before .before .before .pre .0) (c .before .before .before .before .before .before .before .before .before .pre .1)) (omega (arith, c .if1 .taken))
 
+add-size : tie.Need-add-size
+add-size c = search needs
+
 sub-if2 : tie.Need-sub-if2
 sub-if2 c = search needs
 
@@ -71,6 +74,7 @@ write-in-spec =
     prepare-requires
     same-length
     returns
+    add-size
     sub-if2
     same-length-2
     returns-2

@@ -39,12 +39,12 @@ returns-3 c = simp (told-true (c .before .before .before .before .before .within
 row-bytes-requires : tie.Need-row-bytes-requires
 row-bytes-requires c κs = search needs
 
-mul-t8 : tie.Need-mul-t8
-mul-t8 c = rw (c .before .row-bytes .ensures) (omega (arith, limits c .plane-most))
+mul-plane : tie.Need-mul-plane
+mul-plane c = rw (c .before .row-bytes .ensures) (omega (arith, limits c .plane-most))
 
-mul-t9 : tie.Need-mul-t9
+mul-frame : tie.Need-mul-frame
 unfolding frameBytes
-mul-t9 c = rw (c .before .before .row-bytes .ensures) (omega (arith, limits (c .before) .length, limits (c .before) .length-most))
+mul-frame c = rw (c .before .before .row-bytes .ensures) (omega (arith, limits (c .before) .length, limits (c .before) .length-most))
 
 returns-4 : tie.Need-returns-4
 unfolding frameLength frameBytes
@@ -67,6 +67,6 @@ frame-length-spec =
     within-requires-3
     returns-3
     row-bytes-requires
-    mul-t8
-    mul-t9
+    mul-plane
+    mul-frame
     returns-4)
