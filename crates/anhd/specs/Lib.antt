@@ -1,3 +1,2 @@
 pub mod Anhd
 pub mod AnhdLaws
-pub mod Examples

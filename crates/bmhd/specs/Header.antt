@@ -1,15 +1,14 @@
 -- BMHD (document 01, "Chunks"): 20 bytes; width and height two bytes each at 0 and 2, planes at 8, masking at 9,
 -- compression at 10. Masking 1 and compression above 1 are refused. Every fault of it is 24.
 use Prim.Native.Nat.{ℕ}
-use mathlib.Core.Bool.{true, not}
-use mathlib.Core.List.{List, [], _∷_}
-use mathlib.Core.Path.{_≡_, refl}
+use mathlib.Core.Bool.{not}
+use mathlib.Core.List.{List}
 use lib.Dec.{leb, eqb}
 use lib.ListN.{length, getD}
 use Rattle.laws.specs.Result.{Res, Res.ok, Res.fault, _>>=_, need}
 use Rattle.laws.specs.Bytes.{be16}
 use Rattle.refusal.specs.Number.{numberOf}
-use Rattle.state.specs.State.{rowBytes, frameBytes, frameLength}
+use Rattle.state.specs.State.{frameLength}
 use Rattle.state.specs.declared.Sizes.{Sizes}
 use Rattle.bmhd.specs.declared.Header.{Header}
 use Rattle.bmhd.specs.declared.Bmhd.{Bmhd}
@@ -37,14 +36,3 @@ header s =
 abbrev pub headerOf : Bmhd → Res Header
 headerOf (Picture h) = ok h
 headerOf (Unread why) = fault (numberOf why)
-
--- 320 × 200 pixels, five planes, packed
-example : header (1 ∷ 64 ∷ 0 ∷ 200 ∷ 0 ∷ 0 ∷ 0 ∷ 0 ∷ 5 ∷ 0 ∷ 1 ∷ 0 ∷ 0 ∷ 0 ∷ 10 ∷ 11 ∷ 1 ∷ 64 ∷ 0 ∷ 200 ∷ [])
-    ≡ ok (record { sizes = record { width = 320; height = 200; planes = 5 }; length = 40000; packed = true })
-unfolding header be16 frameLength frameBytes rowBytes
-example = refl
-
--- the same with masking 1
-masked : header (1 ∷ 64 ∷ 0 ∷ 200 ∷ 0 ∷ 0 ∷ 0 ∷ 0 ∷ 5 ∷ 1 ∷ 1 ∷ 0 ∷ 0 ∷ 0 ∷ 10 ∷ 11 ∷ 1 ∷ 64 ∷ 0 ∷ 200 ∷ []) ≡ fault 24
-unfolding header be16 frameLength frameBytes rowBytes
-masked = refl

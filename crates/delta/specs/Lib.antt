@@ -4,4 +4,3 @@ pub mod Walk
 pub mod WalkLaws
 pub mod FillLaws
 pub mod ApplyLaws
-pub mod Examples

@@ -1,4 +1,3 @@
 pub mod Chunk
 pub mod ChunkLaws
 pub mod Both
-pub mod Examples

@@ -3,16 +3,14 @@
 use Prim.Native.Nat.{ℕ, zero, suc, _+_, _*_, _/_, _%_}
 use mathlib.Core.Bool.{Bool, true, false}
 use mathlib.Core.List.{List, [], _∷_}
-use mathlib.Core.Path.{_≡_, refl}
 use lib.Dec.{leb, eqb}
 use lib.ListN.{length, take, drop, replicate}
 use lib.Seq.{sets}
 use Rattle.laws.specs.Result.{Res, Res.ok, Res.fault, _>>=_, need}
-use Rattle.laws.specs.Loop.{runs}
 use Rattle.refusal.specs.Number.{numberOf}
 use Rattle.state.specs.State.{rowBytes, frameBytes, frameLength}
 use Rattle.state.specs.declared.Sizes.{Sizes}
-use Rattle.ilbm.specs.ByteRun.{Row, packetAt, unpackRow}
+use Rattle.ilbm.specs.ByteRun.{Row, unpackRow}
 use Rattle.ilbm.specs.declared.Unpacked.{Unpacked}
 use Rattle.ilbm.specs.declared.Unpacked.the-variants.{Done, Refused}
 
@@ -55,17 +53,3 @@ picture packed z s n =
 abbrev pub unpackedOf : Unpacked → Res (Unit {0})
 unpackedOf Done = ok tt
 unpackedOf (Refused why) = fault (numberOf why)
-
--- 16 × 2 pixels, two planes: row 0 of plane 0 is 1 2, row 0 of plane 1 is 3 4, then row 1 of each
-planes-apart : picture false (record { width = 16; height = 2; planes = 2 }) (1 ∷ 2 ∷ 3 ∷ 4 ∷ 5 ∷ 6 ∷ 7 ∷ 8 ∷ 9 ∷ []) 8 ≡ ok (1 ∷ 2 ∷ 5 ∷ 6 ∷ 3 ∷ 4 ∷ 7 ∷ 8 ∷ [])
-unfolding picture body rowsFrom rowAt place draw frameLength frameBytes rowBytes
-planes-apart = refl
-
--- the same packed: 128 after a full row belongs to the next row
-packed-too : picture true (record { width = 16; height = 2; planes = 1 }) (255 ∷ 7 ∷ 128 ∷ 1 ∷ 8 ∷ 9 ∷ []) 4 ≡ ok (7 ∷ 7 ∷ 8 ∷ 9 ∷ [])
-unfolding picture body rowsFrom rowAt unpackRow packetAt runs place draw frameLength frameBytes rowBytes
-packed-too = refl
-
-too-short : picture false (record { width = 16; height = 2; planes = 1 }) (1 ∷ 2 ∷ 3 ∷ []) 4 ≡ fault 25
-unfolding picture body rowsFrom rowAt place draw frameLength frameBytes rowBytes
-too-short = refl

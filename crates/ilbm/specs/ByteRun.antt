@@ -2,8 +2,7 @@
 -- to 255 repeats the next byte 257 − n times, 128 does nothing. No run may pass the row's end; a row is finished when it
 -- is full. Every fault of it is 25.
 use Prim.Native.Nat.{ℕ, _+_, _-_}
-use mathlib.Core.List.{List, [], _∷_, _++_}
-use mathlib.Core.Path.{_≡_, refl}
+use mathlib.Core.List.{List, [], _++_}
 use lib.Dec.{leb, ltb, eqb}
 use lib.ListN.{length, getD, take, drop, replicate}
 use Rattle.laws.specs.Result.{Res, Res.ok, Res.fault, _>>=_, need, pick}
@@ -54,8 +53,3 @@ unpackOn s B w =
 unfoldable pub unpackRow : List ℕ → ℕ → ℕ → Res Row
 unfolding runs
 unpackRow s B at = runs (unpackOn s B) (λ (w : Row). length s - w .next) (fault 25) (record { bytes = []; next = at })
-
--- a BODY that ends in 128s with a row open
-row-open : unpackRow (0x80 ∷ 0x80 ∷ []) 2 0 ≡ fault 25
-unfolding unpackRow runs packetAt
-row-open = refl

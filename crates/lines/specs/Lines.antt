@@ -4,7 +4,7 @@ use Prim.Native.Char.{code}
 use Prim.Native.String.{String, [] as none, _∷_ as _then_}
 use mathlib.Core.Bool.{true, false}
 use mathlib.Core.List.{List, [], _∷_, _++_}
-use mathlib.Core.Path.{_≡_, refl}
+use mathlib.Core.Path.{_≡_}
 use lib.Dec.{ltb}
 use lib.ListN.{length, take, drop}
 use Rattle.laws.specs.Store.{over}
@@ -68,20 +68,3 @@ pub record Adds (out : List ℕ) (at : ℕ) (bytes out′ : List ℕ) (next : �
   pub from : at ≤ length out
   pub place : next ≡ min (at + length bytes) (length out)
   pub left : out′ ≡ take at out ++ over bytes (drop at out)
-
--- the papers' sample, line by line
-sample-picture : pictureLine (record { width = 16; height = 2; planes = 1 }) ≡ ascii "picture 16x2x1\n"
-unfolding pictureLine decimal
-sample-picture = refl
-
-sample-frame : frameLine 2 (record { method = 5; time = 3; changed = 2; length = 9 }) ≡ ascii "frame 2 method 5 time 3 changed 2 record 9\n"
-unfolding frameLine decimal
-sample-frame = refl
-
-sample-end : endLine 2 ≡ ascii "end 2\n"
-unfolding endLine decimal
-sample-end = refl
-
-large-number : decimal 4294967295 ≡ ascii "4294967295"
-unfolding decimal
-large-number = refl

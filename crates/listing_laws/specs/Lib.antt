@@ -1,4 +1,3 @@
-pub mod Sample
 pub mod RoomLaws
 pub mod ShortLaws
 pub mod LowLaws

@@ -4,7 +4,7 @@ use Prim.Native.Nat.{ℕ, zero, suc, _+_, _-_, _*_, _/_, _%_, _^_, _≤_}
 use mathlib.Core.Bool.{Bool, true, false}
 use mathlib.Core.List.{List, [], _∷_}
 use mathlib.Core.Option.{Option, none, some}
-use mathlib.Core.Path.{_≡_, refl}
+use mathlib.Core.Path.{_≡_}
 use lib.Dec.{ltb, leb, eqb}
 use lib.ListN.{length, drop}
 use lib.Seq.{sets}
@@ -77,12 +77,3 @@ after out at bytes = pick (fits out at bytes) (some (at + length bytes)) none
 abbrev pub writtenOf : Written → Option ℕ
 writtenOf (Next at) = some at
 writtenOf NoRoom = none
-
--- 2^32 is too large, and the number below it is the largest
-too-large : readNumber (0x80 ∷ 0x80 ∷ 0x80 ∷ 0x80 ∷ 0x10 ∷ []) ≡ none
-unfolding readNumber groups lastGroup
-too-large = refl
-
-largest : readNumber (0xFF ∷ 0xFF ∷ 0xFF ∷ 0xFF ∷ 0x0F ∷ 0x07 ∷ []) ≡ some (record { value = 4294967295; rest = 0x07 ∷ [] })
-unfolding readNumber groups lastGroup
-largest = refl

@@ -8,4 +8,3 @@ pub mod RoomLaws
 pub mod RoundLaws
 pub mod CommitLaws
 pub mod LengthLaws
-pub mod Examples

@@ -1,7 +1,6 @@
 -- The state, its limits and the length of a frame (document 01, "Numbers that bound the work"; 11 of "Refusal numbers").
 use Prim.Native.Nat.{ℕ, _+_, _*_, _/_}
 use mathlib.Core.Bool.{Bool, _&&_}
-use mathlib.Core.Path.{_≡_, refl}
 use lib.Dec.{leb}
 use Rattle.laws.specs.Result.{Res, Res.ok, Res.fault, _>>=_, need}
 use Rattle.refusal.specs.Number.{numberOf}
@@ -46,16 +45,3 @@ lengthOf (Refused why) = fault (numberOf why)
 -- the state after opening
 abbrev pub opened : Sizes → ℕ → ℕ → State
 opened z next end = record { sizes = z; frame = 1; next = next; end = end }
-
--- a picture of 16 × 2 pixels and one plane has 4 bytes, one of 1,024 × 1,024 and eight planes has 1,048,576; a width of 1,025 is 11
-sixteen-by-two : frameLength (record { width = 16; height = 2; planes = 1 }) ≡ ok 4
-unfolding frameLength frameBytes rowBytes
-sixteen-by-two = refl
-
-largest : frameLength (record { width = 1024; height = 1024; planes = 8 }) ≡ ok 1_048_576
-unfolding frameLength frameBytes rowBytes
-largest = refl
-
-too-wide : frameLength (record { width = 1025; height = 1; planes = 1 }) ≡ fault 11
-unfolding frameLength frameBytes rowBytes
-too-wide = refl

@@ -3,7 +3,6 @@
 -- next place, end place.
 use Prim.Native.Nat.{ℕ, _+_, _*_, _/_, _%_}
 use mathlib.Core.List.{List, [], _∷_, _++_}
-use mathlib.Core.Path.{_≡_, refl}
 use lib.Dec.{eqb}
 use lib.ListN.{length, getD}
 use Rattle.laws.specs.Result.{pick}
@@ -42,12 +41,3 @@ stateWords x = x .sizes .width ∷ x .sizes .height ∷ x .sizes .planes ∷ x .
 -- numbers laid into a buffer of their length; a buffer of another length stays
 unfoldable pub lay : List ℕ → List ℕ → List ℕ
 lay ns out = pick (eqb (length out) (8 * length ns)) (wordsBytes ns) out
-
--- 300 written in eight bytes, and read from them
-written-300 : wordsBytes (300 ∷ []) ≡ 44 ∷ 1 ∷ 0 ∷ 0 ∷ 0 ∷ 0 ∷ 0 ∷ 0 ∷ []
-unfolding wordsBytes le64Bytes le32Bytes
-written-300 = refl
-
-read-300 : le64 (44 ∷ 1 ∷ 0 ∷ 0 ∷ 0 ∷ 0 ∷ 0 ∷ 0 ∷ []) 0 ≡ 300
-unfolding le64 le32
-read-300 = refl

@@ -1,0 +1,31 @@
+-- The table of P1 to P11, under one proof about the definitions.
+use mathlib.Core.List.{map}
+use mathlib.Core.Path.{_≡_, refl}
+use Rattle.laws.specs.Loop.{runs}
+use Rattle.laws.specs.Bytes.{be16, be32}
+use Rattle.state.specs.State.{rowBytes, frameBytes, frameLength, stateLength}
+use Rattle.number.specs.Number.{readNumber, groups, lastGroup, writeNumber, writeGroups}
+use Rattle.runs.specs.Runs.{kept, changed, runsOf, differ, differing}
+use Rattle.record.specs.RunList.{runBytes, runsBytes, listBytes, readRun, readRuns, readList, putBack, runsBack, beforeOf}
+use Rattle.record.specs.Record.{recordBytes, pastOf, restored}
+use Rattle.iff.specs.Chunk.{chunkAt, find, contents}
+use Rattle.form.specs.Form.{animEnd, nextFrame}
+use Rattle.bmhd.specs.Header.{header}
+use Rattle.ilbm.specs.ByteRun.{unpackRow, packetAt}
+use Rattle.ilbm.specs.Body.{body, rowsFrom, rowAt, place, draw as drawRows}
+use Rattle.anhd.specs.Anhd.{frameHeader}
+use Rattle.delta.specs.Delta.{byteAt, skip, fill, readOp, readOps, readColumn, readColumns, pointer, readPlane, readPlanes, readPicture, readDelta, put, draw, readFrame, newFrame}
+use Rattle.column.specs.Column.{join, groupsOf, loose, stretch, restOf, uniqs, cut, cutAll, opsOf, columnOps, opBytes, opsBytes, columnBytes}
+use Rattle.writer.specs.Write.{columnAt, columnIn, columnsBytes, equal, planeBytes, be32Bytes, pointerOf, pointersBytes, listsBytes, deltaBytes, written}
+use Rattle.iff.specs.Both.{hasBoth}
+use Rattle.frame.specs.Frame.{frameIn, frameAt}
+use Rattle.opening.specs.Open.{placesIn, firstPlaces, firstOf, opening}
+use Rattle.state.specs.World.{isOdd, shownOf, hiddenOf}
+use Rattle.player.specs.Step.{ready, change, makes, advance, settle, onHidden, stepOn}
+use Rattle.bench.specs.Film.{twoFrames}
+use Rattle.bench.specs.Bench.{Example, table}
+
+-- every example comes to what the paper says
+pub bench : map (λ (x : Example). x .comes) table ≡ map (λ (x : Example). x .says) table
+unfolding table twoFrames runs be16 be32 rowBytes frameBytes frameLength stateLength readNumber groups lastGroup writeNumber writeGroups kept changed runsOf differ differing runBytes runsBytes listBytes recordBytes readRun readRuns readList putBack runsBack beforeOf pastOf restored chunkAt find animEnd nextFrame header unpackRow packetAt body rowsFrom rowAt place drawRows frameHeader byteAt skip fill readOp readOps readColumn readColumns pointer readPlane readPlanes readPicture readDelta put draw readFrame newFrame join groupsOf loose stretch restOf uniqs cut cutAll opsOf columnOps opBytes opsBytes columnBytes columnAt columnIn columnsBytes equal planeBytes be32Bytes pointerOf pointersBytes listsBytes deltaBytes written hasBoth contents frameIn frameAt placesIn firstPlaces firstOf opening isOdd shownOf hiddenOf ready change makes advance settle onHidden stepOn
+bench = refl
