@@ -5,19 +5,12 @@ ghost use lib.ListN.{length, getD, replicate};
 ghost use Rattle.laws.specs.Bytes.{be16, be32};
 ghost use Rattle.laws.specs.Store.{over};
 
-// A byte as a number.
-fn wide(byte: u8) -> usize
-    ensures { λ r. ⌜ (r ≡ byte) × (r < 256) ⌝ }
-{
-    byte as usize
-}
-
 // The byte at a place, 0 past the end.
 pub fn byte(s: &[u8], at: usize) -> usize
     ensures { λ r. ⌜ (r ≡ getD (now (s .entry)) at 0) × (r < 256) ⌝ }
 {
     if at < s.len() {
-        return wide(s[at]);
+        return s[at] as usize;
     }
     0
 }

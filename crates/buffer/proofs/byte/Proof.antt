@@ -1,22 +1,28 @@
 -- `buffer::byte`: past the end `getD` gives its default.
-use mathlib.Core.Path.{sym}
-use lib.ListN.{List·getD-eq-default}
+use Prim.Native.Nat.{ℕ, _<_, min}
+use mathlib.Core.List.{List}
+use mathlib.Core.Path.{_≡_, refl, sym}
+use lib.ListN.{getD, List·getD-eq-default}
 use native.Mathlib.Omega.{arith}
 use borrow.Author.Needs.{needs}
 use Rattle.buffer.proofs.byte.Statement.{statement}
 use Rattle.buffer.proofs.byte.Tie as tie
 
-shared-slice-read-wide : tie.Need-shared-slice-read-wide
-shared-slice-read-wide c = search needs
+-- a bound of every byte as an equation, which a proof can use without naming the place
+byte-most : (s : List ℕ) → ((i : ℕ) → getD s i 0 < 256) → (i : ℕ) → getD s i 0 ≡ min (getD s i 0) 255
+byte-most s h i = omega (arith, h i)
 
-wide-requires : tie.Need-wide-requires
-wide-requires c κs = search needs
+shared-slice-read-result : tie.Need-shared-slice-read-result
+shared-slice-read-result c = search needs
+
+cast-result : tie.Need-cast-result
+cast-result c = rw (byte-most (c .before .before .args .s .now) (λ i. omega (arith, c .shared-slice-known .given i))) (omega arith)
 
 returns : tie.Need-returns
-returns c = c .wide .ensures
+returns c = (refl, omega (arith, c .shared-slice-known .given (c .before .before .args .at)))
 
 returns-2 : tie.Need-returns-2
-returns-2 c = (sym (List·getD-eq-default (c .before .before .args .s .now) 0 (c .if1 .left)), omega arith)
+returns-2 c = (sym (List·getD-eq-default (c .before .args .s .now) 0 (c .if1 .left)), omega arith)
 
 pub byte-spec : {M : Type 1} → statement M
-byte-spec = tie.close (tie.spec shared-slice-read-wide wide-requires returns returns-2)
+byte-spec = tie.close (tie.spec shared-slice-read-result cast-result returns returns-2)
