@@ -7,6 +7,9 @@ use mathlib.Core.Option.{Option, none, some}
 use borrow.Author.Tests.{not-true, not-false}
 use Rattle.laws.specs.Result.{Res, Res.ok, Res.fault, _>>=_, need, answer, pick, _>>?_, given}
 
+pub false-true : {A : Type 0} → false ≡ true → A
+false-true e = let z : _≡_ {A = ℕ} 0 1 = cc in absurd (omega arith)
+
 -- P holds of the value, or there is none
 pub data Each {A : Type 0} (P : A → Type 0) : Res A → Type 0 where
   each : {a : A} → P a → Each P (ok a)
@@ -76,6 +79,11 @@ some-same e = cc
 pub given-some : {A : Type 0} (t : Bool) (f : Unit {0} → Option A) {a : A} → given t >>? f ≡ some a → (t ≡ true) × (f tt ≡ some a)
 given-some true f e = (refl, e)
 given-some false f e = none-some e
+
+-- where nothing comes of the rest, a test before it changes nothing
+pub given-none : {A : Type 0} (t : Bool) (f : Unit {0} → Option A) → f tt ≡ none → given t >>? f ≡ none
+given-none true f e = e
+given-none false f e = refl
 
 -- what is made of a value does not change whether there is one
 pub answer-ok : {A B : Type 0} (r : Res A) (f : A → B) → answer (r >>= λ a. ok (f a)) ≡ answer r

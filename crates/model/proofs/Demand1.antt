@@ -11,6 +11,7 @@ use lib.ListN.{length, take}
 use Rattle.laws.specs.Result.{Res, Res.ok, Res.fault, _>>=_, pick, answer}
 use Rattle.laws.specs.ResultLaws.{none-some, some-same}
 use Rattle.state.specs.Film.{Film}
+use Rattle.writer.specs.Write.{deltaBytes, written, bufferAfter}
 use Rattle.opening.specs.Open.{opening, zeros, stateAfter, pictureAfter}
 use Rattle.record.specs.Record.{Past}
 use Rattle.player.specs.declared.SteppedOn.{SteppedOn}
@@ -21,7 +22,7 @@ use Rattle.player.specs.Step.{onOf, MeetsOn, workAfter, ready, Made, advance, s
 use Rattle.back.specs.Back.{retreat, settleBack, onShown, stepBack}
 use Rattle.player.specs.OutcomeLaws.{on-kept, on-put}
 use Rattle.back.specs.BackLaws.{back-kept, back-put}
-use Rattle.model.specs.Demands.{refusalOf, openRefusal, Met, Met.opens, Met.steps-on, Met.steps-back, Unchanged}
+use Rattle.model.specs.Demands.{refusalOf, refusalIn, Met, Met.opens, Met.steps-on, Met.steps-back, Met.writes, Unchanged}
 use Rattle.model.proofs.Laws.{after-on, after-back}
 
 -- what a call left as it came: what it hands on, the record buffer, into which nothing was written, and the work buffer unless it is 51
@@ -62,15 +63,20 @@ not-taken-back w bytes h = go (retreat w bytes) h
     go (ok p) q = absurd (q (ap (λ (o : After). o .answer) (back-put w (settleBack (w .state) (shownOf w) (ok p)))))
 
 -- a refused opening leaves both buffers, and answers six zeros for the state
-refused-open : (n : ℕ) (a b a′ b′ : List ℕ) (s : State) (q : Res Film) → openRefusal (answer q) ≡ some n → s ≡ stateAfter q → a′ ≡ pictureAfter a q → b′ ≡ pictureAfter b q
+refused-open : (n : ℕ) (a b a′ b′ : List ℕ) (s : State) (q : Res Film) → refusalIn (answer q) ≡ some n → s ≡ stateAfter q → a′ ≡ pictureAfter a q → b′ ≡ pictureAfter b q
     → _≡_ {A = World} (record { a = a′; b = b′; state = s }) (record { a = a; b = b; state = zeros })
 refused-open n a b a′ b′ s (fault k) e p l u = λ i. record { a = l i; b = u i; state = p i }
 refused-open n a b a′ b′ s (ok F) e p l u = none-some e
 
+-- a refused delta leaves the output buffer
+refused-write : (n : ℕ) (bytes out : List ℕ) (q : Res ℕ) → refusalIn q ≡ some n → bufferAfter bytes out q ≡ out
+refused-write n bytes out (fault k) e = refl
+refused-write n bytes out (ok k) e = none-some e
+
 -- demand 1
 pub demand-1 : {w w′ : World} {work rec work′ rec′ : List ℕ} {o : Option ℕ} → Met w work rec o w′ work′ rec′ → (n : ℕ) → o ≡ some n → Unchanged n w work rec w′ work′ rec′
 demand-1 (opens file a b r a′ b′ m) n e =
-    record { world = refused-open n a b a′ b′ (r .state) (opening file (length a) (length b)) (ap openRefusal (sym (m .answer)) ∙ e) (m .state) (m .left) (m .right); written = refl; drawn = λ h. refl }
+    record { world = refused-open n a b a′ b′ (r .state) (opening file (length a) (length b)) (ap refusalIn (sym (m .answer)) ∙ e) (m .state) (m .left) (m .right); written = refl; drawn = λ h. refl }
 demand-1 (steps-on file w work rec r a b work′ rec′ m) n e =
     let u = not-taken-on file w (length work) (length rec) λ p q. none-some (sym (ap refusalOf (m .answer ∙ q)) ∙ e) in
     record {
@@ -81,6 +87,8 @@ demand-1 (steps-on file w work rec r a b work′ rec′ m) n e =
 demand-1 (steps-back w bytes r a b m) n e =
     let u = not-taken-back w bytes λ q. none-some (sym (ap refusalOf (m .answer ∙ q)) ∙ e) in
     record { world = after-back m ∙ u .world; written = refl; drawn = λ h. refl }
+demand-1 (writes w z old new out d out′ m) n e =
+    record { world = refl; written = m .leaves ∙ refused-write n (deltaBytes z old new) out (written z old new (length out)) (ap refusalIn (sym (m .answers)) ∙ e); drawn = λ h. refl }
 
 -- End
 end-not-taken : {p : Report} → ended ≡ tookOn p → ⊥

@@ -80,8 +80,15 @@ shown-kept w x f = rw (on-put w (takenAs w x f)) (rw (odd-suc (w .state .frame))
 
 -- demand 2, of a step on that met its contract
 module _ (file : List ℕ) (w : World) (work rec : List ℕ) (r : SteppedOn) (a b work′ rec′ : List ℕ) (m : MeetsOn file w work rec r a b work′ rec′) (x : Frame) (f : Free file w (length work) x) where
-  pub demand-2-refused : (n : ℕ) → deltaOps w x ≡ fault n → onOf (r .answer) ≡ refused n
-  demand-2-refused n e = m .answer ∙ ap (λ (o : After). o .answer) (malformed file w (length work) (length rec) x n f e)
+  pub demand-2-refused : (n : ℕ) → deltaOps w x ≡ fault n
+      → (onOf (r .answer) ≡ refused n) × (_≡_ {A = World} (record { a = a; b = b; state = r .state }) w) × (rec′ ≡ rec) × (work′ ≡ work)
+  demand-2-refused n e =
+      let g = malformed file w (length work) (length rec) x n f e in (
+        m .answer ∙ ap (λ (o : After). o .answer) g,
+        after-on m ∙ ap (λ (o : After). o .world) g,
+        m .written ∙ ap (λ (o : After). o .bytes ++ drop (length (o .bytes)) rec) g,
+        m .drawn ∙ ap (λ (o : After). workAfter work (o .work)) g,
+      )
 
   pub demand-2-taken : (ops : List Op) → deltaOps w x ≡ ok ops → length (recordOf w (newOf w x ops)) ≤ length rec
       → Takes w rec x (newOf w x ops) (onOf (r .answer)) (record { a = a; b = b; state = r .state }) work′ rec′

@@ -5,6 +5,7 @@ use mathlib.Core.Option.{Option, none, some}
 use mathlib.Core.Path.{_≡_}
 use lib.ListN.{length, take, drop}
 use Rattle.laws.specs.Result.{Res, Res.ok, Res.fault}
+use Rattle.state.specs.declared.Sizes.{Sizes}
 use Rattle.state.specs.State.{rowBytes}
 use Rattle.state.specs.World.{World, shownOf, hiddenOf}
 use Rattle.state.specs.Outcome.{Answer, Answer.refused, Answer.ended, Answer.tookOn, Answer.tookBack}
@@ -17,27 +18,32 @@ use Rattle.player.specs.declared.SteppedOn.{SteppedOn}
 use Rattle.player.specs.Step.{ready, reportOf, onOf, MeetsOn}
 use Rattle.back.specs.declared.SteppedBack.{SteppedBack}
 use Rattle.back.specs.Back.{backOf, MeetsBack}
+use Rattle.writer.specs.declared.Delta.{Delta}
+use Rattle.writer.specs.Write.{deltaOf, Writes}
 
--- the number with which a step, or an opening, is refused, if it is
+-- the number with which a step is refused, if it is
 abbrev pub refusalOf : Answer → Option ℕ
 refusalOf (refused n) = some n
 refusalOf ended = none
 refusalOf (tookOn r) = none
 refusalOf tookBack = none
 
-abbrev pub openRefusal : Res (Unit {0}) → Option ℕ
-openRefusal (ok u) = none
-openRefusal (fault n) = some n
+-- the number with which an opening, or the writer, refuses, if it does
+abbrev pub refusalIn : {A : Type 0} → Res A → Option ℕ
+refusalIn (ok a) = none
+refusalIn (fault n) = some n
 
 -- a call that met its contract: pictures and state, work and record buffer before it, its refusal if any, and the same after it. Before
--- opening the state is six zeros; opening and stepping back are lent no work buffer, and no record buffer to write to.
+-- opening the state is six zeros; opening and stepping back are lent no work buffer, and no record buffer to write to. The writer has no
+-- part in pictures and state, and its output buffer stands in the record buffer's place.
 pub data Met : World → (work rec : List ℕ) → Option ℕ → World → (work′ rec′ : List ℕ) → Type 0 where
   opens : (file a b : List ℕ) (r : OpenedFile) (a′ b′ : List ℕ) → MeetsOpen file a b r a′ b′
-      → Met (record { a = a; b = b; state = zeros }) [] [] (openRefusal (openingOf (r .answer))) (record { a = a′; b = b′; state = r .state }) [] []
+      → Met (record { a = a; b = b; state = zeros }) [] [] (refusalIn (openingOf (r .answer))) (record { a = a′; b = b′; state = r .state }) [] []
   steps-on : (file : List ℕ) (w : World) (work rec : List ℕ) (r : SteppedOn) (a b work′ rec′ : List ℕ) → MeetsOn file w work rec r a b work′ rec′
       → Met w work rec (refusalOf (onOf (r .answer))) (record { a = a; b = b; state = r .state }) work′ rec′
   steps-back : (w : World) (bytes : List ℕ) (r : SteppedBack) (a b : List ℕ) → MeetsBack w bytes r a b
       → Met w [] [] (refusalOf (backOf (r .answer))) (record { a = a; b = b; state = r .state }) [] []
+  writes : (w : World) (z : Sizes) (old new out : List ℕ) (d : Delta) (out′ : List ℕ) → Writes z old new out (deltaOf d) out′ → Met w [] out (refusalIn (deltaOf d)) w [] out′
 
 -- what a call refused with n leaves: neither picture, nor the state, nor the record buffer is changed, nor the work buffer unless n is 51
 pub record Unchanged (n : ℕ) (w : World) (work rec : List ℕ) (w′ : World) (work′ rec′ : List ℕ) : Type 0 where
@@ -45,8 +51,8 @@ pub record Unchanged (n : ℕ) (w : World) (work rec : List ℕ) (w′ : World) 
   pub written : rec′ ≡ rec
   pub drawn : (n ≡ 51 → ⊥) → work′ ≡ work
 
--- a step on that only its delta and its record's length can refuse: the tests of state and buffers passed, and x, the next frame from the
--- next place on, has a good header
+-- a step on that only its delta (41 to 44) and its record's length (51) can refuse: the tests of state and buffers passed (11, 12, 53), and x,
+-- the next frame from the next place on, is whole and has a good header (21, 31 to 36)
 pub record Free (file : List ℕ) (w : World) (work : ℕ) (x : Frame) : Type 0 where
   pub tests : ready (length file) (w .state) (length (w .a)) (length (w .b)) work ≡ ok tt
   pub there : frameAt (take (w .state .end) file) (rowBytes (w .state .sizes .width)) (w .state .next) ≡ ok (some x)

@@ -12,7 +12,7 @@ use lib.Dec.{ltb, eqb, lit<}
 use lib.ListN.{length, drop}
 use borrow.Author.Tests.{lt-ltb, le-ltb, eq-eqb, ne-eqb, ltb-true, eqb-true}
 use Rattle.laws.specs.Result.{pick}
-use Rattle.laws.specs.ResultLaws.{given-some, none-some, some-same}
+use Rattle.laws.specs.ResultLaws.{given-some, given-none, none-some, some-same}
 use Rattle.laws.specs.Bytes.{Bytes}
 use Rattle.number.specs.Number.{Value, lastGroup, groups, writeGroups}
 
@@ -50,9 +50,9 @@ pub last-big : (m a b : ℕ) (s : List ℕ) → 2 ^ 32 ≤ a + m * b → lastGro
 unfolding lastGroup
 last-big m a b s h = simp (le-ltb (a + m * b) (2 ^ 32) h)
 
-pub last-zero : (m a b : ℕ) (s : List ℕ) → a + m * b < 2 ^ 32 → (m ≡ 1 → ⊥) → b ≡ 0 → lastGroup m a b s ≡ none
+pub last-zero : (m a b : ℕ) (s : List ℕ) → (m ≡ 1 → ⊥) → b ≡ 0 → lastGroup m a b s ≡ none
 unfolding lastGroup
-last-zero m a b s h p q = simp (lt-ltb (a + m * b) (2 ^ 32) h, ne-eqb m 1 p, le-ltb 0 b (omega arith))
+last-zero m a b s p q = given-none (ltb (a + m * b) (2 ^ 32)) _ (simp (ne-eqb m 1 p, le-ltb 0 b (omega arith)))
 
 -- one group of a number that is written
 pub last-written : (k n : ℕ) → n < 128 → writeGroups k n ≡ n ∷ []

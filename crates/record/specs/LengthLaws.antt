@@ -9,16 +9,13 @@ use lib.Dec.{leb, eqb}
 use lib.ListN.{length, take, drop, length-append, length-take, length-drop}
 use borrow.Author.Tests.{leb-true, leb-false}
 use Rattle.laws.specs.Result.{_>>?_, given}
-use Rattle.laws.specs.ResultLaws.{All, all-some, all-none}
+use Rattle.laws.specs.ResultLaws.{false-true, All, all-some, all-none}
 use Rattle.number.specs.Number.{readNumber}
 use Rattle.runs.specs.Runs.{Run, differ}
 use Rattle.runs.specs.StretchLaws.{by-test}
 use Rattle.runs.specs.DifferLaws.{differ-short}
 use Rattle.record.specs.RunList.{Before, readList, putBack, runsBack, beforeOf}
 use Rattle.record.specs.Record.{Past, pastOf}
-
-false-true : {A : Type 0} → false ≡ true → A
-false-true e = let z : _≡_ {A = ℕ} 0 1 = cc in absurd (omega arith)
 
 -- old bytes that differ from those they replace are no more than those
 differ-within : (old f : List ℕ) → differ old f ≡ true → length old ≤ length f

@@ -6,10 +6,11 @@ use mathlib.Core.Bool.{true, false}
 use mathlib.Core.List.{List}
 use mathlib.Core.Option.{none}
 use mathlib.Core.Path.{_≡_, sym}
-use lib.Dec.{eqb}
+use lib.Dec.{eqb, leb, ltb}
 use lib.ListN.{length, getD, take, drop, length-drop}
 use lib.Seq.{drop-drop, getD-drop}
 use borrow.Author.Tests.{le-leb, lt-leb, lt-ltb}
+use Rattle.laws.specs.ResultLaws.{given-none}
 use Rattle.number.specs.Number.{readNumber}
 use Rattle.number.specs.NumberLaws.{Found}
 use Rattle.runs.specs.DifferLaws.{differ-on, differ-off}
@@ -27,33 +28,31 @@ module _ (bytes : List ℕ) (at least room : ℕ) where
     unfolding readRun
     short-gap h = simp (g .is, lt-leb _ _ h)
 
-    module _ (h : least ≤ gap) where
-      pub no-count : readNumber (drop next bytes) ≡ none → readRun least room (drop at bytes) ≡ none
+    pub no-count : readNumber (drop next bytes) ≡ none → readRun least room (drop at bytes) ≡ none
+    unfolding readRun
+    no-count e = rw (g .is) (given-none (leb least gap) _ (simp e))
+
+    module _ {count start : ℕ} (n : Found bytes next count start) where
+      pub count-of-none : count ≡ 0 → readRun least room (drop at bytes) ≡ none
       unfolding readRun
-      no-count e = simp (g .is, le-leb _ _ h, e)
+      count-of-none e = rw (g .is) (given-none (leb least gap) _ (simp (n .is, e)))
 
-      module _ {count start : ℕ} (n : Found bytes next count start) where
-        pub count-of-none : count ≡ 0 → readRun least room (drop at bytes) ≡ none
-        unfolding readRun
-        count-of-none e = simp (g .is, le-leb _ _ h, n .is, e)
+      pub past-end : room < gap + count → readRun least room (drop at bytes) ≡ none
+      unfolding readRun
+      past-end l = rw (g .is) (given-none (leb least gap) _ (rw (n .is) (given-none (ltb 0 count) _ (simp (lt-leb _ _ l)))))
 
-        module _ (k : 0 < count) where
-          pub past-end : room < gap + count → readRun least room (drop at bytes) ≡ none
-          unfolding readRun
-          past-end l = simp (g .is, le-leb _ _ h, n .is, lt-ltb _ _ k, lt-leb _ _ l)
+      pub ends-early : length bytes - start < count → readRun least room (drop at bytes) ≡ none
+      unfolding readRun
+      ends-early m =
+          rw (g .is) (given-none (leb least gap) _ (rw (n .is) (given-none (ltb 0 count) _ (given-none (leb (gap + count) room) _ (simp (length-drop, lt-leb _ _ m))))))
 
-          module _ (l : gap + count ≤ room) where
-            pub ends-early : length bytes - start < count → readRun least room (drop at bytes) ≡ none
-            unfolding readRun
-            ends-early m = simp (g .is, le-leb _ _ h, n .is, lt-ltb _ _ k, le-leb _ _ l, length-drop, lt-leb _ _ m)
-
-            pub run-found : count ≤ length bytes - start → RunFound bytes at least room gap count start
-            unfolding readRun
-            run-found m = record {
-              is = simp (g .is, le-leb _ _ h, n .is, lt-ltb _ _ k, le-leb _ _ l, length-drop, le-leb _ _ m, drop-drop);
-              fits = l;
-              inside = omega (arith, n .inside);
-            }
+      pub run-found : least ≤ gap → 0 < count → gap + count ≤ room → count ≤ length bytes - start → RunFound bytes at least room gap count start
+      unfolding readRun
+      run-found h k l m = record {
+        is = simp (g .is, le-leb _ _ h, n .is, lt-ltb _ _ k, le-leb _ _ l, length-drop, le-leb _ _ m, drop-drop);
+        fits = l;
+        inside = omega (arith, n .inside);
+      }
 
 -- the old bytes of a run, compared with what is left of the picture, byte by byte
 module _ (bytes shown : List ℕ) (start to i : ℕ) (h : start + i < length bytes) (k : to + i < length shown) where

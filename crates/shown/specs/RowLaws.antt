@@ -21,12 +21,14 @@ pub record Lies (s : State) (a b at : ℕ) : Type 0 where
   pub inA : at + rowBytes (s .sizes .width) ≤ a
   pub inB : at + rowBytes (s .sizes .width) ≤ b
 
+rows-within : (p h P m B : ℕ) → p < P → m ≤ suc p * h → m * B ≤ P * (h * B)
+rows-within p h P m B i j =
+    let k : suc p * h ≤ P * h = mul-le-mul-right h i in
+    let l : m * B ≤ P * h * B = mul-le-mul-right B (omega (arith, j, k)) in
+    omega (arith, l, mul-assoc P h B)
+
 row-within : (p h P r B : ℕ) → p < P → r < h → (p * h + r) * B + B ≤ P * (h * B)
-row-within p h P r B i j =
-    let l : suc (p * h + r) ≤ suc p * h = omega (arith, suc-mul p h) in
-    let m : suc p * h ≤ P * h = mul-le-mul-right h i in
-    let n : suc (p * h + r) * B ≤ P * h * B = mul-le-mul-right B (omega arith) in
-    omega (arith, suc-mul (p * h + r) B, mul-assoc P h B)
+row-within p h P r B i j = omega (arith, rows-within p h P (suc (p * h + r)) B i (omega (arith, j, suc-mul p h)), suc-mul (p * h + r) B)
 
 pub row-lies : (s : State) (a b plane row : ℕ) → Each (Lies s a b) (rowPlace s a b plane row)
 unfolding rowPlace frameBytes
@@ -42,12 +44,12 @@ pub record Small (s : State) (plane row : ℕ) : Type 0 where
   pub lines : plane * s .sizes .height + row ≤ 9216
   pub bytes : {B : ℕ} → B ≡ rowBytes (s .sizes .width) → (plane * s .sizes .height + row) * B ≤ 1_048_576
 
-pub row-small : (s : State) {n : ℕ} → stateLength s ≡ ok n → {plane row : ℕ} → plane < s .sizes .planes → row < s .sizes .height → Small s plane row
+pub row-small : (s : State) {n : ℕ} → stateLength s ≡ ok n → (plane row : ℕ) → plane < s .sizes .planes → row ≤ s .sizes .height → Small s plane row
 unfolding frameBytes
-row-small s {n} e {plane} {row} i j =
+row-small s {n} e plane row i j =
     let k : SoundState s n = each-is e (state-sound s) in
     let m : plane * s .sizes .height ≤ 8 * s .sizes .height = mul-le-mul-right (s .sizes .height) (omega (arith, k .sizes .planes-most)) in
-    let w = row-within plane (s .sizes .height) (s .sizes .planes) row (rowBytes (s .sizes .width)) i j in
+    let w = rows-within plane (s .sizes .height) (s .sizes .planes) (plane * s .sizes .height + row) (rowBytes (s .sizes .width)) i (omega (arith, j, suc-mul plane (s .sizes .height))) in
     record { lines = omega (arith, m, k .sizes .height-most); bytes = λ q. rw q (omega (arith, w, k .sizes .length, k .sizes .length-most)) }
 
 -- the order of the tests

@@ -2,11 +2,12 @@
 use Prim.Native.Nat.{ℕ, _*_, _≤_}
 use native.Mathlib.Nat.{mul-le-mul-left}
 use native.Mathlib.Omega.{arith}
-use mathlib.Core.Path.{_≡_, refl}
+use mathlib.Core.Path.{_≡_, refl, sym, _∙_}
 use mathlib.Core.Bool.{Bool, true, false, _&&_}
 use lib.Dec.{leb}
-use borrow.Author.Tests.{leb-true}
-use Rattle.laws.specs.ResultLaws.{Each, Each.each, each-need, each-map}
+use borrow.Author.Tests.{leb-true, le-leb}
+use Rattle.laws.specs.Result.{Res.fault}
+use Rattle.laws.specs.ResultLaws.{false-true, Each, Each.each, each-need, each-map}
 use Rattle.state.specs.declared.Sizes.{Sizes}
 use Rattle.state.specs.declared.State.{State}
 use Rattle.state.specs.State.{within, rowBytes, frameBytes, frameLength, stateLength}
@@ -38,6 +39,9 @@ pub record Between (least most x : ℕ) : Type 0 where
 pub between : {least most x : ℕ} → within least most x ≡ true → Between least most x
 between {least} {most} {x} e = let t = both (leb least x) (leb x most) e in record { low = leb-true least x (t .0); high = leb-true x most (t .1) }
 
+pub outside : {least most x : ℕ} → within least most x ≡ false → least ≤ x → x ≤ most → ⊥
+outside {least} {most} {x} e l m = false-true (sym e ∙ rw (le-leb least x l, le-leb x most m) refl)
+
 row-bounds : (w : ℕ) → Between 1 1024 w → Between 2 128 (rowBytes w)
 unfolding rowBytes
 row-bounds w b = record { low = omega arith; high = omega arith }
@@ -66,6 +70,17 @@ unfolding frameLength
 sizes-sound z =
     each-need (within 1 1024 (z .width)) 11 _ λ w. each-need (within 1 1024 (z .height)) 11 _ λ h. each-need (within 1 8 (z .planes)) 11 _ λ p.
     each (sound z (between w) (between h) (between p))
+
+-- next and end place that aren't within theirs
+places-refused : (s : State) (p q : Bool) → within 1 1_000_000 (s .frame) ≡ true → within 12 (s .end) (s .next) ≡ p → leb (s .end) 2_147_483_647 ≡ q
+    → (12 ≤ s .next → s .next ≤ s .end → s .end ≤ 2_147_483_647 → ⊥) → fault 11 ≡ stateLength s
+unfolding stateLength
+places-refused s false q f e k h = simp (f, e)
+places-refused s true false f e k h = simp (f, e, k)
+places-refused s true true f e k h = absurd (h (between e .low) (between e .high) (leb-true (s .end) 2_147_483_647 k))
+
+pub no-places : (s : State) → within 1 1_000_000 (s .frame) ≡ true → (12 ≤ s .next → s .next ≤ s .end → s .end ≤ 2_147_483_647 → ⊥) → fault 11 ≡ stateLength s
+no-places s f h = places-refused s (within 12 (s .end) (s .next)) (leb (s .end) 2_147_483_647) f refl refl h
 
 -- a state within the limits
 pub record SoundState (s : State) (n : ℕ) : Type 0 where

@@ -1,4 +1,6 @@
 -- `bmhd::read_header`: the tests in the definition's order.
+use Prim.Native.Nat.{_<_}
+use native.Mathlib.Omega.{arith}
 use mathlib.Core.Path.{sym, _∙_}
 use borrow.Author.Tests.{le-leb, lt-leb, eq-eqb, ne-eqb}
 use Rattle.laws.specs.ResultLaws.{told}
@@ -49,8 +51,8 @@ returns-4 c =
     let p = c .before .before .before .before .before in
     let f = rw (p .before .before .before .sizes-at .ensures) at (told lengthOf (p .before .before .frame-length .ensures) (p .length .given .1)) in
     let m = rw (c .before .before .before .byte .ensures .0) at (c .before .before .if2 .left) in
-    let k = rw (c .before .byte2 .ensures .0) at (c .if3 .taken) in
-    simp (eq-eqb _ _ (p .before .before .before .before .if1 .left), f, ne-eqb _ _ m, lt-leb _ _ k)
+    let k : 1 < c .before .byte2 .result = omega (arith, c .if3 .taken) in
+    simp (eq-eqb _ _ (p .before .before .before .before .if1 .left), f, ne-eqb _ _ m, lt-leb _ _ (rw (c .before .byte2 .ensures .0) at k))
 
 returns-5 : tie.Need-returns-5
 unfolding header

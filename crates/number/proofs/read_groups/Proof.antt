@@ -100,10 +100,10 @@ add-value : tie.Need-add-value Inv-loop μ-loop
 add-value c = omega (arith, sum-below (turn (c .before)) _ (turn (c .before) .byte))
 
 returns-2 : tie.Need-returns-2 Inv-loop μ-loop
-returns-2 c = record { is = sym (last-big _ _ _ _ (c .if3 .taken)) ∙ last (turn (c .before .before)) (c .before .if2 .taken); within = tt }
+returns-2 c = record { is = sym (last-big _ _ _ _ (omega (arith, c .if3 .taken))) ∙ last (turn (c .before .before)) (c .before .if2 .taken); within = tt }
 
 returns-3 : tie.Need-returns-3 Inv-loop μ-loop
-returns-3 c = record { is = sym (last-zero _ _ _ _ (c .before .before .if3 .left) (c .before .if4 .taken) (c .if5 .taken)) ∙ last (turn (c .before .before .before .before)) (c .before .before .before .if2 .taken); within = tt }
+returns-3 c = record { is = sym (last-zero _ _ _ _ (c .before .if4 .taken) (omega (arith, c .before .before .before .if2 .taken, c .if5 .taken))) ∙ last (turn (c .before .before .before .before)) (c .before .before .before .if2 .taken); within = tt }
 
 returns-4 : tie.Need-returns-4 Inv-loop μ-loop
 returns-4 c = number (turn (c .before .before .before .before)) (c .before .before .before .if2 .taken) (c .before .before .if3 .left) (inl (pos-of-ne-zero (c .if5 .left)))

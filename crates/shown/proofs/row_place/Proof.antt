@@ -1,5 +1,5 @@
 -- `shown::row_place`: the tests in the definition's order; nothing overflows within the limits.
-use Rattle.shown.specs.RowLaws.{row-small, place-limits, place-left, place-right, no-plane, no-row, place-is}
+use Rattle.shown.specs.RowLaws.{Small, row-small, place-limits, place-left, place-right, no-plane, no-row, place-is}
 use Rattle.state.specs.State.{lengthOf}
 use Rattle.laws.specs.ResultLaws.{told}
 use native.Mathlib.Omega.{arith}
@@ -26,19 +26,23 @@ returns-3 : tie.Need-returns-3
 returns-3 c = no-plane _ _ _ _ _ (told lengthOf (c .before .before .before .before .before .before .before .frame-length .ensures) (c .before .before .before .before .before .l2 .given .1)) (c .before .before .before .if1 .left) (c .before .before .if2 .left) (c .if3 .taken)
 
 returns-4 : tie.Need-returns-4
-returns-4 c = no-row _ _ _ _ _ (told lengthOf (c .before .before .before .before .before .before .before .before .before .frame-length .ensures) (c .before .before .before .before .before .before .before .l2 .given .1)) (c .before .before .before .before .before .if1 .left) (c .before .before .before .before .if2 .left) (c .before .before .if3 .left) (c .if4 .taken)
+returns-4 c = no-row _ _ _ _ _ (told lengthOf (c .before .before .before .before .before .before .before .before .before .frame-length .ensures) (c .before .before .before .before .before .before .before .l2 .given .1)) (c .before .before .before .before .before .if1 .left) (c .before .before .before .before .if2 .left) (c .before .before .if3 .left) (omega (arith, c .if4 .taken))
+
+-- nothing overflows where the row isn't too far down
+small : (c : tie.Else4) → Small (c .before .before .before .before .before .before .before .before .before .before .before .before .before .args .state) (c .before .before .before .before .before .before .before .before .before .before .before .before .before .args .plane) (c .before .before .before .before .before .before .before .before .before .before .before .before .before .args .row)
+small c = row-small _ (told lengthOf (c .before .before .before .before .before .before .before .before .before .frame-length .ensures) (c .before .before .before .before .before .before .before .l2 .given .1)) _ _ (c .before .before .if3 .left) (omega (arith, c .if4 .left))
 
 mul-t11 : tie.Need-mul-t11
-mul-t11 c = omega (arith, row-small _ (told lengthOf (c .before .before .before .before .before .before .before .before .before .before .frame-length .ensures) (c .before .before .before .before .before .before .before .before .l2 .given .1)) (c .before .before .before .if3 .left) (c .before .if4 .left) .lines)
+mul-t11 c = omega (arith, small (c .before) .lines)
 
 add-t17 : tie.Need-add-t17
-add-t17 c = omega (arith, row-small _ (told lengthOf (c .before .before .before .before .before .before .before .before .before .before .frame-length .ensures) (c .before .before .before .before .before .before .before .before .l2 .given .1)) (c .before .before .before .if3 .left) (c .before .if4 .left) .lines)
+add-t17 c = omega (arith, small (c .before) .lines)
 
 row-bytes-requires : tie.Need-row-bytes-requires
 row-bytes-requires c κs = search needs
 
 mul-t19 : tie.Need-mul-t19
-mul-t19 c = omega (arith, row-small _ (told lengthOf (c .before .before .before .before .before .before .before .before .before .before .before .frame-length .ensures) (c .before .before .before .before .before .before .before .before .before .l2 .given .1)) (c .before .before .before .before .if3 .left) (c .before .before .if4 .left) .bytes (c .row-bytes .ensures))
+mul-t19 c = omega (arith, small (c .before .before) .bytes (c .row-bytes .ensures))
 
 returns-5 : tie.Need-returns-5
 returns-5 c = place-limits _ _ _ _ _ (told lengthOf (c .before .before .before .frame-length .ensures) (c .before .l .given .1))

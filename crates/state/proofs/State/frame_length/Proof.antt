@@ -1,7 +1,9 @@
 -- `state::State::frame_length`: the tests of the frame number and the places, then those of the sizes.
-use borrow.Author.Tests.{le-leb, lt-leb}
+use native.Mathlib.Omega.{arith}
+use borrow.Author.Tests.{le-leb}
 use Rattle.laws.specs.ResultLaws.{told-false, told-true}
 use Rattle.state.specs.State.{stateLength}
+use Rattle.state.specs.StateLaws.{outside, no-places}
 use borrow.Author.Needs.{needs}
 use Rattle.state.proofs.State.frame_length.Statement.{statement}
 use Rattle.state.proofs.State.frame_length.Tie as tie
@@ -17,12 +19,10 @@ within-requires-2 : tie.Need-within-requires-2
 within-requires-2 c κs = search needs
 
 returns-2 : tie.Need-returns-2
-unfolding stateLength
-returns-2 c = simp (told-true (c .before .before .before .within .ensures) (c .before .before .if1 .left), told-false (c .before .within2 .ensures) (c .if2 .taken))
+returns-2 c = no-places _ (told-true (c .before .before .before .within .ensures) (c .before .before .if1 .left)) λ l m n. outside (told-false (c .before .within2 .ensures) (c .if2 .taken)) l (omega (arith, m, n))
 
 returns-3 : tie.Need-returns-3
-unfolding stateLength
-returns-3 c = simp (told-true (c .before .before .before .before .before .within .ensures) (c .before .before .before .before .if1 .left), told-true (c .before .before .before .within2 .ensures) (c .before .before .if2 .left), lt-leb _ _ (c .if3 .taken))
+returns-3 c = no-places _ (told-true (c .before .before .before .before .before .within .ensures) (c .before .before .before .before .if1 .left)) λ l m n. omega (arith, n, c .if3 .taken)
 
 frame-length-requires : tie.Need-frame-length-requires
 frame-length-requires c κs = search needs
