@@ -17,9 +17,7 @@ pub(crate) fn find(d: &[u8]) {
             show::number(start);
             show::number(len);
         }
-        Found::Missing => {
-            io::write_all(1, b" none");
-        }
+        Found::Missing => show::none(),
         Found::Broken(why) => show::refused(why),
     }
     show::bytes(iff::contents(parent, id));
@@ -43,9 +41,7 @@ pub(crate) fn next(d: &[u8]) {
             show::number(len);
             show::number(next);
         }
-        Form::Last => {
-            io::write_all(1, b" none");
-        }
+        Form::Last => show::none(),
         Form::Faulty(why) => show::refused(why),
     }
 }

@@ -18,9 +18,7 @@ pub(crate) fn value(d: &[u8]) {
             show::number(value);
             show::number(next);
         }
-        Parsed::Malformed => {
-            io::write_all(1, b" none");
-        }
+        Parsed::Malformed => show::none(),
     }
 }
 

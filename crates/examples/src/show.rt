@@ -1,10 +1,14 @@
-// What comes out: numbers, bytes in hexadecimal, or a refusal.
+// What comes out: numbers, bytes in hexadecimal, nothing, or a refusal.
 use buffer::byte;
 use refusal::Refusal;
 
 pub(crate) fn number(n: usize) {
     io::write_all(1, b" ");
     io::print_decimal(1, n as u64);
+}
+
+pub(crate) fn none() {
+    io::write_all(1, b" none");
 }
 
 pub(crate) fn refused(why: Refusal) {

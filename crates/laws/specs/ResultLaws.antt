@@ -7,6 +7,7 @@ use mathlib.Core.Option.{Option, none, some}
 use borrow.Author.Tests.{not-true, not-false}
 use Rattle.laws.specs.Result.{Res, Res.ok, Res.fault, _>>=_, need, answer, pick, _>>?_, given}
 
+-- a test doesn't come out both ways
 pub false-true : {A : Type 0} → false ≡ true → A
 false-true e = let z : _≡_ {A = ℕ} 0 1 = cc in absurd (omega arith)
 
