@@ -9,7 +9,8 @@ use lib.ListN.{replicate}
 use borrow.Author.Tests.{eq-eqb, ne-eqb, eqb-true, le-leb, lt-leb}
 use Rattle.runs.specs.Runs.{Run, changed}
 use Rattle.runs.specs.RunLaws.{front, behind, later, changed-is}
-use Rattle.column.specs.Column.{Op, Op.skip, Op.uniq, Op.same, Group, join, groupsOf, loose, stretch, restOf, cut, cutAll, opsOf}
+use Rattle.column.specs.Column.{Op, Op.skip, Op.uniq, Op.same, Group, join, groupsOf, loose, stretch, cut, cutAll, opsOf}
+use Rattle.column.specs.BoundLaws.{cut-no-skip}
 
 -- the first group has the first row's value
 record Leads (w : ℕ) (gs : List Group) : Type 0 where
@@ -80,8 +81,8 @@ unfolding opsOf
 ops-none = refl
 
 run-at-once : (vs : List ℕ) (rs : List Run) → opsOf (record { gap = 0; old = vs } ∷ rs) ≡ cutAll (stretch (groupsOf vs)) ++ opsOf rs
-unfolding opsOf cutAll cut restOf
-run-at-once vs rs = refl
+unfolding opsOf cutAll
+run-at-once vs rs = rw cut-no-skip
 
 pub ops-split : (rs : List Run) → opsOf rs ≡ cutAll (stretch (groupsOf (front rs))) ++ opsOf (behind rs)
 unfolding front behind

@@ -8,6 +8,7 @@ use lib.Seq.{length-take-le, take-all}
 use Rattle.laws.specs.Put.{Parts}
 use Rattle.runs.specs.RunLaws.{runs-end}
 use Rattle.column.specs.Column.{Op, Op.skip, Op.uniq, Op.same, restOf, uniqs, cut, opsOf, opBytes, opsBytes}
+use Rattle.column.specs.BoundLaws.{cut-no-skip, cut-no-same}
 use Rattle.column.specs.ColumnLaws.{ops-none}
 use Rattle.column.specs.Piece.{opsAt, pieceOps, opsIn, bytesIn, NextPiece}
 use Rattle.column.specs.declared.piece.Kind.{Kind}
@@ -134,8 +135,8 @@ skip-last n h k =
     go (suc n) h = unfold restOf opsBytes opBytes in refl
 
 pub skip-none : (n : ℕ) → n ≡ 0 → opsBytes (cut (skip n)) ≡ []
-unfolding cut restOf opsBytes
-skip-none n e = rw e
+unfolding opsBytes
+skip-none n e = rw (e, cut-no-skip)
 
 pub same-more : (n v : ℕ) → 255 ≤ n → Parts (opsBytes (cut (same n v))) (opBytes (same 255 v)) (opsBytes (cut (same (n - 255) v)))
 unfolding cut
@@ -153,8 +154,8 @@ same-last n v h k =
     go (suc n) h = unfold restOf opsBytes in refl
 
 pub same-none : (n v : ℕ) → n ≡ 0 → opsBytes (cut (same n v)) ≡ []
-unfolding cut restOf opsBytes
-same-none n v e = rw e
+unfolding opsBytes
+same-none n v e = rw (e, cut-no-same v)
 
 -- k is enough for the rows
 uniqs-enough : (k j : ℕ) (vs : List ℕ) → length vs ≤ k → length vs ≤ j → uniqs k vs ≡ uniqs j vs

@@ -1,4 +1,5 @@
 pub mod Column
+pub mod BoundLaws
 pub mod ColumnLaws
 pub mod Count
 pub mod Piece

@@ -36,14 +36,14 @@ abbrev pub shapeOf : Sizes → Items → Shape
 shapeOf z i = record { item = width i; inline = inlineOf i; row = rowBytes (z .width); height = z .height; planes = z .planes }
 
 -- an op: count rows, the first at a place of the frame, get the items from a place of DLTA on, each step bytes after the one
--- before; a Skip has a count of 0, a Same a step of 0
+-- before; a Same has a step of 0; a Uniq or Same of none has a count of 0, and a place for items all the same
 pub record Op : Type 0 where
   pub place : ℕ
   pub count : ℕ
   pub from : ℕ
   pub step : ℕ
 
--- a Skip goes to no row
+-- a Skip gives no row an item, and has no place for items
 abbrev pub noRows : Op
 noRows = record { place = 0; count = 0; from = 0; step = 0 }
 
@@ -64,10 +64,10 @@ skip S c n =
     need (leb (c .line + n) (S .height)) 43 >>= λ _.
     ok (record { opAt = c .opAt + 1; itemAt = c .itemAt; line = c .line + n; ops = c .ops ++ (noRows ∷ []) })
 
--- n rows of the column that starts at base get items, size bytes of them in all; p is the place after the op's own bytes
+-- an op with size bytes of items for n rows of the column that starts at base; for no rows they are passed over. p is the place after
+-- the op's own bytes
 unfoldable pub fill : Shape → List ℕ → ℕ → Reading → ℕ → ℕ → ℕ → ℕ → Res Reading
 fill S d base c p n size step =
-    need (ltb 0 n) 44 >>= λ _.
     need (leb (c .line + n) (S .height)) 43 >>= λ _.
     need (leb (pick (S .inline) p (c .itemAt) + size) (length d)) 42 >>= λ _.
     ok (record {

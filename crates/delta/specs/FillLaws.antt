@@ -6,7 +6,7 @@ use mathlib.Core.Bool.{Bool, true, false}
 use mathlib.Core.Path.{_≡_, refl, _∙_}
 use mathlib.Core.List.{List, [], _∷_, _++_}
 use lib.ListN.{length}
-use borrow.Author.Tests.{lt-ltb, le-leb, lt-leb}
+use borrow.Author.Tests.{le-leb, lt-leb}
 use Rattle.laws.specs.Result.{Res, Res.ok, Res.fault, pick}
 use Rattle.delta.specs.declared.Shape.{Shape}
 use Rattle.delta.specs.declared.Cursor.{Cursor}
@@ -30,18 +30,23 @@ uniq-inside w count = record { lies = λ k l. omega (arith, mul-le-mul-right w l
 
 -- columns one after another
 pub columns-first : {S : Shape} {n base k : ℕ} → Columns S n base k → 0 < k → Column S n base
-columns-first v h = record { lies = λ i l. omega (arith, v .column 0 h .lies i l) }
+columns-first v h = record { rows = record { lies = λ i l. omega (arith, v .column 0 h .rows .lies i l) }; below = omega (arith, v .column 0 h .below) }
 
 pub columns-next : {S : Shape} {n base k : ℕ} → Columns S n base k → 0 < k → Columns S n (base + S .item) (k - 1)
-columns-next v h = record { column = λ j b. record { lies = λ i l. omega (arith, v .column (j + 1) (omega arith) .lies i l) } }
+columns-next v h = record {
+  column = λ j b. record { rows = record { lies = λ i l. omega (arith, v .column (j + 1) (omega arith) .rows .lies i l) }; below = omega (arith, v .column (j + 1) (omega arith) .below) };
+}
 
 -- the columns of a plane
 pub plane-inside : {S : Shape} {n : ℕ} → Planes S n → (p : ℕ) → p < S .planes → Columns S n (p * (S .height * S .row)) (S .row / S .item)
 plane-inside {S} {n} v p h =
     record {
       column = λ j b. record {
-        lies = λ i l.
-            omega (arith, v .length, mul-le-mul-right (S .item) b, div-add-mod' (S .row) (S .item), mul-le-mul-right (S .row) l, mul-le-mul-right (S .height * S .row) h);
+        rows = record {
+          lies = λ i l.
+              omega (arith, v .length, mul-le-mul-right (S .item) b, div-add-mod' (S .row) (S .item), mul-le-mul-right (S .row) l, mul-le-mul-right (S .height * S .row) h);
+        };
+        below = omega (arith, v .row-most, v .plane-most, mul-le-mul-right (S .item) b, div-add-mod' (S .row) (S .item), mul-le-mul-right (S .height * S .row) h, mul-le-mul-right (S .height * S .row) (v .planes-most));
       };
     }
 
@@ -51,7 +56,7 @@ columns-most {S} v = omega (arith, v .row-most, div-add-mod' (S .row) (S .item),
 -- the same op by another name of its definition
 pub read-as : (S : Shape) (d : List ℕ) (whole whole′ : ℕ → Reading → Res Reading) (c : Cursor) (r : Taken) → OpRead S d whole′ c r
     → ((base : ℕ) (ops : List Op) → whole base (reading c ops) ≡ whole′ base (reading c ops)) → OpRead S d whole c r
-read-as S d whole whole′ c (Rows from step n next) w e = record { same = λ base ops. e base ops ∙ w .same base ops; some-rows = w .some-rows; rows = w .rows; items = w .items; moved = w .moved }
+read-as S d whole whole′ c (Rows from step n next) w e = record { same = λ base ops. e base ops ∙ w .same base ops; rows = w .rows; items = w .items; moved = w .moved }
 read-as S d whole whole′ c (Passed next) w e = record { same = λ base ops. e base ops ∙ w .same base ops; moved = w .moved }
 read-as S d whole whole′ c (NotTaken why) w e = λ base ops. e base ops ∙ w base ops
 
@@ -78,32 +83,26 @@ item-most true p i size n h k = h
 item-most false p i size n h k = k
 
 module _ (S : Shape) (d : List ℕ) (c : Cursor) (p n size step : ℕ) where
-  pub fill-none : n ≡ 0 → (base : ℕ) (ops : List Op) → fill S d base (reading c ops) p n size step ≡ fault 44
+  pub fill-past : S .height < c .line + n → (base : ℕ) (ops : List Op) → fill S d base (reading c ops) p n size step ≡ fault 43
   unfolding fill
-  fill-none e base ops = simp e
+  fill-past l base ops = simp (lt-leb _ _ l)
 
-  module _ (h : 0 < n) where
-    pub fill-past : S .height < c .line + n → (base : ℕ) (ops : List Op) → fill S d base (reading c ops) p n size step ≡ fault 43
+  module _ (l : c .line + n ≤ S .height) (from : ℕ) (e : from ≡ pick (S .inline) p (c .item)) where
+    pub fill-short : length d < from + size → (base : ℕ) (ops : List Op) → fill S d base (reading c ops) p n size step ≡ fault 42
     unfolding fill
-    fill-past l base ops = simp (lt-ltb 0 n h, lt-leb _ _ l)
+    fill-short k base ops = simp (le-leb _ _ l, lt-leb _ _ (rw e at k))
 
-    module _ (l : c .line + n ≤ S .height) (from : ℕ) (e : from ≡ pick (S .inline) p (c .item)) where
-      pub fill-short : length d < from + size → (base : ℕ) (ops : List Op) → fill S d base (reading c ops) p n size step ≡ fault 42
-      unfolding fill
-      fill-short k base ops = simp (lt-ltb 0 n h, le-leb _ _ l, lt-leb _ _ (rw e at k))
-
-      pub fill-read : c .item ≤ length d → from + size ≤ length d → Inside size 0 step (S .item) n → {c′ : Cursor} → c′ ≡ filled S c p n size
-          → RowsRead S d (λ base x. fill S d base x p n size step) c from step n c′
-      unfolding fill
-      fill-read i k v q =
-          rw (q, e)
-          (record {
-            same = λ base ops. simp (lt-ltb 0 n h, le-leb _ _ l, le-leb _ _ (rw e at k));
-            some-rows = h;
-            rows = l;
-            items = items-inside v (length d) (pick (S .inline) p (c .item)) (rw e at k);
-            moved = record { counted = refl; line = l; item = item-most (S .inline) p (c .item) size (length d) i (rw e at k) };
-          })
+    pub fill-read : c .item ≤ length d → from + size ≤ length d → Inside size 0 step (S .item) n → {c′ : Cursor} → c′ ≡ filled S c p n size
+        → RowsRead S d (λ base x. fill S d base x p n size step) c from step n c′
+    unfolding fill
+    fill-read i k v q =
+        rw (q, e)
+        (record {
+          same = λ base ops. simp (le-leb _ _ l, le-leb _ _ (rw e at k));
+          rows = l;
+          items = items-inside v (length d) (pick (S .inline) p (c .item)) (rw e at k);
+          moved = record { counted = refl; line = l; item = item-most (S .inline) p (c .item) size (length d) i (rw e at k) };
+        })
 
 -- an op that was read, drawn where that is asked for
 module _ {S : Shape} {d : List ℕ} {whole : ℕ → Reading → Res Reading} {c next : Cursor} (drawing : Bool) (f : List ℕ) (base : ℕ) where

@@ -4,3 +4,4 @@ pub mod Walk
 pub mod WalkLaws
 pub mod FillLaws
 pub mod ApplyLaws
+pub mod NoneLaws

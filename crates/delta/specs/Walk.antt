@@ -33,9 +33,10 @@ pub record Width (w : ℕ) : Type 0 where
 pub record Inside (n start step w count : ℕ) : Type 0 where
   pub lies : (k : ℕ) → k < count → start + k * step + w ≤ n
 
--- a column that starts at base lies within a frame of n bytes
-abbrev pub Column : Shape → ℕ → ℕ → Type 0
-Column S n base = Inside n base (S .row) (S .item) (S .height)
+-- a column that starts at base lies within a frame of n bytes, and the place below its last row fits into a usize
+pub record Column (S : Shape) (n base : ℕ) : Type 0 where
+  pub rows : Inside n base (S .row) (S .item) (S .height)
+  pub below : base + S .height * S .row ≤ 18446744073709551615
 
 -- k columns do
 pub record Columns (S : Shape) (n base k : ℕ) : Type 0 where
@@ -88,7 +89,6 @@ pub record Moved (S : Shape) (d : List ℕ) (c next : Cursor) : Type 0 where
 -- an op of n rows was read, wherever its column starts
 pub record RowsRead (S : Shape) (d : List ℕ) (whole : ℕ → Reading → Res Reading) (c : Cursor) (from step n : ℕ) (next : Cursor) : Type 0 where
   pub same : (base : ℕ) (ops : List Op) → whole base (reading c ops) ≡ ok (reading next (ops ++ (record { place = base + c .line * S .row; count = n; from = from; step = step } ∷ [])))
-  pub some-rows : 0 < n
   pub rows : c .line + n ≤ S .height
   pub items : Inside (length d) from step (S .item) n
   pub moved : Moved S d c next

@@ -107,9 +107,6 @@ fn take_fill(
     requires { ⌜ Stands shape (now d) c 1 × (next ≤ length (now d)) × Inside size 0 step (shape .item) count ⌝ }
     ensures { λ r. ⌜ OpRead shape (now (d .entry)) (λ base x. fill shape (now (d .entry)) base x next count size step) c r ⌝ }
 {
-    if count == 0 {
-        return Taken::Faulty(Refusal::ZeroCount);
-    }
     if shape.height - c.line < count {
         return Taken::Faulty(Refusal::OpPastLastRow);
     }

@@ -5,3 +5,4 @@ pub mod LoopLaws
 pub mod Bytes
 pub mod Store
 pub mod Put
+pub mod Every

@@ -1,4 +1,3 @@
 pub mod RoomLaws
 pub mod ShortLaws
-pub mod LowLaws
 pub mod TextRoom

@@ -13,6 +13,8 @@ use borrow.Author.Tests.{leb-true}
 use Rattle.laws.specs.Bytes.{bytes-take, be32, Bytes, be32-bound, bytes-drop}
 use Rattle.laws.specs.Result.{Res, Res.ok, Res.fault, _>>=_, need}
 use Rattle.laws.specs.ResultLaws.{Each, Each.each, Each.no-value, each-self, each-bind, each-need, All, All.all-some, All.all-none, all-value}
+use Rattle.refusal.specs.Number.{isNumber}
+use Rattle.refusal.specs.NumberLaws.{two-digits}
 use Rattle.state.specs.declared.Sizes.{Sizes}
 use Rattle.state.specs.StateLaws.{Sound}
 use Rattle.iff.specs.Chunk.{Part, find, foundIn, contents}
@@ -121,9 +123,9 @@ pub end-line-short : (n : ℕ) → n < 10_000_000 → length (endLine n) ≤ 68
 unfolding endLine
 end-line-short n h = simp length-append (omega (arith, decimal-length 6 n h))
 
-pub refused-line-short : (n : ℕ) → n < 100 → length (refusedLine n) ≤ 68
+pub refused-line-short : (n : ℕ) → isNumber n ≡ true → length (refusedLine n) ≤ 68
 unfolding refusedLine
-refused-line-short n h = simp length-append (omega (arith, decimal-length 1 n h))
+refused-line-short n e = simp length-append (omega (arith, decimal-length 1 n (two-digits n e)))
 
 pub picture-line-short : (z : Sizes) (n : ℕ) → Sound z n → length (pictureLine z) ≤ 68
 unfolding pictureLine

@@ -35,8 +35,8 @@ use Rattle.lines.specs.Lines.{frameLine, endLine, refusedLine, pictureLine, too
 use Rattle.listing.specs.Listing.{Scene, leaves, lineOn, listStep, frames, shows, ROOM, fronts, Planned.single, Planned.pictures, sized, planned, follow, listed, blank, listing}
 use Rattle.changes.specs.CountLaws.{differing-short}
 use Rattle.record.specs.RoomLaws.{record-short}
+use Rattle.answers.specs.Table.{InTable, InTable.table-refusal, size-table, opening-table, on-table}
 use Rattle.listing_laws.specs.ShortLaws.{Holds, frame-holds, delta-long, Tells, frame-line-short, end-line-short, refused-line-short, picture-line-short}
-use Rattle.listing_laws.specs.LowLaws.{Low, Low.low-fault, size-low, opening-low, on-low}
 
 -- what a frame that is made comes to
 record Makes (file : ℕ) (s : State) (m : Made) : Type 0 where
@@ -105,11 +105,11 @@ picked false x y h k = k
 
 module _ (file : List ℕ) (bytes : Bytes file) (short : length file ≤ 65_536) (size : ℕ) where
   -- the answer of a step, and the line that is told of it
-  settled : (c : Scene) → Roomy c → (q : Res (Option Made)) → Low q → Each (All (Makes (length file) (c .world .state))) q
+  settled : (c : Scene) → Roomy c → (q : Res (Option Made)) → InTable q → Each (All (Makes (length file) (c .world .state))) q
       → (o : After) → o ≡ record { answer = settle (c .world .state) (hiddenOf (c .world)) ROOM q .answer; world = record { a = pick (isOdd (c .world .state .frame)) (c .world .a) (settle (c .world .state) (hiddenOf (c .world)) ROOM q .picture); b = pick (isOdd (c .world .state .frame)) (settle (c .world .state) (hiddenOf (c .world)) ROOM q .picture) (c .world .b); state = settle (c .world .state) (hiddenOf (c .world)) ROOM q .state }; bytes = settle (c .world .state) (hiddenOf (c .world)) ROOM q .bytes; work = settle (c .world .state) (hiddenOf (c .world)) ROOM q .work }
       → Comes Roomy Short (lineOn (o .answer) (leaves c o))
   unfolding settle
-  settled c h (fault n) (low-fault l) k o e = rw e (comes-done (last-short c h (refusedLine n) (refused-line-short n l)))
+  settled c h (fault n) (table-refusal l) k o e = rw e (comes-done (last-short c h (refusedLine n) (refused-line-short n l)))
   settled c h (ok none) l k o e = let f : c .world .state .frame < 10_000_000 = omega (arith, h .frame) in rw e (comes-done (last-short c h (endLine (c .world .state .frame)) (end-line-short (c .world .state .frame) f)))
   settled c h (ok (some m)) l (each (all-some k)) o e = go (leb (length (m .bytes)) ROOM) e
     where
@@ -120,7 +120,7 @@ module _ (file : List ℕ) (bytes : Bytes file) (short : length file ≤ 65_536)
 
       go : (t : Bool) → o ≡ record { answer = end t .answer; world = record { a = pick (isOdd (c .world .state .frame)) (c .world .a) (end t .picture); b = pick (isOdd (c .world .state .frame)) (end t .picture) (c .world .b); state = end t .state }; bytes = end t .bytes; work = end t .work }
           → Comes Roomy Short (lineOn (o .answer) (leaves c o))
-      go false d = rw d (comes-done (last-short c h (refusedLine 51) (refused-line-short 51 (omega arith))))
+      go false d = rw d (comes-done (last-short c h (refusedLine 51) (refused-line-short 51 refl)))
       go true d =
           let n : suc (c .world .state .frame) < 10_000_000 = omega (arith, k .few) in
           let f : suc (c .world .state .frame) ≤ 1_000_000 = omega (arith, k .few) in
@@ -141,7 +141,7 @@ module _ (file : List ℕ) (bytes : Bytes file) (short : length file ≤ 65_536)
   step-roomy c h =
       let w : World = c .world in
       settled c h (ready (length file) (w .state) (length (w .a)) (length (w .b)) size >>= λ _. advance (take (w .state .end) file) (w .state) (shownOf w) (hiddenOf w))
-      (on-low (length file) (take (w .state .end) file) (w .state) (shownOf w) (hiddenOf w) (length (w .a)) (length (w .b)) size)
+      (on-table (length file) (take (w .state .end) file) (w .state) (shownOf w) (hiddenOf w) (length (w .a)) (length (w .b)) size)
       (each-bind (ready-passed (length file) (w .state) (length (w .a)) (length (w .b)) size) λ _ p.
       advance-holds file (w .state) (shownOf w) (hiddenOf w) bytes (picked (isOdd (w .state .frame)) (w .b) (w .a) (h .right) (h .left)) (p .onA .few) (p .inFile))
       (stepOn file w size ROOM)
@@ -180,28 +180,28 @@ opening-begins file n =
 
 -- the text of any file of bytes
 module _ (file : List ℕ) (bytes : Bytes file) where
-  shows-short : length file ≤ 65_536 → (n : ℕ) → n ≤ 16_384 → (q : Res Film) → Low q → Each (Begins file n) q → (a b work rec : List ℕ) → Short (shows file n ROOM (blank a b work rec) q)
+  shows-short : length file ≤ 65_536 → (n : ℕ) → n ≤ 16_384 → (q : Res Film) → InTable q → Each (Begins file n) q → (a b work rec : List ℕ) → Short (shows file n ROOM (blank a b work rec) q)
   unfolding shows
   shows-short h n k (ok F) l (each g) a b work rec =
       let w : length (F .first) ≤ 16_384 = omega (arith, g .first) in
       let p : F .start ≤ 65_536 = omega (arith, g .start) in
       let t : 84 * length (pictureLine (F .sizes)) ≤ 68 * F .start + 84 * 68 = omega (arith, picture-line-short (F .sizes) n (g .sound)) in
       frames-short file bytes h n _ (record { left = w; right = w; frame = omega arith; place = p; text = t })
-  shows-short h n k (fault m) (low-fault l) g a b work rec = omega (arith, refused-line-short m l)
+  shows-short h n k (fault m) (table-refusal l) g a b work rec = omega (arith, refused-line-short m l)
 
-  sized-short : length file ≤ 65_536 → (q : Res ℕ) → Low q → Short (follow file (blank [] [] [] []) (sized q))
+  sized-short : length file ≤ 65_536 → (q : Res ℕ) → InTable q → Short (follow file (blank [] [] [] []) (sized q))
   unfolding fronts
   sized-short h (ok n) l = go (leb n 16_384) refl
     where
       go : (t : Bool) → leb n 16_384 ≡ t → Short (follow file (blank [] [] [] []) (pick t (pictures n) (single tooLarge)))
-      go true e = shows-short h n (leb-true n 16_384 e) (opening file n n) (opening-low file n n) (opening-begins file n) _ _ _ _
+      go true e = shows-short h n (leb-true n 16_384 e) (opening file n n) (opening-table file n n) (opening-begins file n) _ _ _ _
       go false e = omega arith
-  sized-short h (fault m) (low-fault l) = omega (arith, refused-line-short m l)
+  sized-short h (fault m) (table-refusal l) = omega (arith, refused-line-short m l)
 
   pub listing-short : length (listing file) ≤ 65_536
   unfolding listing listed planned
   listing-short = go (leb (length file) 65_536) refl
     where
       go : (t : Bool) → leb (length file) 65_536 ≡ t → Short (follow file (blank [] [] [] []) (pick t (sized (firstSize file)) (single tooLarge)))
-      go true e = sized-short (leb-true (length file) 65_536 e) (firstSize file) (size-low file)
+      go true e = sized-short (leb-true (length file) 65_536 e) (firstSize file) (size-table file)
       go false e = omega arith

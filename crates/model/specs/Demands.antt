@@ -51,7 +51,7 @@ pub record Unchanged (n : ℕ) (w : World) (work rec : List ℕ) (w′ : World) 
   pub written : rec′ ≡ rec
   pub drawn : (n ≡ 51 → ⊥) → work′ ≡ work
 
--- a step on that only its delta (41 to 44) and its record's length (51) can refuse: the tests of state and buffers passed (11, 12, 53), and x,
+-- a step on that only its delta (41 to 43) and its record's length (51) can refuse: the tests of state and buffers passed (11, 12, 53), and x,
 -- the next frame from the next place on, is whole and has a good header (21, 31 to 36)
 pub record Free (file : List ℕ) (w : World) (work : ℕ) (x : Frame) : Type 0 where
   pub tests : ready (length file) (w .state) (length (w .a)) (length (w .b)) work ≡ ok tt

@@ -1,4 +1,4 @@
-// The refusals of document 01 and their numbers.
+// The refusals of document 01 and their numbers, but for 44, which is retired: no later one gets it.
 ghost use mathlib.Core.Path.{_≡_};
 ghost use Rattle.refusal.specs.Number.{numberOf};
 
@@ -21,7 +21,6 @@ pub enum Refusal {
     BadPointer,
     DeltaTooShort,
     OpPastLastRow,
-    ZeroCount,
     NoRoom,
     LastFrame,
     BadRecord,
@@ -52,7 +51,6 @@ impl Refusal {
             Refusal::BadPointer => 41,
             Refusal::DeltaTooShort => 42,
             Refusal::OpPastLastRow => 43,
-            Refusal::ZeroCount => 44,
             Refusal::NoRoom => 51,
             Refusal::LastFrame => 53,
             Refusal::BadRecord => 61,

@@ -1,5 +1,5 @@
 -- Demand 2's last sentence, of calls: where `writer::write` met its contract and there was room, the delta that it wrote, applied to the old
--- picture by a `delta::apply` that met its contract, gives the new one.
+-- picture by a `delta::apply` that met its contract, gives the new one; and no Uniq or Same of none is in it.
 use Prim.Native.Nat.{ℕ, _≤_}
 use mathlib.Core.List.{List, _++_}
 use mathlib.Core.Path.{_≡_, refl, sym, ap, _∙_}
@@ -7,16 +7,18 @@ use lib.Dec.{leb, eqb}
 use lib.ListN.{length, take, drop}
 use lib.Seq.{take-append-seam}
 use borrow.Author.Tests.{eqb-true, eq-eqb, le-leb}
+use Rattle.laws.specs.Every.{Every}
 use Rattle.laws.specs.Result.{Res, Res.ok, _>>=_, answer, orKeep}
 use Rattle.laws.specs.ResultLaws.{Each, Each.each, each-self, each-bind, each-need, each-is}
 use Rattle.state.specs.declared.Sizes.{Sizes}
 use Rattle.state.specs.State.{frameLength}
 use Rattle.state.specs.StateLaws.{sizes-sound}
 use Rattle.anhd.specs.declared.Items.the-variants.{Bytes}
-use Rattle.delta.specs.Delta.{shapeOf, readDelta, draw, newFrame, Applies}
+use Rattle.delta.specs.Delta.{Op, shapeOf, readDelta, draw, newFrame, Applies}
 use Rattle.delta.specs.DeltaLaws.{same-answer}
 use Rattle.writer.specs.Write.{deltaBytes, written, bufferAfter, Writes}
-use Rattle.roundtrip.specs.RoundTrip.{delta-turns, written-turns}
+use Rattle.roundtrip.specs.ColumnLaws.{HasRows}
+use Rattle.roundtrip.specs.RoundTrip.{delta-turns, never-none, written-turns}
 
 -- a delta of k bytes that can be written: the sizes are within the limits, and both pictures have a frame's length
 pub record Measured (z : Sizes) (old new : List ℕ) (k : ℕ) : Type 0 where
@@ -61,3 +63,7 @@ module _ (z : Sizes) (old new out : List ℕ) (n : ℕ) (out′ : List ℕ) (m :
   applied-new work x work′ l p =
       let e : newFrame z Bytes (take n out′) old (length work) ≡ ok new = rw l new-made in
       (ap answer (p .counts) ∙ same-answer z Bytes (take n out′) old (length work) ∙ ap answer e, p .leaves ∙ ap (orKeep work) e)
+
+  -- no Uniq and no Same of none is among the ops of the delta
+  pub never-none-written : (ops : List Op) × (readDelta (shapeOf z Bytes) (take n out′) ≡ ok ops) × Every HasRows ops
+  never-none-written = rw delta-stands (never-none z (length old) old new (each-is (delta-written .sizes) (sizes-sound z)) refl (delta-written .same))

@@ -6,16 +6,20 @@ use native.Mathlib.Omega.{arith}
 use mathlib.Core.Bool.{true}
 use mathlib.Core.List.{List, [], _∷_, _++_, append-assoc, append-nil}
 use mathlib.Core.Path.{_≡_, refl, sym, ap, _∙_}
+use lib.Dec.{leb}
 use lib.ListN.{length, getD, take, drop, set, replicate, length-append, length-take, length-drop, length-set, length-replicate}
 use lib.Seq.{drop-cons, set-getD, getD-set-other, drop-drop, take-append-seam, drop-append-seam}
 use borrow.Author.Tests.{lt-ltb, le-leb, lt-leb, ne-eqb}
-use Rattle.laws.specs.Result.{Res, Res.ok}
-use Rattle.column.specs.Column.{Op, Op.skip, Op.uniq, Op.same, opBytes, opsBytes}
+use Rattle.laws.specs.Result.{Res, Res.ok, pick}
+use Rattle.laws.specs.ResultLaws.{Each, Each.each, each-any, each-need}
+use Rattle.laws.specs.Every.{Every, every-head, every-tail, every-more}
+use Rattle.column.specs.Column.{Op, Op.skip, Op.uniq, Op.same as sameRows, opBytes, opsBytes}
+use Rattle.column.specs.BoundLaws.{Valid}
 use Rattle.writer.specs.Write.{columnAt}
 use Rattle.writer.specs.ColumnLaws.{length-column}
-use Rattle.delta.specs.Delta.{Op as Stroke, noRows, Reading, byteAt, skip as skipRows, fill, Kind.skips, Kind.uniq as uniqs, kindOf, readOp, readOps, put, draw}
+use Rattle.delta.specs.Delta.{Op as Stroke, noRows, Reading, byteAt, skip as skipRows, fill, Kind, Kind.same, Kind.skips, Kind.uniq as uniqs, kindOf, opAs, readOp, readOps, put, draw}
 use Rattle.delta.specs.declared.Shape.{Shape}
-use Rattle.roundtrip.specs.OpLaws.{reach, passed, reachAll, passedAll, Valid, ValidAll}
+use Rattle.roundtrip.specs.OpLaws.{reach, passed, reachAll, passedAll}
 
 -- one more row of bytes
 put-byte : (row step : ℕ) (d : List ℕ) (n from at : ℕ) (f : List ℕ) → from < length d
@@ -130,7 +134,7 @@ byte-is d p x t h = rw (lt-ltb p (length d) (h .within), h .is)
 length-passed : (o : Op) (c : List ℕ) → reach o ≤ length c → length (passed o c) ≡ reach o
 length-passed (skip n) c h = omega (arith, length-take n c)
 length-passed (uniq vs) c h = refl
-length-passed (same n x) c h = length-replicate n x
+length-passed (sameRows n x) c h = length-replicate n x
 
 pub length-passedAll : (os : List Op) (c : List ℕ) → reachAll os ≤ length c → length (passedAll os c) ≡ reachAll os
 unfolding passedAll reachAll
@@ -157,6 +161,54 @@ draw-more S d (x ∷ os) o f = draw-more S d os o (put (S .item) (S .row) (x .st
 abbrev pub bytewise : ℕ → ℕ → ℕ → Shape
 bytewise row height planes = record { item = 1; inline = true; row = row; height = height; planes = planes }
 
+-- not a Uniq or Same of none: an op with a place for items has rows
+abbrev pub HasRows : Stroke → Type 0
+HasRows o = 0 < o .from → 0 < o .count
+
+-- with method 5 a Uniq and a Same have a place for items; a Skip has none
+abbrev pub PlaceIn : Kind → Stroke → Type 0
+PlaceIn same o = 0 < o .from
+PlaceIn (skips n) o = o .from ≡ 0
+PlaceIn (uniqs n) o = (0 < o .from) × (o .count ≡ n)
+
+-- one op, of a kind, comes after the ops so far
+pub record Adds (k : Kind) (before after : List Stroke) : Type 0 where
+  pub op : Stroke
+  pub more : after ≡ before ++ (op ∷ [])
+  pub place : PlaceIn k op
+
+fill-adds : (k : Kind) (S : Shape) (d : List ℕ) (base : ℕ) (c : Reading) (p n size step : ℕ) → S .inline ≡ true → ((o : Stroke) → 0 < o .from → o .count ≡ n → PlaceIn k o) → 0 < p
+    → Each (λ c′. Adds k (c .ops) (c′ .ops)) (fill S d base c p n size step)
+unfolding fill
+fill-adds k S d base c p n size step e h l =
+    each-need (leb (c .line + n) (S .height)) 43 _ λ _. each-need (leb (pick (S .inline) p (c .itemAt) + size) (length d)) 42 _ λ _.
+    each (record { op = _; more = refl; place = h _ (rw e l) refl })
+
+-- reading an op of method 5 adds one of its kind
+pub has-place : (S : Shape) (d : List ℕ) (base : ℕ) (c : Reading) (k : Kind) → S .inline ≡ true → Each (λ c′. Adds k (c .ops) (c′ .ops)) (opAs S d base c k)
+unfolding skipRows
+has-place S d base c same e = each-any (byteAt d (c .opAt + 1)) λ n. fill-adds same S d base c (c .opAt + 2) n (S .item) 0 e (λ o h l. h) (omega arith)
+has-place S d base c (skips n) e = each-need (leb (c .line + n) (S .height)) 43 _ λ _. each (record { op = noRows; more = refl; place = refl })
+has-place S d base c (uniqs n) e = fill-adds (uniqs n) S d base c (c .opAt + 1) n (n * S .item) (S .item) e (λ o h l. (h, l)) (omega arith)
+
+module _ (row height planes : ℕ) (d first : List ℕ) where
+  -- ops that make the frame f of the first one, with no Uniq or Same of none among them
+  pub record Makes (ops : List Stroke) (f : List ℕ) : Type 0 where
+    pub drawn : draw (bytewise row height planes) d ops first ≡ f
+    pub rows : Every HasRows ops
+
+  makes-skip : {ops : List Stroke} {f : List ℕ} → Makes ops f → Makes (ops ++ (noRows ∷ [])) f
+  makes-skip {ops} {f} m = record {
+    drawn = draw-more (bytewise row height planes) d ops noRows first ∙ put-none row 0 d 0 0 _ ∙ m .drawn;
+    rows = every-more (m .rows) (λ h. absurd (omega arith));
+  }
+
+  makes-more : {ops : List Stroke} {f g : List ℕ} (o : Stroke) → Makes ops f → 0 < o .count → put 1 row (o .step) d (o .count) (o .from) (o .place) f ≡ g → Makes (ops ++ (o ∷ [])) g
+  makes-more {ops} {f} o m h e = record {
+    drawn = draw-more (bytewise row height planes) d ops o first ∙ rw (m .drawn) e;
+    rows = every-more (m .rows) (λ _. h);
+  }
+
 module _ (row height planes : ℕ) (s1 : 1 ≤ row) (d : List ℕ) (first : List ℕ) (base : ℕ) (f : List ℕ) where
   unfoldable pub col : List ℕ
   col = columnAt f row base height
@@ -169,7 +221,7 @@ module _ (row height planes : ℕ) (s1 : 1 ≤ row) (d : List ℕ) (first : List
   pub record At (c : Reading) (p : ℕ) (done : List ℕ) : Type 0 where
     pub op : c .opAt ≡ p
     pub line : c .line ≡ length done
-    pub drawn : draw (bytewise row height planes) d (c .ops) first ≡ putColumn f row base done
+    pub makes : Makes row height planes d first (c .ops) (putColumn f row base done)
 
   -- a reading that went on to such a place
   pub record Goes (r : Res Reading) (p : ℕ) (done : List ℕ) : Type 0 where
@@ -199,7 +251,7 @@ module _ (row height planes : ℕ) (s1 : 1 ≤ row) (d : List ℕ) (first : List
         at = record {
           op = rw (a .op) (omega arith);
           line = rw (a .line) (sym k);
-          drawn = draw-more (bytewise row height planes) d (c .ops) noRows first ∙ put-none row 0 d 0 0 _ ∙ a .drawn ∙ sym (put-kept f row base height done n s1 h);
+          makes = rw (put-kept f row base height done n s1 h) (makes-skip row height planes d first (a .makes));
         };
       }
   op-is (uniq vs) c p done s a v h e =
@@ -212,16 +264,16 @@ module _ (row height planes : ℕ) (s1 : 1 ≤ row) (d : List ℕ) (first : List
         to = record { opAt = p + 1 + length vs * 1; itemAt = c .itemAt; line = length done + length vs; ops = c .ops ++ (o ∷ []) };
         reads =
             rw (a .op, byte-is d p (128 + length vs) (vs ++ s) hd) (rw (kind-uniq (length vs)) (
-            simp (lt-ltb 0 (length vs) (v .0), a .line, le-leb (length done + length vs) height h, le-leb (p + 1 + length vs * 1) (length d) l)));
+            simp (a .line, le-leb (length done + length vs) height h, le-leb (p + 1 + length vs * 1) (length d) l)));
         at = record {
           op = omega arith;
           line = sym (length-append done vs);
-          drawn =
-              draw-more (bytewise row height planes) d (c .ops) o first
-              ∙ rw (a .drawn) (put-uniq row d (length vs) (p + 1) (base + length done * row) (putColumn f row base done) (omega arith) ∙ rw (w, put-append f row base done vs));
+          makes =
+              makes-more row height planes d first o (a .makes) (v .0)
+              (put-uniq row d (length vs) (p + 1) (base + length done * row) (putColumn f row base done) (omega arith) ∙ rw (w, put-append f row base done vs));
         };
       }
-  op-is (same n x) c p done s a v h e =
+  op-is (sameRows n x) c p done s a v h e =
       let hd : Head d p 0 (n ∷ x ∷ s) = head d p 0 (n ∷ x ∷ s) e in
       let h2 : Head d (p + 1) n (x ∷ s) = head d (p + 1) n (x ∷ s) (rw (add-one p) (hd .after)) in
       let h3 : Head d (p + 2) x s = head d (p + 2) x s (rw (add-two p) (rw (add-one p) at (h2 .after))) in
@@ -231,28 +283,28 @@ module _ (row height planes : ℕ) (s1 : 1 ≤ row) (d : List ℕ) (first : List
         to = record { opAt = p + 2 + 1; itemAt = c .itemAt; line = length done + n; ops = c .ops ++ (o ∷ []) };
         reads =
             rw (a .op, byte-is d p 0 (n ∷ x ∷ s) hd) (rw (byte-is d (p + 1) n (x ∷ s) h2) (
-            simp (lt-ltb 0 n (v .0), a .line, le-leb (length done + n) height h, le-leb (p + 2 + 1) (length d) l)));
+            simp (a .line, le-leb (length done + n) height h, le-leb (p + 2 + 1) (length d) l)));
         at = record {
           op = omega arith;
           line = sym (length-append done (replicate n x) ∙ ap (λ (k : ℕ). length done + k) (length-replicate n x));
-          drawn =
-              draw-more (bytewise row height planes) d (c .ops) o first
-              ∙ rw (a .drawn) (put-same row d n (p + 2) (base + length done * row) (putColumn f row base done) (h3 .within) ∙ rw (h3 .is, put-append f row base done (replicate n x)));
+          makes =
+              makes-more row height planes d first o (a .makes) (v .0)
+              (put-same row d n (p + 2) (base + length done * row) (putColumn f row base done) (h3 .within) ∙ rw (h3 .is, put-append f row base done (replicate n x)));
         };
       }
 
   -- the ops that are written for a column
-  pub ops-are : (os : List Op) (c : Reading) (p : ℕ) (done s : List ℕ) → At c p done → ValidAll os → length done + reachAll os ≤ height → drop p d ≡ opsBytes os ++ s
+  pub ops-are : (os : List Op) (c : Reading) (p : ℕ) (done s : List ℕ) → At c p done → Every Valid os → length done + reachAll os ≤ height → drop p d ≡ opsBytes os ++ s
       → Goes (readOps (bytewise row height planes) d base (length os) c) (p + length (opsBytes os)) (done ++ passedAll os (drop (length done) col))
-  unfolding readOps opsBytes ValidAll reachAll passedAll
+  unfolding readOps opsBytes reachAll passedAll
   ops-are [] c p done s a v h e = record { to = c; reads = refl; at = rw (append-nil done, add-zero p) a }
   ops-are (o ∷ os) c p done s a v h e =
       let e′ : drop p d ≡ opBytes o ++ (opsBytes os ++ s) = e ∙ append-assoc (opBytes o) (opsBytes os) s in
       let more : List ℕ = done ++ passed o (drop (length done) col) in
       let l : length more ≡ length done + reach o = length-append done (passed o (drop (length done) col)) ∙ ap (λ (k : ℕ). length done + k) (length-passed o (drop (length done) col) (omega (arith, length-drop (length done) col, col-length))) in
       let t : drop (p + length (opBytes o)) d ≡ opsBytes os ++ s = sym (drop-drop (length (opBytes o)) p d) ∙ ap (λ (x : List ℕ). drop (length (opBytes o)) x) e′ ∙ drop-append-seam (opBytes o) (opsBytes os ++ s) in
-      let g = op-is o c p done (opsBytes os ++ s) a (v .0) (omega arith) e′ in
-      let g′ = ops-are os (g .to) (p + length (opBytes o)) more s (g .at) (v .1) (omega (arith, l)) t in
+      let g = op-is o c p done (opsBytes os ++ s) a (every-head v) (omega arith) e′ in
+      let g′ = ops-are os (g .to) (p + length (opBytes o)) more s (g .at) (every-tail v) (omega (arith, l)) t in
       record {
         to = g′ .to;
         reads = rw (g .reads) (g′ .reads);

@@ -1,12 +1,12 @@
--- The ops that are written for a column turn the old column into the new one, end within it, and have counts that can be written.
-use Prim.Native.Nat.{ℕ, zero, suc, _+_, _-_, _*_, _/_, _%_, _<_, _≤_, min}
+-- The ops that are written for a column turn the old column into the new one, and end within it.
+use Prim.Native.Nat.{ℕ, zero, suc, _+_, _-_, _*_, _/_, _%_, _≤_}
 use native.Mathlib.Nat.{zero-add, add-zero, add-assoc, div-add-mod'}
 use native.Mathlib.Omega.{arith}
 use mathlib.Core.Bool.{Bool, true, false}
 use mathlib.Core.List.{List, [], _∷_, _++_, append-assoc, append-nil}
 use mathlib.Core.Path.{_≡_, refl, sym, ap, _∙_}
 use lib.Dec.{leb, eqb}
-use lib.ListN.{length, take, drop, replicate, length-append, length-take, length-drop, length-replicate, replicate-append-replicate, take-append-drop}
+use lib.ListN.{length, take, drop, replicate, length-append, length-drop, length-replicate, replicate-append-replicate, take-append-drop}
 use lib.Seq.{take-add, drop-drop, drop-length}
 use borrow.Author.Tests.{eqb-true}
 use Rattle.runs.specs.Runs.{Run, runsOf}
@@ -214,55 +214,6 @@ column-new old new h = go (leb (length (opsOf (runsOf new old))) 255) refl
     go true e = rw (e, columnOps) (ops-patch (runsOf new old) old ∙ patch-runs new old (sym h))
     go false e = rw (e, columnOps) (uniqs-column old new h)
 
--- every op has 1 to 127 rows, a Same 1 to 255
-unfoldable pub Valid : Op → Type 0
-Valid (skip n) = (0 < n) × (n < 128)
-Valid (uniq vs) = (0 < length vs) × (length vs < 128)
-Valid (same n v) = (0 < n) × (n < 256)
-
-unfoldable pub ValidAll : List Op → Type 0
-ValidAll [] = Unit {0}
-ValidAll (o ∷ os) = Valid o × ValidAll os
-
-valid-append : (os ps : List Op) → ValidAll os → ValidAll ps → ValidAll (os ++ ps)
-unfolding ValidAll
-valid-append [] ps p q = q
-valid-append (o ∷ os) ps p q = (p .0, valid-append os ps (p .1) q)
-
-valid-many : (k : ℕ) (o : Op) → Valid o → ValidAll (replicate k o)
-unfolding ValidAll
-valid-many zero o p = tt
-valid-many (suc k) o p = (p, valid-many k o p)
-
-valid-rest : (r : ℕ) (o : Op) → (0 < r → Valid o) → ValidAll (restOf r o)
-unfolding ValidAll restOf
-valid-rest zero o p = tt
-valid-rest (suc r) o p = (p (omega arith), tt)
-
-valid-uniqs : (k : ℕ) (vs : List ℕ) → ValidAll (uniqs k vs)
-unfolding ValidAll uniqs Valid
-valid-uniqs zero vs = tt
-valid-uniqs (suc k) [] = tt
-valid-uniqs (suc k) (v ∷ vs) =
-    let e : length (take 127 (v ∷ vs)) ≡ min 127 (length (v ∷ vs)) = length-take 127 (v ∷ vs) in
-    ((omega arith, omega arith), valid-uniqs k (drop 127 (v ∷ vs)))
-
-valid-cut : (o : Op) → ValidAll (cut o)
-unfolding cut Valid
-valid-cut (skip n) = valid-append (replicate (n / 127) (skip 127)) (restOf (n % 127) (skip (n % 127))) (valid-many (n / 127) (skip 127) (omega arith)) (valid-rest (n % 127) (skip (n % 127)) (λ h. (h, omega arith)))
-valid-cut (uniq vs) = valid-uniqs (length vs) vs
-valid-cut (same n v) = valid-append (replicate (n / 255) (same 255 v)) (restOf (n % 255) (same (n % 255) v)) (valid-many (n / 255) (same 255 v) (omega arith)) (valid-rest (n % 255) (same (n % 255) v) (λ h. (h, omega arith)))
-
-valid-cut-all : (os : List Op) → ValidAll (cutAll os)
-unfolding cutAll ValidAll
-valid-cut-all [] = tt
-valid-cut-all (o ∷ os) = valid-append (cut o) (cutAll os) (valid-cut o) (valid-cut-all os)
-
-valid-ops : (rs : List Run) → ValidAll (opsOf rs)
-unfolding opsOf ValidAll
-valid-ops [] = tt
-valid-ops (r ∷ rs) = valid-append (cutAll (skip (r .gap) ∷ stretch (groupsOf (r .old)))) (opsOf rs) (valid-cut-all (skip (r .gap) ∷ stretch (groupsOf (r .old)))) (valid-ops rs)
-
 -- the ops end within the column
 reach-ops : (rs : List Run) (room : ℕ) → Fit room rs → reachAll (opsOf rs) ≤ room
 unfolding Fit
@@ -270,14 +221,6 @@ reach-ops [] room f = unfold opsOf reachAll in omega arith
 reach-ops (r ∷ rs) room f =
     let e : reachAll (skip (r .gap) ∷ uniq (r .old) ∷ opsOf rs) ≡ r .gap + (length (r .old) + reachAll (opsOf rs)) = unfold reachAll in refl in
     omega (arith, run-alike r rs .far, e, reach-ops rs (room - (r .gap + length (r .old))) (f .1), f .0)
-
-pub valid-column : (old new : List ℕ) → ValidAll (columnOps old new)
-unfolding columnOps
-valid-column old new = go (leb (length (opsOf (runsOf new old))) 255) refl
-  where
-    go : (t : Bool) → leb (length (opsOf (runsOf new old))) 255 ≡ t → ValidAll (columnOps old new)
-    go true e = rw (e, columnOps) (valid-ops (runsOf new old))
-    go false e = rw (e, columnOps) (valid-uniqs (length new) new)
 
 pub reach-column : (old new : List ℕ) → length old ≡ length new → reachAll (columnOps old new) ≤ length old
 unfolding columnOps

@@ -12,11 +12,12 @@ use lib.Seq.{getD-set-other, getD-set-same, drop-drop, drop-append-seam, take-al
 use borrow.Author.Tests.{ltb-true, ltb-false}
 use Rattle.laws.specs.Result.{Res, Res.ok}
 use Rattle.column.specs.Column.{Op, columnOps, opsBytes, columnBytes}
+use Rattle.column.specs.BoundLaws.{valid-column}
 use Rattle.writer.specs.Write.{columnAt, columnIn, columnsBytes}
-use Rattle.delta.specs.Delta.{Reading, byteAt, readOps, readColumn, readColumns, draw}
-use Rattle.roundtrip.specs.OpLaws.{reachAll, passedAll, valid-column, reach-column, column, column-new}
+use Rattle.delta.specs.Delta.{Reading, byteAt, readOps, readColumn, readColumns}
+use Rattle.roundtrip.specs.OpLaws.{reachAll, passedAll, reach-column, column, column-new}
 use Rattle.writer.specs.ColumnLaws.{length-column}
-use Rattle.roundtrip.specs.ColumnLaws.{putColumn, length-putColumn, put-kept, length-passedAll, Head, head, byte-is, bytewise, col, At, ops-are}
+use Rattle.roundtrip.specs.ColumnLaws.{putColumn, length-putColumn, put-kept, length-passedAll, Head, head, byte-is, bytewise, Makes, col, At, ops-are}
 
 -- the new column, put at once
 put-new : (row height : ℕ) → 1 ≤ row → (f new : List ℕ) (base : ℕ) (os : List Op)
@@ -115,10 +116,10 @@ paint-in new row height (suc k) at f ks s (suc c) r x y l =
 
 -- the columns that are written, read
 module _ (row height planes : ℕ) (s1 : 1 ≤ row) (d first old new : List ℕ) where
-  -- a reading that stands at a place with the ops so far drawn to a frame
+  -- a reading that stands at a place, whose ops so far make a frame
   pub record Stands (c : Reading) (p : ℕ) (f : List ℕ) : Type 0 where
     pub op : c .opAt ≡ p
-    pub drawn : draw (bytewise row height planes) d (c .ops) first ≡ f
+    pub makes : Makes row height planes d first (c .ops) f
 
   pub record Painted (r : Res Reading) (p : ℕ) (f : List ℕ) : Type 0 where
     pub to : Reading
@@ -144,14 +145,14 @@ module _ (row height planes : ℕ) (s1 : 1 ≤ row) (d first old new : List ℕ)
       let hd : Head d p (length os) (opsBytes os ++ s) = head d p (length os) (opsBytes os ++ s) e in
       let far : reachAll os ≤ height = omega (arith, reach-column oc nc (lo ∙ sym ln)) in
       let start : At row height planes s1 d first at f (record { opAt = c .opAt + 1; itemAt = c .itemAt; line = 0; ops = c .ops }) (p + 1) [] =
-      record { op = rw (w .op); line = refl; drawn = w .drawn } in
+      record { op = rw (w .op); line = refl; makes = w .makes } in
       let g = ops-are row height planes s1 d first at f os (record { opAt = c .opAt + 1; itemAt = c .itemAt; line = 0; ops = c .ops }) (p + 1) [] s start (valid-column oc nc) (omega arith) (rw (add-one p) (hd .after)) in
       record {
         to = g .to;
         reads = column-reads at (length os) c (g .to) (rw (w .op) (byte-is d p (length os) (opsBytes os ++ s) hd)) (g .reads);
         stands = record {
           op = g .at .op ∙ omega arith;
-          drawn = g .at .drawn ∙ put-new row height s1 f new at os far (rw a (column-new oc nc (lo ∙ sym ln)));
+          makes = rw (put-new row height s1 f new at os far (rw a (column-new oc nc (lo ∙ sym ln)))) at (g .at .makes);
         };
       }
 
@@ -160,7 +161,7 @@ module _ (row height planes : ℕ) (s1 : 1 ≤ row) (d first old new : List ℕ)
       → drop p d ≡ columnsBytes old new row height k at ++ s
       → Painted (readColumns (bytewise row height planes) d k at c) (p + length (columnsBytes old new row height k at)) (paint new row height k at f)
   unfolding readColumns columnsBytes paint
-  columns-are zero at p c f s ks w a e = record { to = c; reads = refl; stands = record { op = w .op ∙ omega arith; drawn = w .drawn } }
+  columns-are zero at p c f s ks w a e = record { to = c; reads = refl; stands = record { op = w .op ∙ omega arith; makes = w .makes } }
   columns-are (suc k) at p c f s ks w a e =
       let nc : List ℕ = columnAt new row at height in
       let C : List ℕ = columnIn old new row height at in
@@ -175,5 +176,5 @@ module _ (row height planes : ℕ) (s1 : 1 ≤ row) (d first old new : List ℕ)
       record {
         to = h .to;
         reads = rw (g .reads) (h .reads);
-        stands = record { op = h .stands .op ∙ omega (arith, length-append C R); drawn = h .stands .drawn };
+        stands = record { op = h .stands .op ∙ omega (arith, length-append C R); makes = h .stands .makes };
       }

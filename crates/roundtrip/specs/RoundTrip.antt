@@ -12,6 +12,7 @@ use borrow.Author.Tests.{le-leb, eq-eqb, ne-eqb, ltb-true, ltb-false, eqb-true}
 use Rattle.laws.specs.Result.{Res.ok, _>>=_}
 use Rattle.laws.specs.ResultLaws.{each-is}
 use Rattle.laws.specs.Bytes.{be32, four-bytes}
+use Rattle.laws.specs.Every.{Every, Every.every-none}
 use Rattle.state.specs.declared.Sizes.{Sizes}
 use Rattle.state.specs.State.{rowBytes, frameBytes, frameLength}
 use Rattle.state.specs.StateLaws.{Sound, sizes-sound}
@@ -19,9 +20,9 @@ use Rattle.column.specs.Column.{columnBytes}
 use Rattle.writer.specs.LengthLaws.{lists-few}
 use Rattle.writer.specs.Write.{columnIn, columnsBytes, equal, planeBytes, be32Bytes, pointerOf, pointersBytes, listsBytes, deltaBytes}
 use Rattle.writer.specs.PlaneLaws.{length-be32, pointers-length}
-use Rattle.delta.specs.Delta.{Reading, shapeOf, readColumns, pointer, readPlane, readPlanes, readPicture, readDelta, draw, newFrame, readFrame}
+use Rattle.delta.specs.Delta.{Op, Reading, shapeOf, readColumns, pointer, readPlane, readPlanes, readPicture, readDelta, draw, newFrame, readFrame}
 use Rattle.anhd.specs.declared.Items.the-variants.{Bytes}
-use Rattle.roundtrip.specs.ColumnLaws.{bytewise}
+use Rattle.roundtrip.specs.ColumnLaws.{bytewise, Makes, HasRows}
 use Rattle.roundtrip.specs.PlaneLaws.{paint, length-paint, paint-out, paint-in, columnAt-rows, columns-are}
 
 -- a frame that is the new one before a place and the old one from there on
@@ -120,7 +121,7 @@ module _ (row height planes : ℕ) (s1 : 1 ≤ row) (d first old new : List ℕ)
   -- a reading whose ops so far make the new frame before a place and the old one from there on
   record Made (c : Reading) (at : ℕ) : Type 0 where
     frame : List ℕ
-    drawn : draw (bytewise row height planes) d (c .ops) first ≡ frame
+    makes : Makes row height planes d first (c .ops) frame
     half : Half frame old new at
 
   -- a plane that was read
@@ -143,18 +144,18 @@ module _ (row height planes : ℕ) (s1 : 1 ≤ row) (d first old new : List ℕ)
       same-plane q u = record {
         to = c;
         reads = plane-none row height planes d p c (eb ∙ rw q (unfold pointerOf in refl));
-        made = record { frame = m .frame; drawn = m .drawn; half = half-equal row height s1 old new at (m .frame) u (m .half) };
+        made = record { frame = m .frame; makes = m .makes; half = half-equal row height s1 old new at (m .frame) u (m .half) };
       }
 
       new-plane : planeBytes old new row height at ≡ columnsBytes old new row height row at → Done p at c
       new-plane q =
           let start : Reading = record { opAt = place; itemAt = 0; line = 0; ops = c .ops } in
-          let g = columns-are row height planes s1 d first old new row at place start (m .frame) s (omega arith) (record { op = refl; drawn = m .drawn })
+          let g = columns-are row height planes s1 d first old new row at place start (m .frame) s (omega arith) (record { op = refl; makes = m .makes })
           (λ i k. columnAt-rows (m .frame) old row (at + i) height (λ r y. m .half .after (at + i + r * row) (omega arith))) (rw q at e) in
           record {
             to = g .to;
             reads = plane-some row height planes d p place c (g .to) (eb ∙ rw q (some-bytes row at s1 place)) h1 h2 at ea (g .reads);
-            made = record { frame = paint new row height row at (m .frame); drawn = g .stands .drawn; half = half-paint row height s1 old new at (m .frame) hn (m .half) };
+            made = record { frame = paint new row height row at (m .frame); makes = g .stands .makes; half = half-paint row height s1 old new at (m .frame) hn (m .half) };
           }
 
       go : (t : Bool) → equal (take (height * row) (drop at old)) (take (height * row) (drop at new)) ≡ t → Done p at c
@@ -165,15 +166,17 @@ module _ (row height planes : ℕ) (s1 : 1 ≤ row) (d first old new : List ℕ)
   record Whole (k p : ℕ) (c : Reading) : Type 0 where
     to : Reading
     reads : readPlanes (bytewise row height planes) d k p c ≡ ok to
-    drawn : draw (bytewise row height planes) d (to .ops) first ≡ new
+    makes : Makes row height planes d first (to .ops) new
 
   planes-are : (k p at place : ℕ) (c : Reading) → at ≡ p * (height * row) → at + k * (height * row) ≡ length new → Made c at → Layout k p at place → Whole k p c
   unfolding readPlanes Layout
-  planes-are zero p at place c ea el m y = record { to = c; reads = refl; drawn = m .drawn ∙ ext-getD 0 (m .frame) new (m .half .long) (λ i h. m .half .before i (omega (arith, m .half .long))) }
+  planes-are zero p at place c ea el m y =
+      let e : m .frame ≡ new = ext-getD 0 (m .frame) new (m .half .long) (λ i h. m .half .before i (omega (arith, m .half .long))) in
+      record { to = c; reads = refl; makes = rw e at (m .makes) }
   planes-are (suc k) p at place c ea el m y =
       let g = plane-is p at place c (y .3) ea (omega arith) m (y .0) (y .1) (y .2) (y .4) in
       let w = planes-are k (p + 1) (at + height * row) (place + length (planeBytes old new row height at)) (g .to) (omega arith) (omega arith) (g .made) (y .5) in
-      record { to = w .to; reads = rw (g .reads) (w .reads); drawn = w .drawn }
+      record { to = w .to; reads = rw (g .reads) (w .reads); makes = w .makes }
 
   -- what is written is so laid out
   layout-is : (k p at place : ℕ) (xs ys zs : List ℕ) → length d < 4294967296 → 64 ≤ place
@@ -199,11 +202,15 @@ module _ (row height planes : ℕ) (s1 : 1 ≤ row) (d first old new : List ℕ)
             (e2 ∙ sym (append-assoc zs L R)) (omega (arith, length-append zs L)),
       )
 
--- the ops of a delta that is written turn the old picture into the new one
-pub delta-turns : (z : Sizes) (n : ℕ) (old new : List ℕ) → Sound z n → length old ≡ n → length new ≡ n
-    → (readDelta (shapeOf z Bytes) (deltaBytes z old new) >>= λ ops. ok (draw (shapeOf z Bytes) (deltaBytes z old new) ops old)) ≡ ok new
+-- a delta that is written can be read; its ops make the new picture of the old one, with no Uniq or Same of none among them
+record Reads (z : Sizes) (old new : List ℕ) : Type 0 where
+  ops : List Op
+  reads : readDelta (shapeOf z Bytes) (deltaBytes z old new) ≡ ok ops
+  makes : Makes (rowBytes (z .width)) (z .height) (z .planes) (deltaBytes z old new) old ops new
+
+delta-reads : (z : Sizes) (n : ℕ) (old new : List ℕ) → Sound z n → length old ≡ n → length new ≡ n → Reads z old new
 unfolding readDelta readPicture deltaBytes frameBytes
-delta-turns z n old new b lo ln =
+delta-reads z n old new b lo ln =
     let row : ℕ = rowBytes (z .width) in
     let P : List ℕ = pointersBytes old new row (z .height) (z .planes) 0 64 in
     let Z : List ℕ = replicate (64 - 4 * z .planes) 0 in
@@ -216,10 +223,24 @@ delta-turns z n old new b lo ln =
     let h64 : 64 ≤ length (P ++ Z ++ R) = omega (arith, length-append (P ++ Z) R) in
     let start : Reading = record { opAt = 0; itemAt = 0; line = 0; ops = [] } in
     let made : Made row (z .height) (z .planes) s1 (P ++ Z ++ R) old old new start 0 =
-    record { frame = old; drawn = unfold draw in refl; half = record { long = lo ∙ sym ln; before = λ j h. absurd (omega arith); after = λ j h. refl } } in
+    record {
+      frame = old;
+      makes = record { drawn = unfold draw in refl; rows = every-none };
+      half = record { long = lo ∙ sym ln; before = λ j h. absurd (omega arith); after = λ j h. refl };
+    } in
     let w = planes-are row (z .height) (z .planes) s1 (P ++ Z ++ R) old old new (z .planes) 0 0 64 start (omega arith) (omega (arith, b .length)) made
     (layout-is row (z .height) (z .planes) s1 (P ++ Z ++ R) old old new (z .planes) 0 0 64 [] (Z ++ R) (P ++ Z) hd (omega arith) (append-assoc P Z R) (omega arith) refl lz) in
-    rw (le-leb 64 (length (P ++ Z ++ R)) h64) (rw (w .reads) (ap (λ (l : List ℕ). ok l) (w .drawn)))
+    record { ops = w .to .ops; reads = rw (le-leb 64 (length (P ++ Z ++ R)) h64) (rw (w .reads)); makes = w .makes }
+
+-- the ops of a delta that is written turn the old picture into the new one
+pub delta-turns : (z : Sizes) (n : ℕ) (old new : List ℕ) → Sound z n → length old ≡ n → length new ≡ n
+    → (readDelta (shapeOf z Bytes) (deltaBytes z old new) >>= λ ops. ok (draw (shapeOf z Bytes) (deltaBytes z old new) ops old)) ≡ ok new
+delta-turns z n old new b lo ln = let w = delta-reads z n old new b lo ln in rw (w .reads) (ap (λ (l : List ℕ). ok l) (w .makes .drawn))
+
+-- no Uniq and no Same of none is among the ops of a delta that is written
+pub never-none : (z : Sizes) (n : ℕ) (old new : List ℕ) → Sound z n → length old ≡ n → length new ≡ n
+    → (ops : List Op) × (readDelta (shapeOf z Bytes) (deltaBytes z old new) ≡ ok ops) × Every HasRows ops
+never-none z n old new b lo ln = let w = delta-reads z n old new b lo ln in (w .ops, w .reads, w .makes .rows)
 
 -- the frame that the written delta makes of the old picture is the new one
 pub written-turns : (z : Sizes) (n : ℕ) (old new : List ℕ) → frameLength z ≡ ok n → length old ≡ n → length new ≡ n → newFrame z Bytes (deltaBytes z old new) old n ≡ ok new

@@ -1,4 +1,5 @@
 -- `delta::column::draw_op`: the rows of an op that was read lie in the column.
+use native.Mathlib.Nat.{mul-le-mul-right}
 use native.Mathlib.Omega.{arith}
 use mathlib.Core.Path.{subst}
 use Rattle.delta.specs.Delta.{readOp}
@@ -25,22 +26,20 @@ mul-place : tie.Need-mul-place
 mul-place c =
     let b = c .before .before .before .before .before .before .before .before in
     let a = b .args in
-    let w = subst (OpRead (a .shape) (a .d .now) (readOp (a .shape) (a .d .now)) (a .c)) (c .before .before .before .t3 .given .1) (c .before .before .before .before .before .take-op .ensures) in
-    omega (arith, w .some-rows, w .rows, b .pre .1 .lies (a .c .line) (omega (arith, w .some-rows, w .rows)))
+    omega (arith, b .pre .1 .below, mul-le-mul-right (a .shape .row) (b .pre .2 .line))
 
 add-place : tie.Need-add-place
 add-place c =
     let b = c .before .before .before .before .before .before .before .before in
     let a = b .args in
-    let w = subst (OpRead (a .shape) (a .d .now) (readOp (a .shape) (a .d .now)) (a .c)) (c .before .before .before .t3 .given .1) (c .before .before .before .before .before .take-op .ensures) in
-    omega (arith, w .some-rows, w .rows, b .pre .1 .lies (a .c .line) (omega (arith, w .some-rows, w .rows)))
+    omega (arith, b .pre .1 .below, mul-le-mul-right (a .shape .row) (b .pre .2 .line))
 
 draw-rows-requires : tie.Need-draw-rows-requires
 draw-rows-requires c κs =
     let b = c .before .before .before .before .before .before .before .before .before in
     let a = b .args in
     let w = subst (OpRead (a .shape) (a .d .now) (readOp (a .shape) (a .d .now)) (a .c)) (c .before .before .before .before .t3 .given .1) (c .before .before .before .before .before .before .take-op .ensures) in
-    (b .pre .0, rows-inside (b .pre .1) (a .c .line) _ (w .rows), w .items)
+    (b .pre .0, rows-inside (b .pre .1 .rows) (a .c .line) _ (w .rows), w .items)
 
 returns : tie.Need-returns
 returns c =

@@ -1,0 +1,268 @@
+-- Every refusal of a definition has a number of the table.
+use Prim.Native.Nat.{ℕ, zero, suc, _+_, _-_, _*_, _/_}
+use mathlib.Core.Bool.{Bool, true, false, _&&_, _||_, not}
+use mathlib.Core.List.{List, []}
+use mathlib.Core.Option.{Option, none, some}
+use mathlib.Core.Path.{_≡_, refl}
+use lib.Dec.{leb, ltb, eqb}
+use lib.ListN.{length, getD, take}
+use Rattle.laws.specs.Bytes.{be32}
+use Rattle.laws.specs.Result.{Res, Res.ok, Res.fault, _>>=_, need, orRefuse, pick}
+use Rattle.laws.specs.LoopLaws.{Comes, Comes.comes-next, Comes.comes-done, comes-pick, runs-holds}
+use Rattle.refusal.specs.Number.{isNumber}
+use Rattle.state.specs.declared.Sizes.{Sizes}
+use Rattle.state.specs.declared.State.{State}
+use Rattle.state.specs.State.{within, rowBytes, frameLength, stateLength}
+use Rattle.state.specs.World.{World, shownOf}
+use Rattle.iff.specs.Chunk.{FORM, Chunk, Part, Walk, padded, chunkAt, orPart, partOf, walkOn, walkStep, find, contents}
+use Rattle.form.specs.Form.{animEnd, Frame as Form, chunksOf, passOn, frameStep, nextFrame, ANIM, ILBM}
+use Rattle.iff.specs.Both.{andHas, hasBoth}
+use Rattle.bmhd.specs.Header.{sizesAt, refusedAs, header}
+use Rattle.anhd.specs.Anhd.{bitsOk, columnsOk, itemsOf, frameHeader}
+use Rattle.anhd.specs.declared.Items.{Items}
+use Rattle.ilbm.specs.ByteRun.{Row, Kind, Kind.copies, Kind.nothing, Kind.repeats, kindOf, packetAs, packetAt, withPacket, unpackOn, unpackRow}
+use Rattle.ilbm.specs.Body.{rowAt, rowsFrom, body}
+use Rattle.delta.specs.Delta.{shapeOf, Reading, byteAt, skip, fill, Kind as OpKind, Kind.same, Kind.skips, Kind.uniq, kindOf as opKindOf, opAs, readOp, readOps, readColumn, readColumns, pointer, readPlane, readPlanes, readPicture, readDelta}
+use Rattle.frame.specs.Frame.{ANHD, Frame, frameIn, frameOr, frameAt}
+use Rattle.opening.specs.Open.{placesIn, firstPlaces, bmhdAt, bodyAt, firstSize, firstOf, opening}
+use Rattle.record.specs.Record.{pastOf, restored}
+use Rattle.player.specs.Step.{ready, change, make, advance}
+use Rattle.back.specs.Back.{retreat}
+use Rattle.shown.specs.Row.{rowPlace}
+use Rattle.writer.specs.Write.{deltaBytes, written}
+
+-- a value, or a refusal with a number of the table
+pub data InTable {A : Type 0} : Res A → Type 0 where
+  table-value : {a : A} → InTable (ok a)
+  table-refusal : {n : ℕ} → isNumber n ≡ true → InTable (fault n)
+
+table-bind : {A B : Type 0} {r : Res A} {f : A → Res B} → InTable r → ((a : A) → InTable (f a)) → InTable (r >>= f)
+table-bind (table-value {a = a}) k = k a
+table-bind (table-refusal h) k = table-refusal h
+
+table-need : {B : Type 0} (t : Bool) (n : ℕ) (f : Unit {0} → Res B) → isNumber n ≡ true → InTable (f tt) → InTable (need t n >>= f)
+table-need true n f h k = k
+table-need false n f h k = table-refusal h
+
+table-test : (t : Bool) (n : ℕ) → isNumber n ≡ true → InTable (need t n)
+table-test true n h = table-value
+table-test false n h = table-refusal h
+
+table-refuse : {A : Type 0} (n : ℕ) (o : Option A) → isNumber n ≡ true → InTable (orRefuse n o)
+table-refuse n (some a) h = table-value
+table-refuse n none h = table-refusal h
+
+table-pick : {A : Type 0} (t : Bool) {x y : Res A} → InTable x → InTable y → InTable (pick t x y)
+table-pick true h k = h
+table-pick false h k = k
+
+-- chunks
+chunk-table : (s : List ℕ) (at : ℕ) → InTable (chunkAt s at)
+unfolding chunkAt
+chunk-table s at = table-pick (leb (length s) at) table-value (table-need (leb (at + 8) (length s)) 21 _ refl (table-need (leb (at + 8 + padded (be32 s (at + 4))) (length s)) 21 _ refl table-value))
+
+find-table : (id : ℕ) (s : List ℕ) → InTable (find id s)
+unfolding find
+find-table id s = runs-holds (walkStep id s) (λ w. length s - w .at) (fault 21) (λ w. InTable (w .answer)) InTable (table-refusal {n = 21} refl) (λ w h. step w h (chunkAt s (w .at)) (chunk-table s (w .at))) _ table-value
+  where
+    or-table : (r : Res (Option Part)) (p : Part) → InTable r → InTable (orPart r p)
+    or-table (ok none) p h = table-value
+    or-table (ok (some q)) p h = table-value
+    or-table (fault n) p (table-refusal h) = table-refusal h
+
+    step : (w : Walk) → InTable (w .answer) → (q : Res (Option Chunk)) → InTable q → Comes (λ (v : Walk). InTable (v .answer)) InTable (walkOn id w q)
+    step w h (ok (some c)) k = comes-next (table-pick (eqb (c .id) id) (or-table (w .answer) (partOf c) h) h)
+    step w h (ok none) k = comes-done h
+    step w h (fault n) (table-refusal k) = comes-done (table-refusal k)
+
+both-table : (x y : ℕ) (s : List ℕ) → InTable (hasBoth x y s)
+unfolding hasBoth
+both-table x y s = table-bind (find-table x s) go
+  where
+    go : (o : Option Part) → InTable (andHas y s o)
+    go (some p) = table-bind (find-table y s) λ q. table-value
+    go none = table-value
+
+form-table : (s : List ℕ) (from : ℕ) → InTable (nextFrame s from)
+unfolding nextFrame
+form-table s from = runs-holds (frameStep s) (λ at. length s - at) (fault 21) (λ _. Unit {0}) InTable (table-refusal {n = 21} refl) (λ at _. step (chunkAt s at) (chunk-table s at)) from tt
+  where
+    step : (q : Res (Option Chunk)) → InTable q → Comes (λ (_ : ℕ). Unit {0}) InTable (passOn s q)
+    step (ok (some c)) k =
+        comes-pick (eqb (c .id) FORM)
+        (λ _. comes-pick (leb 4 (c .size)) (λ _. comes-pick (eqb (be32 s (c .start)) ILBM) (λ _. comes-done table-value) (λ _. comes-next tt)) (λ _. comes-done (table-refusal {n = 21} refl)))
+        (λ _. comes-next tt)
+    step (ok none) k = comes-done table-value
+    step (fault n) (table-refusal k) = comes-done (table-refusal k)
+
+-- the first picture's places and its frame's length
+places-table : (file : List ℕ) → InTable (firstPlaces file)
+unfolding firstPlaces animEnd placesIn
+places-table file =
+    table-need (leb (length file) 2_147_483_647) 13 _ refl
+    (table-bind (table-need (leb 12 (length file)) 21 _ refl (table-need (eqb (be32 file 0) FORM && eqb (be32 file 8) ANIM) 22 _ refl
+    (table-need (leb 4 (be32 file 4)) 21 _ refl (table-need (leb (be32 file 4 + 8) (length file)) 21 _ refl table-value)))) λ end.
+    table-bind (form-table (take end file) 12) λ o. table-bind (table-refuse 23 o refl) λ x. table-bind (both-table _ _ (chunksOf (take end file) x)) λ t. table-need t 23 _ refl table-value)
+
+length-table : (z : Sizes) → InTable (frameLength z)
+unfolding frameLength
+length-table z = table-need (within 1 1024 (z .width)) 11 _ refl (table-need (within 1 1024 (z .height)) 11 _ refl (table-need (within 1 8 (z .planes)) 11 _ refl table-value))
+
+header-table : (s : List ℕ) → InTable (header s)
+unfolding header
+header-table s =
+    table-need (eqb (length s) 20) 24 _ refl
+    (table-bind (refused-table (frameLength (sizesAt s))) λ n. table-need (not (eqb (getD s 9 0) 1)) 24 _ refl (table-need (leb (getD s 10 0) 1) 24 _ refl table-value))
+  where
+    refused-table : {A : Type 0} (r : Res A) → InTable (refusedAs 24 r)
+    refused-table (ok a) = table-value
+    refused-table (fault n) = table-refusal {n = 24} refl
+
+pub size-table : (file : List ℕ) → InTable (firstSize file)
+unfolding firstSize
+size-table file = table-bind (places-table file) λ p. table-bind (header-table _) λ z. table-value
+
+-- a later frame
+frame-table : (s : List ℕ) (B at : ℕ) → InTable (frameAt s B at)
+unfolding frameAt frameIn frameHeader
+frame-table s B at = table-bind (form-table s at) go
+  where
+    anhd-table : (d : List ℕ) → InTable (frameHeader B d)
+    anhd-table d =
+        table-need (leb 40 (length d)) 32 _ refl (table-need (eqb (getD d 0 0) 5 || eqb (getD d 0 0) 7) 33 _ refl (table-need (eqb (getD d 18 0) 0 || eqb (getD d 18 0) 2) 34 _ refl
+        (table-need (bitsOk (getD d 0 0) (be32 d 20)) 35 _ refl (table-need (columnsOk (itemsOf (getD d 0 0) (be32 d 20)) B) 36 _ refl table-value))))
+
+    go : (o : Option Form) → InTable (frameOr s B o)
+    go none = table-value
+    go (some x) =
+        table-bind
+        (table-bind (both-table _ _ (chunksOf s x)) λ t. table-need t 31 _ refl
+        (table-bind (anhd-table (contents ANHD (chunksOf s x))) λ h. table-value))
+        λ f. table-value
+
+-- the first picture's BODY
+packet-table : (s : List ℕ) (at room : ℕ) → InTable (packetAt s at room)
+unfolding packetAt
+packet-table s at room = table-need (ltb at (length s)) 25 _ refl (go (kindOf (getD s at 0)))
+  where
+    go : (k : Kind) → InTable (packetAs s at room k)
+    go (copies n) = table-need (leb n room) 25 _ refl (table-need (leb (at + 1 + n) (length s)) 25 _ refl table-value)
+    go nothing = table-value
+    go (repeats n) = table-need (leb n room) 25 _ refl (table-need (leb (at + 2) (length s)) 25 _ refl table-value)
+
+unpack-table : (s : List ℕ) (B at : ℕ) → InTable (unpackRow s B at)
+unfolding unpackRow
+unpack-table s B at = runs-holds (unpackOn s B) (λ (w : Row). length s - w .next) (fault 25) (λ _. Unit {0}) InTable (table-refusal {n = 25} refl) (λ w _. step w) (record { bytes = []; next = at }) tt
+  where
+    with-table : (w : Row) (r : Res Row) → InTable r → Comes (λ (_ : Row). Unit {0}) InTable (withPacket w r)
+    with-table w (ok p) h = comes-next tt
+    with-table w (fault n) (table-refusal h) = comes-done (table-refusal h)
+
+    step : (w : Row) → Comes (λ (_ : Row). Unit {0}) InTable (unpackOn s B w)
+    step w = comes-pick (leb B (length (w .bytes))) (λ _. comes-done table-value) (λ _. with-table w (packetAt s (w .next) (B - length (w .bytes))) (packet-table s (w .next) (B - length (w .bytes))))
+
+row-table : (packed : Bool) (s : List ℕ) (B at : ℕ) → InTable (rowAt packed s B at)
+unfolding rowAt
+row-table true s B at = unpack-table s B at
+row-table false s B at = table-need (leb (at + B) (length s)) 25 _ refl table-value
+
+rows-table : (packed : Bool) (s : List ℕ) (B k at : ℕ) → InTable (rowsFrom packed s B k at)
+unfolding rowsFrom
+rows-table packed s B zero at = table-value
+rows-table packed s B (suc k) at = table-bind (row-table packed s B at) λ r. table-bind (rows-table packed s B k (r .next)) λ rs. table-value
+
+pub opening-table : (file : List ℕ) (a b : ℕ) → InTable (opening file a b)
+unfolding opening firstOf body
+opening-table file a b =
+    table-bind (places-table file) λ p.
+    table-bind
+    (table-bind (header-table (bmhdAt file p)) λ z. table-need (eqb a (z .length)) 12 _ refl (table-need (eqb b (z .length)) 12 _ refl
+    (table-bind (table-bind (rows-table (z .packed) (bodyAt file p) (rowBytes (z .sizes .width)) (z .sizes .height * z .sizes .planes) 0) λ rs. table-value) λ f. table-value)))
+    λ f. table-value
+
+-- a delta
+module _ (z : Sizes) (i : Items) (d : List ℕ) where
+  byte-table : (p : ℕ) → InTable (byteAt d p)
+  unfolding byteAt
+  byte-table p = table-need (ltb p (length d)) 42 _ refl table-value
+
+  fill-table : (base : ℕ) (c : Reading) (p n size step : ℕ) → InTable (fill (shapeOf z i) d base c p n size step)
+  unfolding fill
+  fill-table base c p n size step =
+      table-need (leb (c .line + n) (shapeOf z i .height)) 43 _ refl
+      (table-need (leb (pick (shapeOf z i .inline) p (c .itemAt) + size) (length d)) 42 _ refl table-value)
+
+  op-table : (base : ℕ) (c : Reading) → InTable (readOp (shapeOf z i) d base c)
+  unfolding readOp skip
+  op-table base c = table-bind (byte-table (c .opAt)) λ b. go (opKindOf b)
+    where
+      go : (k : OpKind) → InTable (opAs (shapeOf z i) d base c k)
+      go same = table-bind (byte-table (c .opAt + 1)) λ n. fill-table base c (c .opAt + 2) n (shapeOf z i .item) 0
+      go (skips n) = table-need (leb (c .line + n) (shapeOf z i .height)) 43 _ refl table-value
+      go (uniq n) = fill-table base c (c .opAt + 1) n (n * shapeOf z i .item) (shapeOf z i .item)
+
+  ops-table : (base k : ℕ) (c : Reading) → InTable (readOps (shapeOf z i) d base k c)
+  unfolding readOps
+  ops-table base zero c = table-value
+  ops-table base (suc k) c = table-bind (op-table base c) λ e. ops-table base k e
+
+  columns-table : (k base : ℕ) (c : Reading) → InTable (readColumns (shapeOf z i) d k base c)
+  unfolding readColumns readColumn
+  columns-table zero base c = table-value
+  columns-table (suc k) base c = table-bind (table-bind (byte-table (c .opAt)) λ n. ops-table base n _) λ e. columns-table k (base + shapeOf z i .item) e
+
+  pointer-table : (p : ℕ) → InTable (pointer d p)
+  unfolding pointer
+  pointer-table p = table-need (leb 64 (be32 d (4 * p))) 41 _ refl (table-need (leb (be32 d (4 * p)) (length d)) 41 _ refl table-value)
+
+  planes-table : (k p : ℕ) (c : Reading) → InTable (readPlanes (shapeOf z i) d k p c)
+  unfolding readPlanes readPlane
+  planes-table zero p c = table-value
+  planes-table (suc k) p c =
+      table-bind
+      (table-pick (eqb (be32 d (4 * p)) 0) table-value
+      (table-bind (pointer-table p) λ a. table-bind (table-pick (shapeOf z i .inline) table-value (pointer-table (p + 8))) λ b. columns-table (shapeOf z i .row / shapeOf z i .item) (p * (shapeOf z i .height * shapeOf z i .row)) _))
+      λ e. planes-table k (p + 1) e
+
+  delta-table : InTable (readDelta (shapeOf z i) d)
+  unfolding readDelta readPicture
+  delta-table = table-bind (table-need (leb 64 (length d)) 41 _ refl (planes-table (shapeOf z i .planes) 0 _)) λ c. table-value
+
+-- the state
+state-table : (s : State) → InTable (stateLength s)
+unfolding stateLength
+state-table s = table-need (within 1 1_000_000 (s .frame)) 11 _ refl (table-need (within 12 (s .end) (s .next)) 11 _ refl (table-need (leb (s .end) 2_147_483_647) 11 _ refl (length-table (s .sizes))))
+
+-- stepping on, but for the record's length
+pub on-table : (file : ℕ) (anim : List ℕ) (s : State) (shown hidden : List ℕ) (a b work : ℕ) → InTable (ready file s a b work >>= λ _. advance anim s shown hidden)
+unfolding ready advance change
+on-table file anim s shown hidden a b work =
+    table-bind
+    (table-bind (state-table s) λ n.
+    table-need (leb (s .end) file) 11 _ refl (table-need (eqb a n) 12 _ refl (table-need (eqb b n) 12 _ refl (table-need (eqb work n) 12 _ refl (table-test (ltb (s .frame) 1_000_000) 53 refl)))))
+    λ _. table-bind (frame-table anim (rowBytes (s .sizes .width)) (s .next)) made
+  where
+    made : (o : Option Frame) → InTable (make s shown hidden o)
+    made none = table-value
+    made (some x) = table-bind (table-bind (delta-table (s .sizes) (x .header .items) (x .dlta)) λ ops. table-value) λ f. table-value
+
+-- stepping back
+pub back-table : (w : World) (bytes : List ℕ) → InTable (retreat w bytes)
+unfolding retreat restored
+back-table w bytes =
+    table-bind (state-table (w .state)) λ n. table-need (eqb (length (w .a)) n) 12 _ refl (table-need (eqb (length (w .b)) n) 12 _ refl
+    (table-bind (table-refuse 61 (pastOf bytes (shownOf w)) refl) λ p.
+    table-need (leb 2 (p .frame)) 62 _ refl (table-need (eqb (p .frame) (w .state .frame)) 62 _ refl (table-need (leb 12 (p .place)) 62 _ refl (table-need (ltb (p .place) (w .state .next)) 62 _ refl table-value)))))
+
+-- a row
+pub place-table : (s : State) (a b plane row : ℕ) → InTable (rowPlace s a b plane row)
+unfolding rowPlace
+place-table s a b plane row =
+    table-bind (state-table s) λ n. table-need (eqb a n) 12 _ refl (table-need (eqb b n) 12 _ refl
+    (table-need (ltb plane (s .sizes .planes)) 14 _ refl (table-need (ltb row (s .sizes .height)) 14 _ refl table-value)))
+
+-- the writer
+pub written-table : (z : Sizes) (old new : List ℕ) (room : ℕ) → InTable (written z old new room)
+unfolding written
+written-table z old new room =
+    table-bind (length-table z) λ n. table-need (eqb (length old) n) 12 _ refl (table-need (eqb (length new) n) 12 _ refl (table-need (leb (length (deltaBytes z old new)) room) 51 _ refl table-value))
