@@ -55,7 +55,7 @@ extern "C" {
 #endif
 
 /* The version of the interface. It grows by one with every landing that changes the interface. */
-#define ANIM_VERSION 1
+#define ANIM_VERSION 2
 
 /* Limits. */
 #define ANIM_MAX_WIDTH 1024                /* pixels */
@@ -69,7 +69,7 @@ extern "C" {
 #define ANIM_OK 0  /* opened, taken or written; the size is answered; the row is there */
 #define ANIM_END 1 /* stepping on: no frame is left, nothing changed */
 
-/* Refusals. */
+/* Refusals. 44, once a Uniq or Same of none, is retired: no call is refused with it, and it isn't used again. */
 #define ANIM_OUTSIDE_LIMITS 11     /* a state or size outside the limits; a state, report, size or length lent with a wrong length */
 #define ANIM_BUFFER_LENGTH 12      /* a picture or work buffer that isn't exactly a frame long */
 #define ANIM_FILE_TOO_LONG 13      /* a file of more than 2147483647 bytes */
@@ -88,7 +88,6 @@ extern "C" {
 #define ANIM_BAD_POINTER 41        /* DLTA under 64 bytes, or a pointer outside 64 to its length */
 #define ANIM_DELTA_TOO_SHORT 42    /* an op count, op, count byte or item past DLTA's end */
 #define ANIM_OP_PAST_LAST_ROW 43   /* an op past the last row */
-#define ANIM_ZERO_COUNT 44         /* a Uniq or Same of count 0 */
 #define ANIM_NO_ROOM 51            /* a record or delta longer than its buffer */
 #define ANIM_LAST_FRAME 53         /* stepping on from frame 1000000 */
 #define ANIM_BAD_RECORD 61         /* a malformed record, bytes left over, or an old byte equal to the one it replaces */
@@ -184,7 +183,6 @@ static inline const char *anim_refusal_text(uint64_t answer) {
     case ANIM_BAD_POINTER: return "DLTA is too short for its pointers, or a pointer is bad";
     case ANIM_DELTA_TOO_SHORT: return "an op or its data passes DLTA's end";
     case ANIM_OP_PAST_LAST_ROW: return "an op passes the last row";
-    case ANIM_ZERO_COUNT: return "an op has a count of 0";
     case ANIM_NO_ROOM: return "the record or delta is longer than its buffer";
     case ANIM_LAST_FRAME: return "no step goes on from frame 1000000";
     case ANIM_BAD_RECORD: return "the record is malformed, or doesn't fit the shown picture";
@@ -271,9 +269,10 @@ uint64_t anim_open(const uint8_t *file, size_t file_length,
  *   41  DLTA is shorter than 64 bytes
  *   then plane by plane
  *   41  a pointer that is read doesn't lead to 64 .. DLTA's length
- *   42, 43, 44  the first fault of the plane's list: for each column its op count past DLTA's end
- *       (42), and for each op its first byte past DLTA's end (42), the count byte of a Same likewise
- *       (42), a count of 0 (44), an end past the last row (43), items past DLTA's end (42)
+ *   42, 43  the first fault of the plane's list: for each column its op count past DLTA's end (42),
+ *       and for each op its first byte past DLTA's end (42), the count byte of a Same likewise (42),
+ *       an end past the last row (43), items past DLTA's end (42). A Uniq or Same of none (count 0)
+ *       isn't refused: it moves nothing, and the Same still takes its item
  *   51  the record is longer than its buffer
  *
  * Taken: the hidden buffer and the work buffer hold the new frame, the shown buffer is as it was, the

@@ -5,6 +5,7 @@ pub mod fences;
 pub mod large;
 pub mod limits;
 pub mod listings;
+pub mod none;
 pub mod orders;
 pub mod records;
 pub mod writer;

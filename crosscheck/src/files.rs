@@ -159,12 +159,15 @@ fn random_lists(random: &mut Random, sizes: Sizes, items: usize, values: usize, 
         let start = ops.len();
         ops.push(0);
         let (mut y, mut count) = (0, 0);
-        while y < sizes.height && count < 255 && !random.once_in(calm) {
+        while count < 255 && !random.once_in(calm) {
             let left = sizes.height - y;
-            let most = [127, 255, 127][count % 3].min(left);
-            let rows = if random.once_in(4) { most } else { random.from_to(1, most) };
-            let kind = random.below(3);
-            let rows = if kind == 1 { rows } else { rows.min(127) };
+            let kind = if left == 0 || random.once_in(6) { random.from_to(1, 2) } else { random.below(3) };
+            let most = if kind == 1 { 255 } else { 127 }.min(left);
+            let rows = match random.below(8) {
+                0 if kind > 0 => 0,
+                0..=2 => most,
+                _ => random.from_to(1, most.max(1)).min(most),
+            };
             match kind {
                 0 => ops.push(rows as u8),
                 1 => ops.extend([0, rows as u8]),

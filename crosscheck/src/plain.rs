@@ -22,7 +22,7 @@ pub const MAX_FILE: u64 = 2_147_483_647;
 /// The first place where a chunk can stand in FORM ANIM.
 pub const FIRST_PLACE: u64 = 12;
 
-/// The refusals of document 01 with their numbers.
+/// The refusals with their numbers. 44 is retired: it isn't used again.
 #[derive(Clone, Copy, Debug, PartialEq, Eq)]
 pub enum Refusal {
     OutsideLimits = 11,
@@ -43,7 +43,6 @@ pub enum Refusal {
     BadPointer = 41,
     DeltaTooShort = 42,
     OpPastLastRow = 43,
-    ZeroCount = 44,
     NoRoom = 51,
     LastFrame = 53,
     BadRecord = 61,

@@ -74,16 +74,17 @@ fn header(set: u32) -> Vec<u8> {
     header
 }
 
-/// A delta of two columns with its things wrong: the last item missing, a Same of none, an op past the last row, a pointer into the pointers.
+/// A delta of two columns with its things wrong: the last item missing, an op past the last row, a pointer into the pointers. A Same of none is one of
+/// the things though nothing is wrong with it; where no op passes the last row it comes last, and the missing item is its own.
 fn delta(set: u32) -> Vec<u8> {
     let mut delta = vec![0; 64];
     delta[3] = if has(set, 8) { 63 } else { 64 };
     delta.extend([1, 0x82, 1, 2]);
     let column: &[u8] = match (has(set, 6), has(set, 7)) {
         (false, false) => &[1, 0x82, 3, 4],
-        (true, false) => &[1, 0, 0, 3],
+        (true, false) => &[2, 0x82, 3, 4, 0, 0, 5],
         (false, true) => &[2, 1, 0x82, 3, 4],
-        (true, true) => &[2, 0x83, 3, 4, 5, 0, 0, 6],
+        (true, true) => &[3, 0, 0, 5, 1, 0x82, 3, 4],
     };
     delta.extend(column);
     if has(set, 5) {
@@ -92,7 +93,7 @@ fn delta(set: u32) -> Vec<u8> {
     delta
 }
 
-/// Stepping on with each set of sixteen things wrong.
+/// Stepping on with each set of fifteen things wrong, with and without a Same of none.
 pub fn steps_on(check: &mut Check) -> Checked<()> {
     for set in 0..1 << 16 {
         let mut parts = vec![files::chunk(b"DLTA", &delta(set))];

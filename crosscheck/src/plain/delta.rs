@@ -115,15 +115,21 @@ fn walk_plane<'a, const W: usize>(mut ops: &'a [u8], mut data: &'a [u8], sizes: 
         if broken("data-starts-anew") {
             data = all_data;
         }
-        let mut y = 0;
-        for _ in 0..take_byte(&mut ops)? {
+        let (mut y, mut left) = (0, take_byte(&mut ops)?);
+        while left > 0 {
+            left -= 1;
             let op = usize::from(take_byte(&mut ops)?);
             let rows = match op {
                 0 => usize::from(take_byte(&mut ops)?),
                 1..=127 => op,
                 _ => op - 128,
             };
-            need(rows > 0, ZeroCount)?;
+            left += u8::from(rows == 0 && broken("none-not-counted"));
+            if rows == 0 && none_misread::<W>(op, &mut ops, &mut data, &mut y, sizes.height)? {
+                continue;
+            }
+            let rows = if rows == 0 && op == 0 && broken("same-of-none-256") { 256 } else { rows };
+            let drawn = if rows == 0 && y < sizes.height && broken("same-of-none-drawn") { 1 } else { rows };
             let list = if W == 1 { &mut ops } else { &mut data };
             if broken("items-before-last-row") {
                 let items = [W, 0, rows * W][usize::from(op > 0) + usize::from(op > 127)];
@@ -134,13 +140,38 @@ fn walk_plane<'a, const W: usize>(mut ops: &'a [u8], mut data: &'a [u8], sizes: 
             let at = at + y * row + column * W;
             y += rows;
             match op {
-                0 => put(Put::Same { at, rows, item: take(list, W)? }),
+                0 => put(Put::Same { at, rows: drawn, item: take(list, W)? }),
                 1..=127 => (),
                 _ => put(Put::Uniq { at, items: take(list, rows * W)? }),
             }
         }
     }
     Ok(())
+}
+
+/// The wrong readings of an op of none; true if nothing of the op is left.
+fn none_misread<'a, const W: usize>(op: usize, ops: &mut &'a [u8], data: &mut &'a [u8], y: &mut usize, height: usize) -> Answer<bool> {
+    need(!broken("none-refused"), OpPastLastRow)?;
+    need(*y < height || !broken("none-at-end"), OpPastLastRow)?;
+    if broken(if op == 0 { "same-of-none-down" } else { "uniq-of-none-down" }) && *y < height {
+        *y += 1;
+    }
+    let list = if W == 1 { &mut *ops } else { data };
+    if op > 0 {
+        if broken("uniq-of-none-item") {
+            take(list, W)?;
+        }
+        return Ok(false);
+    }
+    if broken("same-of-none-absent-item") && list.len() < W {
+        *list = &[];
+        return Ok(true);
+    }
+    if broken("same-of-none-item-inline") {
+        take(ops, W)?;
+        return Ok(true);
+    }
+    Ok(broken("same-of-none-no-item") || *y == height && broken("same-of-none-at-end"))
 }
 
 /// Takes a byte off the front.

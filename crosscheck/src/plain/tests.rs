@@ -1,4 +1,4 @@
-//! The bench examples of document 01 that are about parts, and the outside listings.
+//! The bench examples of document 01 that are about parts, ops of none, and the outside listings.
 use super::delta::{check, draw, Items};
 use super::*;
 use crate::files;
@@ -56,6 +56,14 @@ fn lists_of_method_5() {
 }
 
 #[test]
+fn ops_of_none() {
+    assert_eq!(drawn(&[3, 0x80, 0x82, 0xaa, 0xbb, 0x80, 0]), Ok(vec![0xaa, 0, 0xbb, 0]));
+    assert_eq!(drawn(&[3, 1, 0, 0, 0xcc, 0x81, 0xdd, 0]), Ok(vec![0, 0, 0xdd, 0]));
+    assert_eq!(drawn(&[2, 2, 0, 0, 0xcc, 1, 0x81, 0xee]), Ok(vec![0, 0xee, 0, 0]));
+    assert_eq!(drawn(&[0, 1, 0, 0]), Err(DeltaTooShort));
+}
+
+#[test]
 fn pointer_into_the_pointers() {
     let mut dlta = delta_of(&[0, 0]);
     dlta[3] = 63;
@@ -99,5 +107,5 @@ fn outside_listings() {
     for vector in &vectors {
         assert_eq!(list(&vector.file), vector.listing, "{}", vector.name);
     }
-    assert_eq!(vectors.len(), 58);
+    assert_eq!(vectors.len(), 80);
 }

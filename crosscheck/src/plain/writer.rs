@@ -109,6 +109,10 @@ impl Ops<'_> {
             self.count += 1;
             self.list.extend([0, count, value]);
         }
+        if broken("same-of-none-written") && rows.is_multiple_of(255) {
+            self.count += 1;
+            self.list.extend([0, 0, value]);
+        }
     }
 
     fn uniqs(&mut self, rows: &[u8]) {
@@ -116,6 +120,10 @@ impl Ops<'_> {
             self.count += 1;
             self.list.push(128 + part.len() as u8);
             self.list.extend_from_slice(part);
+        }
+        if broken("uniq-of-none-written") && rows.len().is_multiple_of(127) && !rows.is_empty() {
+            self.count += 1;
+            self.list.push(128);
         }
     }
 }
