@@ -20,6 +20,10 @@ use Rattle.delta.specs.WalkLaws.{pick-same}
 pub rows-inside : {n base row w height : ℕ} → Inside n base row w height → (line count : ℕ) → line + count ≤ height → Inside n (base + line * row) row w count
 rows-inside {n} {base} {row} {w} {height} v line count h = record { lies = λ k l. omega (arith, v .lies (line + k) (omega arith)) }
 
+-- the place of a row, and of the one below the last, fits into a usize
+pub place-fits : {S : Shape} {n base line : ℕ} → Column S n base → line ≤ S .height → base + line * S .row ≤ 18446744073709551615
+place-fits {S} v h = omega (arith, v .below, mul-le-mul-right (S .row) h)
+
 -- items from a place on
 items-inside : {size step w count : ℕ} → Inside size 0 step w count → (n from : ℕ) → from + size ≤ n → Inside n from step w count
 items-inside v n from h = record { lies = λ k l. omega (arith, v .lies k l) }

@@ -1,11 +1,10 @@
 -- `delta::column::draw_op`: the rows of an op that was read lie in the column.
-use native.Mathlib.Nat.{mul-le-mul-right}
 use native.Mathlib.Omega.{arith}
 use mathlib.Core.Path.{subst}
 use Rattle.delta.specs.Delta.{readOp}
 use Rattle.delta.specs.Walk.{OpRead}
 use Rattle.delta.specs.WalkLaws.{next-here, refused-here}
-use Rattle.delta.specs.FillLaws.{rows-inside, rows-walked, pass-walked}
+use Rattle.delta.specs.FillLaws.{rows-inside, place-fits, rows-walked, pass-walked}
 use borrow.Author.Needs.{needs}
 use Rattle.delta.proofs.column.draw_op.Statement.{statement}
 use Rattle.delta.proofs.column.draw_op.Tie as tie
@@ -23,16 +22,10 @@ enum-known-t-3 : tie.Need-enum-known-t-3
 enum-known-t-3 c = search needs
 
 mul-place : tie.Need-mul-place
-mul-place c =
-    let b = c .before .before .before .before .before .before .before .before in
-    let a = b .args in
-    omega (arith, b .pre .1 .below, mul-le-mul-right (a .shape .row) (b .pre .2 .line))
+mul-place c = let b = c .before .before .before .before .before .before .before .before in omega (arith, place-fits (b .pre .1) (b .pre .2 .line))
 
 add-place : tie.Need-add-place
-add-place c =
-    let b = c .before .before .before .before .before .before .before .before in
-    let a = b .args in
-    omega (arith, b .pre .1 .below, mul-le-mul-right (a .shape .row) (b .pre .2 .line))
+add-place c = let b = c .before .before .before .before .before .before .before .before in omega (arith, place-fits (b .pre .1) (b .pre .2 .line))
 
 draw-rows-requires : tie.Need-draw-rows-requires
 draw-rows-requires c κs =
