@@ -1,31 +1,60 @@
--- A Uniq of none and a Same of none (document 02, E4) move nothing; the Same still takes its item, and an absent one is 42.
+-- A Uniq of none and a Same of none (document 02, E4) move nothing; the Same still takes its item, and an absent one is 42. How they are told
+-- from Skips.
 use Prim.Native.Nat.{ℕ, _+_, _*_, _<_, _≤_}
 use native.Mathlib.Omega.{arith}
+use mathlib.Core.Bool.{true}
 use mathlib.Core.List.{List, [], _∷_, _++_}
 use mathlib.Core.Path.{_≡_, refl}
 use lib.Dec.{leb}
 use lib.ListN.{length}
 use borrow.Author.Tests.{le-leb, lt-leb}
 use Rattle.laws.specs.Result.{Res.ok, Res.fault, pick}
-use Rattle.laws.specs.ResultLaws.{Each, Each.each, each-need}
-use Rattle.delta.specs.Delta.{Op, Reading, byteAt, fill, Kind.same, Kind.uniq, opAs, put, draw}
+use Rattle.laws.specs.ResultLaws.{Each, Each.each, each-any, each-map, each-need}
+use Rattle.delta.specs.Delta.{Op, noRows, Reading, byteAt, skip, fill, Kind, Kind.same, Kind.skips, Kind.uniq, opAs, put, draw}
 use Rattle.delta.specs.declared.Shape.{Shape}
 
--- an op that moves nothing was read: its own bytes end at p, it has size bytes of items, it is one op more, and it draws nothing
-pub record MovesNothing (S : Shape) (d : List ℕ) (c : Reading) (p size : ℕ) (next : Reading) : Type 0 where
-  pub line : next .line ≡ c .line
+-- an op with size bytes of items for n rows was read; its own bytes end at p
+pub record Fills (S : Shape) (c : Reading) (p n size : ℕ) (next : Reading) : Type 0 where
+  pub line : next .line ≡ c .line + n
   pub opAt : next .opAt ≡ pick (S .inline) (p + size) p
   pub itemAt : next .itemAt ≡ pick (S .inline) (c .itemAt) (c .itemAt + size)
   pub op : Op
   pub counted : next .ops ≡ c .ops ++ (op ∷ [])
-  pub drawn : (f : List ℕ) → draw S d (op ∷ []) f ≡ f
+  pub count : op .count ≡ n
+  pub from : op .from ≡ pick (S .inline) p (c .itemAt)
+
+-- such an op moves nothing: the row stays, and nothing is drawn
+pub record MovesNothing (S : Shape) (d : List ℕ) (c : Reading) (p size : ℕ) (next : Reading) : Type 0 where
+  pub read : Fills S c p 0 size next
+  pub line : next .line ≡ c .line
+  pub drawn : (f : List ℕ) → draw S d (read .op ∷ []) f ≡ f
+
+-- an op with a place for items has rows: it isn't a Uniq or Same of none
+abbrev pub HasRows : Op → Type 0
+HasRows o = 0 < o .from → 0 < o .count
+
+-- with method 5 a Uniq and a Same have a place for items; a Skip has none
+abbrev pub PlaceIn : Kind → Op → Type 0
+PlaceIn same o = 0 < o .from
+PlaceIn (skips n) o = o .from ≡ 0
+PlaceIn (uniq n) o = (0 < o .from) × (o .count ≡ n)
+
+-- one op, of a kind, comes after the ops so far
+pub record Adds (k : Kind) (before after : List Op) : Type 0 where
+  pub op : Op
+  pub more : after ≡ before ++ (op ∷ [])
+  pub place : PlaceIn k op
 
 module _ (S : Shape) (d : List ℕ) (base : ℕ) (c : Reading) where
+  fill-reads : (p n size step : ℕ) → Each (Fills S c p n size) (fill S d base c p n size step)
+  unfolding fill
+  fill-reads p n size step =
+      each-need (leb (c .line + n) (S .height)) 43 _ λ _. each-need (leb (pick (S .inline) p (c .itemAt) + size) (length d)) 42 _ λ _.
+      each (record { line = refl; opAt = refl; itemAt = refl; op = _; counted = refl; count = refl; from = refl })
+
   fill-none : (p size step : ℕ) → Each (MovesNothing S d c p size) (fill S d base c p 0 size step)
-  unfolding fill draw put
-  fill-none p size step =
-      each-need (leb (c .line + 0) (S .height)) 43 _ λ _. each-need (leb (pick (S .inline) p (c .itemAt) + size) (length d)) 42 _ λ _.
-      each (record { line = omega arith; opAt = refl; itemAt = refl; op = _; counted = refl; drawn = λ f. refl })
+  unfolding draw put
+  fill-none p size step = each-map (λ next w. record { read = w; line = omega (arith, w .line); drawn = λ f. rw (w .count) }) (fill-reads p 0 size step)
 
   pub uniq-of-none : Each (MovesNothing S d c (c .opAt + 1) 0) (opAs S d base c (uniq 0))
   uniq-of-none = let z : 0 * S .item ≡ 0 = omega arith in rw z (fill-none (c .opAt + 1) 0 (S .item))
@@ -37,3 +66,17 @@ module _ (S : Shape) (d : List ℕ) (base : ℕ) (c : Reading) where
     pub same-absent : c .line ≤ S .height → length d < pick (S .inline) (c .opAt + 2) (c .itemAt) + S .item → opAs S d base c same ≡ fault 42
     unfolding fill
     same-absent l h = simp (e, le-leb (c .line + 0) (S .height) (omega arith), lt-leb _ _ h)
+
+  -- reading an op of method 5 adds one of its kind
+  module _ (inline : S .inline ≡ true) where
+    place-after : {p n size : ℕ} {next : Reading} → 0 < p → (w : Fills S c p n size next) → 0 < w .op .from
+    place-after h w = rw (w .from, inline) h
+
+    pub has-place : (k : Kind) → Each (λ next. Adds k (c .ops) (next .ops)) (opAs S d base c k)
+    unfolding skip
+    has-place same =
+        each-any (byteAt d (c .opAt + 1)) λ n.
+        each-map (λ next w. record { op = w .op; more = w .counted; place = place-after (omega arith) w }) (fill-reads (c .opAt + 2) n (S .item) 0)
+    has-place (skips n) = each-need (leb (c .line + n) (S .height)) 43 _ λ _. each (record { op = noRows; more = refl; place = refl })
+    has-place (uniq n) =
+        each-map (λ next w. record { op = w .op; more = w .counted; place = (place-after (omega arith) w, w .count) }) (fill-reads (c .opAt + 1) n (n * S .item) (S .item))

@@ -1,6 +1,7 @@
 -- The number of each refusal: document 01's table, row by row, but for 44, which is retired (E4) and isn't given again.
 use Prim.Native.Nat.{ℕ}
-use mathlib.Core.Bool.{Bool, _||_}
+use mathlib.Core.Bool.{Bool, false, _||_}
+use mathlib.Core.List.{List, [], _∷_}
 use lib.Dec.{eqb}
 use Rattle.refusal.specs.declared.Refusal.{Refusal}
 use Rattle.refusal.specs.declared.Refusal.the-variants.{OutsideLimits, BufferLength, FileTooLong, NoSuchRow, ChunkPastParent, NotFormAnim, NoPicture, BadBmhd, BadBody, NoDelta, ShortAnhd, UnknownMethod, UnknownInterleave, UnknownOptions, OddLongColumns, BadPointer, DeltaTooShort, OpPastLastRow, NoRoom, LastFrame, BadRecord, OtherRecord}
@@ -29,12 +30,13 @@ numberOf LastFrame = 53
 numberOf BadRecord = 61
 numberOf OtherRecord = 62
 
--- whether a number is one of these
+-- the numbers that are given, and whether a number is one of them
+abbrev pub numbers : List ℕ
+numbers = 11 ∷ 12 ∷ 13 ∷ 14 ∷ 21 ∷ 22 ∷ 23 ∷ 24 ∷ 25 ∷ 31 ∷ 32 ∷ 33 ∷ 34 ∷ 35 ∷ 36 ∷ 41 ∷ 42 ∷ 43 ∷ 51 ∷ 53 ∷ 61 ∷ 62 ∷ []
+
+abbrev pub among : ℕ → List ℕ → Bool
+among n [] = false
+among n (m ∷ ms) = eqb n m || among n ms
+
 abbrev pub isNumber : ℕ → Bool
-isNumber n =
-    eqb n 11 || eqb n 12 || eqb n 13 || eqb n 14
-    || eqb n 21 || eqb n 22 || eqb n 23 || eqb n 24 || eqb n 25
-    || eqb n 31 || eqb n 32 || eqb n 33 || eqb n 34 || eqb n 35 || eqb n 36
-    || eqb n 41 || eqb n 42 || eqb n 43
-    || eqb n 51 || eqb n 53
-    || eqb n 61 || eqb n 62
+isNumber n = among n numbers

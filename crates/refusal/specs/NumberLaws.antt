@@ -1,12 +1,13 @@
 -- Every refusal has a number of the table; so 44, which is retired, is no refusal's. The numbers have two digits.
-use Prim.Native.Nat.{ℕ, _<_, _≤_}
+use Prim.Native.Nat.{ℕ, _<_}
 use native.Mathlib.Omega.{arith}
-use mathlib.Core.Bool.{Bool, true, false}
+use mathlib.Core.Bool.{Bool, true, false, _&&_, _||_}
+use mathlib.Core.List.{List, [], _∷_}
 use mathlib.Core.Path.{_≡_, refl, sym, ap, _∙_}
-use lib.Dec.{ltb}
-use borrow.Author.Tests.{ne-eqb, ltb-true, ltb-false}
+use lib.Dec.{eqb, ltb}
+use borrow.Author.Tests.{eqb-true, ltb-true}
 use Rattle.laws.specs.ResultLaws.{false-true}
-use Rattle.refusal.specs.Number.{numberOf, isNumber}
+use Rattle.refusal.specs.Number.{numberOf, numbers, among, isNumber}
 use Rattle.refusal.specs.declared.Refusal.{Refusal}
 use Rattle.refusal.specs.declared.Refusal.the-variants.{OutsideLimits, BufferLength, FileTooLong, NoSuchRow, ChunkPastParent, NotFormAnim, NoPicture, BadBmhd, BadBody, NoDelta, ShortAnhd, UnknownMethod, UnknownInterleave, UnknownOptions, OddLongColumns, BadPointer, DeltaTooShort, OpPastLastRow, NoRoom, LastFrame, BadRecord, OtherRecord}
 
@@ -37,35 +38,21 @@ is-number OtherRecord = refl
 pub retired : (r : Refusal) → numberOf r ≡ 44 → ⊥
 retired r e = false-true (sym (ap isNumber e) ∙ is-number r)
 
-pub two-digits : (n : ℕ) → isNumber n ≡ true → n < 100
-two-digits n e = go (ltb n 100) refl
-  where
-    none : 100 ≤ n → isNumber n ≡ false
-    none h = simp (
-      ne-eqb n 11 (λ z. omega arith),
-      ne-eqb n 12 (λ z. omega arith),
-      ne-eqb n 13 (λ z. omega arith),
-      ne-eqb n 14 (λ z. omega arith),
-      ne-eqb n 21 (λ z. omega arith),
-      ne-eqb n 22 (λ z. omega arith),
-      ne-eqb n 23 (λ z. omega arith),
-      ne-eqb n 24 (λ z. omega arith),
-      ne-eqb n 25 (λ z. omega arith),
-      ne-eqb n 31 (λ z. omega arith),
-      ne-eqb n 32 (λ z. omega arith),
-      ne-eqb n 33 (λ z. omega arith),
-      ne-eqb n 34 (λ z. omega arith),
-      ne-eqb n 35 (λ z. omega arith),
-      ne-eqb n 36 (λ z. omega arith),
-      ne-eqb n 41 (λ z. omega arith),
-      ne-eqb n 42 (λ z. omega arith),
-      ne-eqb n 43 (λ z. omega arith),
-      ne-eqb n 51 (λ z. omega arith),
-      ne-eqb n 53 (λ z. omega arith),
-      ne-eqb n 61 (λ z. omega arith),
-      ne-eqb n 62 (λ z. omega arith),
-    )
+-- one computed test over the numbers
+allBelow : ℕ → List ℕ → Bool
+allBelow b [] = true
+allBelow b (m ∷ ms) = ltb m b && allBelow b ms
 
-    go : (t : Bool) → ltb n 100 ≡ t → n < 100
-    go true h = ltb-true n 100 h
-    go false h = false-true (sym (none (ltb-false n 100 h)) ∙ e)
+among-below : (b n : ℕ) (ms : List ℕ) → allBelow b ms ≡ true → among n ms ≡ true → n < b
+unfolding allBelow
+among-below b n [] a e = false-true e
+among-below b n (m ∷ ms) a e = go (eqb n m) refl (ltb m b) refl (among-below b n ms) a e
+  where
+    go : (t : Bool) → eqb n m ≡ t → (u : Bool) → ltb m b ≡ u → (allBelow b ms ≡ true → among n ms ≡ true → n < b) → u && allBelow b ms ≡ true → t || among n ms ≡ true → n < b
+    go true q true p later a e = omega (arith, eqb-true n m q, ltb-true m b p)
+    go false q true p later a e = later a e
+    go t q false p later a e = false-true a
+
+pub two-digits : (n : ℕ) → isNumber n ≡ true → n < 100
+unfolding allBelow
+two-digits n e = among-below 100 n numbers refl e

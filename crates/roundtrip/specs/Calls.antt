@@ -16,8 +16,8 @@ use Rattle.state.specs.StateLaws.{sizes-sound}
 use Rattle.anhd.specs.declared.Items.the-variants.{Bytes}
 use Rattle.delta.specs.Delta.{Op, shapeOf, readDelta, draw, newFrame, Applies}
 use Rattle.delta.specs.DeltaLaws.{same-answer}
+use Rattle.delta.specs.NoneLaws.{HasRows}
 use Rattle.writer.specs.Write.{deltaBytes, written, bufferAfter, Writes}
-use Rattle.roundtrip.specs.ColumnLaws.{HasRows}
 use Rattle.roundtrip.specs.RoundTrip.{delta-turns, never-none, written-turns}
 
 -- a delta of k bytes that can be written: the sizes are within the limits, and both pictures have a frame's length

@@ -6,18 +6,17 @@ use native.Mathlib.Omega.{arith}
 use mathlib.Core.Bool.{true}
 use mathlib.Core.List.{List, [], _∷_, _++_, append-assoc, append-nil}
 use mathlib.Core.Path.{_≡_, refl, sym, ap, _∙_}
-use lib.Dec.{leb}
 use lib.ListN.{length, getD, take, drop, set, replicate, length-append, length-take, length-drop, length-set, length-replicate}
 use lib.Seq.{drop-cons, set-getD, getD-set-other, drop-drop, take-append-seam, drop-append-seam}
 use borrow.Author.Tests.{lt-ltb, le-leb, lt-leb, ne-eqb}
-use Rattle.laws.specs.Result.{Res, Res.ok, pick}
-use Rattle.laws.specs.ResultLaws.{Each, Each.each, each-any, each-need}
+use Rattle.laws.specs.Result.{Res, Res.ok}
 use Rattle.laws.specs.Every.{Every, every-head, every-tail, every-more}
-use Rattle.column.specs.Column.{Op, Op.skip, Op.uniq, Op.same as sameRows, opBytes, opsBytes}
+use Rattle.column.specs.Column.{Op, Op.skip, Op.uniq, Op.same, opBytes, opsBytes}
 use Rattle.column.specs.BoundLaws.{Valid}
 use Rattle.writer.specs.Write.{columnAt}
 use Rattle.writer.specs.ColumnLaws.{length-column}
-use Rattle.delta.specs.Delta.{Op as Stroke, noRows, Reading, byteAt, skip as skipRows, fill, Kind, Kind.same, Kind.skips, Kind.uniq as uniqs, kindOf, opAs, readOp, readOps, put, draw}
+use Rattle.delta.specs.Delta.{Op as Stroke, noRows, Reading, byteAt, skip as skipRows, fill, Kind.skips, Kind.uniq as uniqs, kindOf, readOp, readOps, put, draw}
+use Rattle.delta.specs.NoneLaws.{HasRows}
 use Rattle.delta.specs.declared.Shape.{Shape}
 use Rattle.roundtrip.specs.OpLaws.{reach, passed, reachAll, passedAll}
 
@@ -134,7 +133,7 @@ byte-is d p x t h = rw (lt-ltb p (length d) (h .within), h .is)
 length-passed : (o : Op) (c : List ℕ) → reach o ≤ length c → length (passed o c) ≡ reach o
 length-passed (skip n) c h = omega (arith, length-take n c)
 length-passed (uniq vs) c h = refl
-length-passed (sameRows n x) c h = length-replicate n x
+length-passed (same n x) c h = length-replicate n x
 
 pub length-passedAll : (os : List Op) (c : List ℕ) → reachAll os ≤ length c → length (passedAll os c) ≡ reachAll os
 unfolding passedAll reachAll
@@ -160,36 +159,6 @@ draw-more S d (x ∷ os) o f = draw-more S d os o (put (S .item) (S .row) (x .st
 -- the shape of method 5
 abbrev pub bytewise : ℕ → ℕ → ℕ → Shape
 bytewise row height planes = record { item = 1; inline = true; row = row; height = height; planes = planes }
-
--- not a Uniq or Same of none: an op with a place for items has rows
-abbrev pub HasRows : Stroke → Type 0
-HasRows o = 0 < o .from → 0 < o .count
-
--- with method 5 a Uniq and a Same have a place for items; a Skip has none
-abbrev pub PlaceIn : Kind → Stroke → Type 0
-PlaceIn same o = 0 < o .from
-PlaceIn (skips n) o = o .from ≡ 0
-PlaceIn (uniqs n) o = (0 < o .from) × (o .count ≡ n)
-
--- one op, of a kind, comes after the ops so far
-pub record Adds (k : Kind) (before after : List Stroke) : Type 0 where
-  pub op : Stroke
-  pub more : after ≡ before ++ (op ∷ [])
-  pub place : PlaceIn k op
-
-fill-adds : (k : Kind) (S : Shape) (d : List ℕ) (base : ℕ) (c : Reading) (p n size step : ℕ) → S .inline ≡ true → ((o : Stroke) → 0 < o .from → o .count ≡ n → PlaceIn k o) → 0 < p
-    → Each (λ c′. Adds k (c .ops) (c′ .ops)) (fill S d base c p n size step)
-unfolding fill
-fill-adds k S d base c p n size step e h l =
-    each-need (leb (c .line + n) (S .height)) 43 _ λ _. each-need (leb (pick (S .inline) p (c .itemAt) + size) (length d)) 42 _ λ _.
-    each (record { op = _; more = refl; place = h _ (rw e l) refl })
-
--- reading an op of method 5 adds one of its kind
-pub has-place : (S : Shape) (d : List ℕ) (base : ℕ) (c : Reading) (k : Kind) → S .inline ≡ true → Each (λ c′. Adds k (c .ops) (c′ .ops)) (opAs S d base c k)
-unfolding skipRows
-has-place S d base c same e = each-any (byteAt d (c .opAt + 1)) λ n. fill-adds same S d base c (c .opAt + 2) n (S .item) 0 e (λ o h l. h) (omega arith)
-has-place S d base c (skips n) e = each-need (leb (c .line + n) (S .height)) 43 _ λ _. each (record { op = noRows; more = refl; place = refl })
-has-place S d base c (uniqs n) e = fill-adds (uniqs n) S d base c (c .opAt + 1) n (n * S .item) (S .item) e (λ o h l. (h, l)) (omega arith)
 
 module _ (row height planes : ℕ) (d first : List ℕ) where
   -- ops that make the frame f of the first one, with no Uniq or Same of none among them
@@ -273,7 +242,7 @@ module _ (row height planes : ℕ) (s1 : 1 ≤ row) (d : List ℕ) (first : List
               (put-uniq row d (length vs) (p + 1) (base + length done * row) (putColumn f row base done) (omega arith) ∙ rw (w, put-append f row base done vs));
         };
       }
-  op-is (sameRows n x) c p done s a v h e =
+  op-is (same n x) c p done s a v h e =
       let hd : Head d p 0 (n ∷ x ∷ s) = head d p 0 (n ∷ x ∷ s) e in
       let h2 : Head d (p + 1) n (x ∷ s) = head d (p + 1) n (x ∷ s) (rw (add-one p) (hd .after)) in
       let h3 : Head d (p + 2) x s = head d (p + 2) x s (rw (add-two p) (rw (add-one p) at (h2 .after))) in

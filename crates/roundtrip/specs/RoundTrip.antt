@@ -21,8 +21,9 @@ use Rattle.writer.specs.LengthLaws.{lists-few}
 use Rattle.writer.specs.Write.{columnIn, columnsBytes, equal, planeBytes, be32Bytes, pointerOf, pointersBytes, listsBytes, deltaBytes}
 use Rattle.writer.specs.PlaneLaws.{length-be32, pointers-length}
 use Rattle.delta.specs.Delta.{Op, Reading, shapeOf, readColumns, pointer, readPlane, readPlanes, readPicture, readDelta, draw, newFrame, readFrame}
+use Rattle.delta.specs.NoneLaws.{HasRows}
 use Rattle.anhd.specs.declared.Items.the-variants.{Bytes}
-use Rattle.roundtrip.specs.ColumnLaws.{bytewise, Makes, HasRows}
+use Rattle.roundtrip.specs.ColumnLaws.{bytewise, Makes}
 use Rattle.roundtrip.specs.PlaneLaws.{paint, length-paint, paint-out, paint-in, columnAt-rows, columns-are}
 
 -- a frame that is the new one before a place and the old one from there on
