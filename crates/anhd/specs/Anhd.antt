@@ -1,6 +1,6 @@
 -- ANHD (document 01, "Chunks"): at least 40 bytes; method at 0, relative time at 14, interleave at 18, option bits at 20.
--- Interleave 0 and 2 both mean two frames back. Method 5 wants all option bits zero; method 7 wants bits 1 to 31 zero, and
--- bit 0 set means long data. Refusals 32 to 36 in table order.
+-- Interleave 0 and 2 both mean two frames back, and 1 one frame back (document 02, E7). Method 5 wants all option bits zero; method 7 wants
+-- bits 1 to 31 zero, and bit 0 set means long data. Refusals 32 to 36 in table order.
 use Prim.Native.Nat.{ℕ, _/_, _%_}
 use mathlib.Core.Bool.{Bool, true, _||_}
 use mathlib.Core.List.{List}
@@ -34,10 +34,10 @@ unfoldable pub frameHeader : ℕ → List ℕ → Res FrameHeader
 frameHeader B s =
     need (leb 40 (length s)) 32 >>= λ _.
     need (eqb (getD s 0 0) 5 || eqb (getD s 0 0) 7) 33 >>= λ _.
-    need (eqb (getD s 18 0) 0 || eqb (getD s 18 0) 2) 34 >>= λ _.
+    need (leb (getD s 18 0) 2) 34 >>= λ _.
     need (bitsOk (getD s 0 0) (be32 s 20)) 35 >>= λ _.
     need (columnsOk (itemsOf (getD s 0 0) (be32 s 20)) B) 36 >>= λ _.
-    ok (record { method = getD s 0 0; time = be32 s 14; items = itemsOf (getD s 0 0) (be32 s 20) })
+    ok (record { method = getD s 0 0; time = be32 s 14; interleave = getD s 18 0; items = itemsOf (getD s 0 0) (be32 s 20) })
 
 -- what an answer says in the paper's terms
 abbrev pub anhdOf : Anhd → Res FrameHeader

@@ -14,5 +14,5 @@ pub header-columns : (B : ℕ) (s : List ℕ) → Each (λ (h : FrameHeader). co
 unfolding frameHeader
 header-columns B s =
     each-need (leb 40 (length s)) 32 _ λ _. each-need (eqb (getD s 0 0) 5 || eqb (getD s 0 0) 7) 33 _ λ _.
-    each-need (eqb (getD s 18 0) 0 || eqb (getD s 18 0) 2) 34 _ λ _. each-need (bitsOk (getD s 0 0) (be32 s 20)) 35 _ λ _.
+    each-need (leb (getD s 18 0) 2) 34 _ λ _. each-need (bitsOk (getD s 0 0) (be32 s 20)) 35 _ λ _.
     each-need (columnsOk (itemsOf (getD s 0 0) (be32 s 20)) B) 36 _ λ e. each e

@@ -14,10 +14,11 @@ pub enum Items {
     Longs,
 }
 
-// What ANHD says of a frame: the method, the time after the frame before, and the items of its delta.
+// What ANHD says of a frame: the method, the time after the frame before, the interleave, and the items of its delta.
 pub struct FrameHeader {
     pub method: usize,
     pub time: usize,
+    pub interleave: usize,
     pub items: Items,
 }
 
@@ -79,7 +80,8 @@ pub fn read_header(s: &[u8], row: usize) -> Anhd
     if !either(method, 5, 7) {
         return Anhd::Unread(Refusal::UnknownMethod);
     }
-    if !either(byte(s, 18), 0, 2) {
+    let interleave = byte(s, 18);
+    if 2 < interleave {
         return Anhd::Unread(Refusal::UnknownInterleave);
     }
     let bits = number32(s, 20);
@@ -93,6 +95,7 @@ pub fn read_header(s: &[u8], row: usize) -> Anhd
     Anhd::Header(FrameHeader {
         method,
         time: number32(s, 14),
+        interleave,
         items,
     })
 }

@@ -1,13 +1,13 @@
 -- Every answer of the C interface but a row's place is 0, 1 or a number of the table; so 44, which is retired, is none of them.
 use Prim.Native.Nat.{ℕ}
-use mathlib.Core.Bool.{Bool, true, false, _||_, _&&_}
+use mathlib.Core.Bool.{Bool, true, _||_, _&&_}
 use mathlib.Core.List.{List}
 use mathlib.Core.Option.{Option, none, some}
 use mathlib.Core.Path.{_≡_, refl, sym, ap, _∙_}
 use lib.Dec.{leb, eqb}
 use lib.ListN.{length, take}
-use Rattle.laws.specs.Result.{Res, pick}
-use Rattle.laws.specs.ResultLaws.{false-true}
+use Rattle.laws.specs.Result.{Res}
+use Rattle.laws.specs.ResultLaws.{false-true, pick-both}
 use Rattle.refusal.specs.Number.{isNumber}
 use Rattle.record.specs.Record.{Past}
 use Rattle.state.specs.declared.State.{State}
@@ -36,31 +36,27 @@ isAnswer n = isNumber n || (eqb n 0 || eqb n 1)
 abbrev Answered : Answer → Type 0
 Answered x = isAnswer (answerNumber x) ≡ true
 
-pick-either : {A : Type 0} (P : A → Type 0) (t : Bool) {x y : A} → P x → P y → P (pick t x y)
-pick-either P true p q = p
-pick-either P false p q = q
-
 sized-answered : {A : Type 0} (t : Bool) {q : Res A} → InTable q → isAnswer (numberOr (sized t q)) ≡ true
-sized-answered {A} t {q} h = pick-either (λ (x : Res A). isAnswer (numberOr x) ≡ true) t (go h) refl
+sized-answered {A} t {q} h = pick-both (λ (x : Res A). isAnswer (numberOr x) ≡ true) t (go h) refl
   where
     go : {q : Res A} → InTable q → isAnswer (numberOr q) ≡ true
     go table-value = refl
     go (table-refusal e) = rw e
 
 step-answered : (t : Bool) (w : World) (o : After) → Answered (o .answer) → Answered (sizedStep t w o .answer)
-step-answered t w o h = pick-either (λ (o : After). Answered (o .answer)) t h refl
+step-answered t w o h = pick-both (λ (o : After). Answered (o .answer)) t h refl
 
 settle-answered : (s : State) (hidden : List ℕ) (room : ℕ) {q : Res (Option Made)} → InTable q → Answered (settle s hidden room q .answer)
 unfolding settle
 settle-answered s hidden room (table-refusal e) = rw e
 settle-answered s hidden room (table-value {a = none}) = refl
-settle-answered s hidden room (table-value {a = some m}) = pick-either (λ (o : Outcome). Answered (o .answer)) (leb (length (m .bytes)) room) refl refl
+settle-answered s hidden room (table-value {a = some m}) = pick-both (λ (o : Outcome). Answered (o .answer)) (leb (length (m .bytes)) room) refl refl
 
 on-answered : (file : List ℕ) (w : World) (work room : ℕ) → Answered (stepOn file w work room .answer)
 unfolding stepOn onHidden
 on-answered file w work room =
     let h = settle-answered (w .state) (hiddenOf w) room (on-table (length file) (take (w .state .end) file) (w .state) (shownOf w) (hiddenOf w) (length (w .a)) (length (w .b)) work) in
-    pick-either (λ (o : After). Answered (o .answer)) (isOdd (w .state .frame)) h h
+    pick-both (λ (o : After). Answered (o .answer)) (isOdd (w .state .frame)) h h
 
 settle-back-answered : (s : State) (shown : List ℕ) {q : Res Past} → InTable q → Answered (settleBack s shown q .answer)
 unfolding settleBack
@@ -71,7 +67,7 @@ back-answered : (w : World) (bytes : List ℕ) → Answered (stepBack w bytes .a
 unfolding stepBack onShown
 back-answered w bytes =
     let h = settle-back-answered (w .state) (shownOf w) (back-table w bytes) in
-    pick-either (λ (o : After). Answered (o .answer)) (isOdd (w .state .frame)) h h
+    pick-both (λ (o : After). Answered (o .answer)) (isOdd (w .state .frame)) h h
 
 pub answered : {r : ℕ} → Answers r → isAnswer r ≡ true
 answered (sizes file size _ _ c) = ap isAnswer (c .answer) ∙ sized-answered (eqb (length size) 8) (size-table file)

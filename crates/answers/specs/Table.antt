@@ -129,7 +129,7 @@ frame-table s B at = table-bind (form-table s at) go
   where
     anhd-table : (d : List ℕ) → InTable (frameHeader B d)
     anhd-table d =
-        table-need (leb 40 (length d)) 32 _ refl (table-need (eqb (getD d 0 0) 5 || eqb (getD d 0 0) 7) 33 _ refl (table-need (eqb (getD d 18 0) 0 || eqb (getD d 18 0) 2) 34 _ refl
+        table-need (leb 40 (length d)) 32 _ refl (table-need (eqb (getD d 0 0) 5 || eqb (getD d 0 0) 7) 33 _ refl (table-need (leb (getD d 18 0) 2) 34 _ refl
         (table-need (bitsOk (getD d 0 0) (be32 d 20)) 35 _ refl (table-need (columnsOk (itemsOf (getD d 0 0) (be32 d 20)) B) 36 _ refl table-value))))
 
     go : (o : Option Form) → InTable (frameOr s B o)

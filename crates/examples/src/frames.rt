@@ -9,7 +9,7 @@ use buffer::number16;
 use delta::Applied;
 use state::Sizes;
 
-// B and the contents of an ANHD: the method, the time, and the bytes of an item.
+// B and the contents of an ANHD: the method, the time, the interleave, and the bytes of an item.
 pub(crate) fn anhd(d: &[u8]) {
     let h = anhd::read_header(part(d, 1, d.len()), byte(d, 0));
     match h {
@@ -17,6 +17,7 @@ pub(crate) fn anhd(d: &[u8]) {
             let items = header.items;
             show::number(header.method);
             show::number(header.time);
+            show::number(header.interleave);
             match items {
                 Items::Bytes => show::number(1),
                 Items::Shorts => show::number(2),

@@ -66,6 +66,11 @@ each-some e p = all-value (each-is e p)
 pub told : {A B : Type 0} (of : A → B) {r x : A} {b : B} → of r ≡ b → r ≡ x → b ≡ of x
 told of e w = sym e ∙ ap of w
 
+-- what holds of both holds of the one that is picked
+pub pick-both : {A : Type 0} (P : A → Type 0) (t : Bool) {x y : A} → P x → P y → P (pick t x y)
+pick-both P true p q = p
+pick-both P false p q = q
+
 pub each-pick : {A : Type 0} {P : A → Type 0} (t : Bool) {x y : Res A} → (t ≡ true → Each P x) → (t ≡ false → Each P y) → Each P (pick t x y)
 each-pick true p q = p refl
 each-pick false p q = q refl

@@ -1,4 +1,4 @@
-// Lists the outside vectors, data/001.anim to data/080.anim, each under its name.
+// Lists the outside vectors, data/001.anim to data/102.anim, each under its name.
 use listing::list;
 
 // Lists one file.
@@ -17,8 +17,8 @@ fn show(fd: i32) {
 // Opens one file by its number and lists it.
 fn open(number: u8) {
     let name = [
-        b'0',
-        48 + number / 10,
+        48 + number / 100,
+        48 + number / 10 % 10,
         48 + number % 10,
         b'.',
         b'a',
@@ -39,7 +39,7 @@ fn open(number: u8) {
 
 fn main() {
     let mut number = 1;
-    while number < 81 {
+    while number < 103 {
         open(number);
         number += 1;
     }

@@ -1,14 +1,13 @@
 -- The record buffer is long enough for every step that is listed: a record has at most twice the frame's bytes and 16 more.
 use Prim.Native.Nat.{ℕ, suc, _≤_}
 use native.Mathlib.Omega.{arith}
-use mathlib.Core.Bool.{Bool, true, false}
 use mathlib.Core.List.{List, []}
 use mathlib.Core.Option.{Option, none, some}
 use mathlib.Core.Path.{_≡_, refl, ap}
 use lib.ListN.{length, take}
 use borrow.Author.Tests.{le-leb}
-use Rattle.laws.specs.Result.{Res, Res.ok, Res.fault, pick}
-use Rattle.laws.specs.ResultLaws.{Each, Each.each, each-any, All, All.all-some, All.all-none}
+use Rattle.laws.specs.Result.{Res, Res.ok, Res.fault}
+use Rattle.laws.specs.ResultLaws.{Each, Each.each, each-any, All, All.all-some, All.all-none, pick-both}
 use Rattle.state.specs.declared.State.{State}
 use Rattle.state.specs.State.{rowBytes}
 use Rattle.record.specs.Record.{recordBytes}
@@ -41,11 +40,7 @@ settle-room s hidden room (ok (some m)) h (each (all-some k)) =
 
 hidden-short : (w : World) → length (w .a) ≤ 16_384 → length (w .b) ≤ 16_384 → length (hiddenOf w) ≤ 16_384
 unfolding hiddenOf
-hidden-short w h k = go (isOdd (w .state .frame))
-  where
-    go : (t : Bool) → length (pick t (w .b) (w .a)) ≤ 16_384
-    go true = k
-    go false = h
+hidden-short w h k = pick-both (λ (p : List ℕ). length p ≤ 16_384) (isOdd (w .state .frame)) k h
 
 -- with frames of at most 16,384 bytes a step on comes to the same with a record buffer of ROOM bytes as with any longer one
 pub room-enough : (file : List ℕ) (w : World) (size room : ℕ) → length (w .a) ≤ 16_384 → length (w .b) ≤ 16_384 → ROOM ≤ room → stepOn file w size room ≡ stepOn file w size ROOM

@@ -61,7 +61,7 @@ pub record Holds (at : ℕ) (x : Frame) : Type 0 where
 header-holds : (B : ℕ) (s : List ℕ) → Bytes s → Each (λ (h : FrameHeader). (h .method < 256) × (h .time < 4_294_967_296)) (frameHeader B s)
 unfolding frameHeader
 header-holds B s h =
-    each-need (leb 40 (length s)) 32 _ λ _. each-need (eqb (getD s 0 0) 5 || eqb (getD s 0 0) 7) 33 _ λ _. each-need (eqb (getD s 18 0) 0 || eqb (getD s 18 0) 2) 34 _ λ _.
+    each-need (leb 40 (length s)) 32 _ λ _. each-need (eqb (getD s 0 0) 5 || eqb (getD s 0 0) 7) 33 _ λ _. each-need (leb (getD s 18 0) 2) 34 _ λ _.
     each-need (bitsOk (getD s 0 0) (be32 s 20)) 35 _ λ _. each-need (columnsOk (itemsOf (getD s 0 0) (be32 s 20)) B) 36 _ λ _.
     each (h 0, be32-bound s 14 h)
 

@@ -11,7 +11,7 @@ use lib.ListN.{length, take, length-take, length-append}
 use borrow.Author.Tests.{eqb-true, leb-true}
 use Rattle.laws.specs.Bytes.{Bytes, bytes-take}
 use Rattle.laws.specs.Result.{Res, Res.ok, Res.fault, _>>=_, pick}
-use Rattle.laws.specs.ResultLaws.{Each, Each.each, Each.no-value, each-bind, each-need, each-is, All, All.all-some, All.all-none, all-value}
+use Rattle.laws.specs.ResultLaws.{Each, Each.each, Each.no-value, each-bind, each-need, each-is, All, All.all-some, All.all-none, all-value, pick-both}
 use Rattle.laws.specs.LoopLaws.{Comes, Comes.comes-next, Comes.comes-done, runs-holds}
 use Rattle.state.specs.declared.Sizes.{Sizes}
 use Rattle.state.specs.declared.State.{State}
@@ -28,7 +28,7 @@ use Rattle.opening.specs.Open.{bmhdAt, bodyAt, firstSize, firstOf, opening, Fir
 use Rattle.opening.specs.OpenLaws.{places-lie}
 use Rattle.state.specs.World.{World, isOdd, shownOf, hiddenOf}
 use Rattle.state.specs.Outcome.{Answer.refused, Answer.tookOn, Outcome, After}
-use Rattle.player.specs.Step.{ready, change, Made, makes, make, advance, settle, stepOn}
+use Rattle.player.specs.Step.{ready, basis, change, Made, makes, make, advance, settle, stepOn}
 use Rattle.player.specs.OutcomeLaws.{on-put}
 use Rattle.player.specs.ReadyLaws.{ready-passed}
 use Rattle.lines.specs.Lines.{frameLine, endLine, refusedLine, pictureLine, tooLarge}
@@ -38,26 +38,33 @@ use Rattle.record.specs.RoomLaws.{record-short}
 use Rattle.answers.specs.Table.{InTable, InTable.table-refusal, size-table, opening-table, on-table}
 use Rattle.listing_laws.specs.ShortLaws.{Holds, frame-holds, delta-long, Tells, frame-line-short, end-line-short, refused-line-short, picture-line-short}
 
+-- a picture that the listing program's buffers hold
+abbrev Small : List ℕ → Type 0
+Small p = length p ≤ 16_384
+
 -- what a frame that is made comes to
 record Makes (file : ℕ) (s : State) (m : Made) : Type 0 where
   few : s .frame < 1_000_000
   rises : s .next + 84 ≤ m .next
   ends : m .next ≤ file
-  picture : length (m .picture) ≤ 16_384
+  picture : Small (m .picture)
   tells : Tells (m .report)
 
 -- what a delta that is well formed makes
-record Changes (x : Frame) (hidden f : List ℕ) : Type 0 where
+record Changes (x : Frame) (f : List ℕ) : Type 0 where
   long : 64 ≤ length (x .dlta)
-  same : length f ≡ length hidden
+  small : Small f
 
-change-holds : (z : Sizes) (x : Frame) (shown hidden : List ℕ) → Each (Changes x hidden) (change z x shown hidden)
+change-holds : (z : Sizes) (x : Frame) (shown hidden : List ℕ) → Small shown → Small hidden → Each (Changes x) (change z x shown hidden)
 unfolding change
-change-holds z x shown hidden =
+change-holds z x shown hidden p q =
     each-bind (delta-long z (x .header .items) (x .dlta)) λ ops h.
-    each (record { long = h; same = draw-length (shapeOf z (x .header .items)) (x .dlta) ops hidden })
+    each (record {
+      long = h;
+      small = rw (draw-length (shapeOf z (x .header .items)) (x .dlta) ops (basis (x .header) shown hidden)) (pick-both Small (eqb (x .header .interleave) 1) p q);
+    })
 
-module _ (file : List ℕ) (s : State) (shown hidden : List ℕ) (bytes : Bytes file) (small : length hidden ≤ 16_384) (few : s .frame < 1_000_000) (inside : s .end ≤ length file) where
+module _ (file : List ℕ) (s : State) (shown hidden : List ℕ) (bytes : Bytes file) (shown-small : Small shown) (hidden-small : Small hidden) (few : s .frame < 1_000_000) (inside : s .end ≤ length file) where
   make-holds : (o : Option Frame) → frameAt (take (s .end) file) (rowBytes (s .sizes .width)) (s .next) ≡ ok o → All (Holds (s .next)) o → Each (All (Makes (length file) s)) (make s shown hidden o)
   unfolding makes
   make-holds none e h = each all-none
@@ -65,16 +72,15 @@ module _ (file : List ℕ) (s : State) (shown hidden : List ℕ) (bytes : Bytes 
       let t = all-value h in
       let k = frame-rises (take (s .end) file) (rowBytes (s .sizes .width)) (s .next) x e in
       let n : x .next ≤ length file = omega (arith, k .ends, length-take (s .end) file) in
-      each-bind (change-holds (s .sizes) x shown hidden) λ f c.
+      each-bind (change-holds (s .sizes) x shown hidden shown-small hidden-small) λ f c.
       let r : s .next + 84 ≤ x .next = omega (arith, t .takes, c .long) in
-      let p : length f ≤ 16_384 = omega (arith, c .same) in
       let q : Tells (makes s x hidden f .report) = record {
         method = omega (arith, t .method);
         time = omega (arith, t .time);
         changed = omega (arith, differing-short hidden f);
         length = omega (arith, record-short (suc (s .frame)) (s .next) hidden f);
       } in
-      each (all-some (record { few = few; rises = r; ends = n; picture = p; tells = q }))
+      each (all-some (record { few = few; rises = r; ends = n; picture = c .small; tells = q }))
 
   advance-holds : Each (All (Makes (length file) s)) (advance (take (s .end) file) s shown hidden)
   unfolding advance
@@ -86,8 +92,8 @@ module _ (file : List ℕ) (s : State) (shown hidden : List ℕ) (bytes : Bytes 
 
 -- while frames are listed: 68 bytes of text for each 84 of the file, and a line before the first frame
 record Roomy (c : Scene) : Type 0 where
-  left : length (c .world .a) ≤ 16_384
-  right : length (c .world .b) ≤ 16_384
+  left : Small (c .world .a)
+  right : Small (c .world .b)
   frame : c .world .state .frame ≤ 1_000_000
   place : c .world .state .next ≤ 65_536
   text : 84 * length (c .text) ≤ 68 * c .world .state .next + 84 * 68
@@ -98,10 +104,6 @@ Short c = length (c .text) ≤ 65_536
 -- one line more at the end
 last-short : (c : Scene) → Roomy c → (line : List ℕ) → length line ≤ 68 → length (c .text ++ line) ≤ 65_536
 last-short c h line k = omega (arith, length-append (c .text) line, h .text, h .place)
-
-picked : (t : Bool) (x y : List ℕ) → length x ≤ 16_384 → length y ≤ 16_384 → length (pick t x y) ≤ 16_384
-picked true x y h k = h
-picked false x y h k = k
 
 module _ (file : List ℕ) (bytes : Bytes file) (short : length file ≤ 65_536) (size : ℕ) where
   -- the answer of a step, and the line that is told of it
@@ -129,21 +131,21 @@ module _ (file : List ℕ) (bytes : Bytes file) (short : length file ≤ 65_536)
           omega (arith, length-append (c .text) (frameLine (suc (c .world .state .frame)) (m .report)), frame-line-short (suc (c .world .state .frame)) (m .report) n (k .tells), h .text, k .rises) in
           rw d
           (comes-next (record {
-            left = picked (isOdd (c .world .state .frame)) (c .world .a) (m .picture) (h .left) (k .picture);
-            right = picked (isOdd (c .world .state .frame)) (m .picture) (c .world .b) (k .picture) (h .right);
+            left = pick-both Small (isOdd (c .world .state .frame)) (h .left) (k .picture);
+            right = pick-both Small (isOdd (c .world .state .frame)) (k .picture) (h .right);
             frame = f;
             place = p;
             text = x;
           }))
 
   step-roomy : (c : Scene) → Roomy c → Comes Roomy Short (listStep file size ROOM c)
-  unfolding stepOn hiddenOf
+  unfolding stepOn hiddenOf shownOf
   step-roomy c h =
       let w : World = c .world in
       settled c h (ready (length file) (w .state) (length (w .a)) (length (w .b)) size >>= λ _. advance (take (w .state .end) file) (w .state) (shownOf w) (hiddenOf w))
       (on-table (length file) (take (w .state .end) file) (w .state) (shownOf w) (hiddenOf w) (length (w .a)) (length (w .b)) size)
       (each-bind (ready-passed (length file) (w .state) (length (w .a)) (length (w .b)) size) λ _ p.
-      advance-holds file (w .state) (shownOf w) (hiddenOf w) bytes (picked (isOdd (w .state .frame)) (w .b) (w .a) (h .right) (h .left)) (p .onA .few) (p .inFile))
+      advance-holds file (w .state) (shownOf w) (hiddenOf w) bytes (pick-both Small (isOdd (w .state .frame)) (h .left) (h .right)) (pick-both Small (isOdd (w .state .frame)) (h .right) (h .left)) (p .onA .few) (p .inFile))
       (stepOn file w size ROOM)
       (on-put w (settle (w .state) (hiddenOf w) ROOM (ready (length file) (w .state) (length (w .a)) (length (w .b)) size >>= λ _. advance (take (w .state .end) file) (w .state) (shownOf w) (hiddenOf w))))
 
@@ -183,7 +185,7 @@ module _ (file : List ℕ) (bytes : Bytes file) where
   shows-short : length file ≤ 65_536 → (n : ℕ) → n ≤ 16_384 → (q : Res Film) → InTable q → Each (Begins file n) q → (a b work rec : List ℕ) → Short (shows file n ROOM (blank a b work rec) q)
   unfolding shows
   shows-short h n k (ok F) l (each g) a b work rec =
-      let w : length (F .first) ≤ 16_384 = omega (arith, g .first) in
+      let w : Small (F .first) = omega (arith, g .first) in
       let p : F .start ≤ 65_536 = omega (arith, g .start) in
       let t : 84 * length (pictureLine (F .sizes)) ≤ 68 * F .start + 84 * 68 = omega (arith, picture-line-short (F .sizes) n (g .sound)) in
       frames-short file bytes h n _ (record { left = w; right = w; frame = omega arith; place = p; text = t })

@@ -1,6 +1,6 @@
 -- Demand 2: where the papers have no other refusal, a delta is taken exactly when it is well formed to its last needed byte; the hidden
--- picture becomes the one that the ANIM rules define, and the shown one doesn't change. The delta that is written for two pictures turns
--- the first into the second.
+-- picture becomes the one that the ANIM rules define, by the frame's own interleave, and the shown one doesn't change. The delta that is
+-- written for two pictures turns the first into the second.
 use Prim.Native.Nat.{ℕ, suc, _<_, _≤_}
 use mathlib.Core.Bool.{Bool, true, false, not}
 use mathlib.Core.List.{List, [], _++_}
@@ -20,7 +20,7 @@ use Rattle.state.specs.World.{World, isOdd, shownOf, hiddenOf}
 use Rattle.state.specs.Outcome.{Answer.refused, Answer.tookOn, Outcome, After}
 use Rattle.player.specs.Step.{ready, change, reportOf, makes, make, advance, settle, onHidden, stepOn, onOf, workAfter, MeetsOn}
 use Rattle.player.specs.OutcomeLaws.{on-kept, on-put}
-use Rattle.model.specs.Demands.{Free, deltaOps, newOf, recordOf, Takes}
+use Rattle.model.specs.Demands.{Free, deltaOps, basisOf, newOf, recordOf, Takes}
 use Rattle.model.proofs.Laws.{odd-suc, after-on}
 
 free-advance : (file : List ℕ) (w : World) (work : ℕ) (x : Frame) → Free file w work x
@@ -53,13 +53,13 @@ change-new w x ops e = rw e refl
 taken : (file : List ℕ) (w : World) (work room : ℕ) (x : Frame) (f : List ℕ) → Free file w work x → change (w .state .sizes) x (shownOf w) (hiddenOf w) ≡ ok f → length (recordOf w f) ≤ room
     → stepOn file w work room ≡ onHidden w (takenAs w x f)
 unfolding stepOn settle makes takenAs
-taken file w work room x f k e h = rw (free-advance file w work x k, e) (rw (le-leb (length (recordOf w f)) room h) refl)
+taken file w work room x f k e h = rw (free-advance file w work x k, e) (rw (le-leb (length (makes (w .state) x (hiddenOf w) f .bytes)) room h) refl)
 
 -- else it is 51
 unfit : (file : List ℕ) (w : World) (work room : ℕ) (x : Frame) (f : List ℕ) → Free file w work x → change (w .state .sizes) x (shownOf w) (hiddenOf w) ≡ ok f → room < length (recordOf w f)
     → stepOn file w work room ≡ record { answer = refused 51; world = w; bytes = []; work = some f }
 unfolding stepOn settle makes
-unfit file w work room x f k e h = rw (free-advance file w work x k, e) (rw (lt-leb (length (recordOf w f)) room h) (on-kept w (refused 51) (some f)))
+unfit file w work room x f k e h = rw (free-advance file w work x k, e) (rw (lt-leb (length (makes (w .state) x (hiddenOf w) f .bytes)) room h) (on-kept w (refused 51) (some f)))
 
 -- after a taken step the hidden picture is the new one and is shown, and the one that was shown is hidden as it was
 pub shown-new : (w : World) (x : Frame) (f : List ℕ) → shownOf (onHidden w (takenAs w x f) .world) ≡ f
@@ -112,11 +112,11 @@ module _ (file : List ℕ) (w : World) (work rec : List ℕ) (r : SteppedOn) (a 
       let g = unfit file w (length work) (length rec) x (newOf w x ops) f (change-new w x ops e) h in
       (m .answer ∙ ap (λ (o : After). o .answer) g, m .drawn ∙ ap (λ (o : After). workAfter work (o .work)) g)
 
-  -- a delta that `writer::write` wrote for the hidden picture and a new one leads to the new one
-  pub demand-2-written : (new out out′ : List ℕ) (n : ℕ) → Writes (w .state .sizes) (hiddenOf w) new out (ok n) out′ → x .header .items ≡ Bytes → x .dlta ≡ take n out′
+  -- a delta that `writer::write` wrote for the picture that the frame builds on and a new one leads to the new one
+  pub demand-2-written : (new out out′ : List ℕ) (n : ℕ) → Writes (w .state .sizes) (basisOf w x) new out (ok n) out′ → x .header .items ≡ Bytes → x .dlta ≡ take n out′
       → length (recordOf w new) ≤ length rec → Takes w rec x new (onOf (r .answer)) (record { a = a; b = b; state = r .state }) work′ rec′
   demand-2-written new out out′ n g j d h =
-      go (deltaOps w x) refl (rw (j, d, delta-stands (w .state .sizes) (hiddenOf w) new out n out′ g) (delta-makes (w .state .sizes) (hiddenOf w) new out n out′ g))
+      go (deltaOps w x) refl (rw (j, d, delta-stands (w .state .sizes) (basisOf w x) new out n out′ g) (delta-makes (w .state .sizes) (basisOf w x) new out n out′ g))
     where
       go : (q : Res (List Op)) → deltaOps w x ≡ q → (q >>= λ ops. ok (newOf w x ops)) ≡ ok new → Takes w rec x new (onOf (r .answer)) (record { a = a; b = b; state = r .state }) work′ rec′
       go (ok ops) e k = let i : newOf w x ops ≡ new = cc in rw i at (demand-2-taken ops e (rw i h))

@@ -23,7 +23,7 @@ use Rattle.back.specs.Back.{MeetsBack, stepBack}
 use Rattle.opening.specs.declared.OpenedFile.{OpenedFile}
 use Rattle.state.specs.Film.{Film}
 use Rattle.opening.specs.Open.{opening, stateAfter, pictureAfter, openingOf, MeetsOpen}
-use Rattle.model.specs.Model.{Call, Seen, here, built, placeAt, picture, recordAt, stands, reportAt, answerFor, answerAt, answerOn, answerFirst, moved, leaves, model, modelOf}
+use Rattle.model.specs.Model.{Call, Seen, here, builtAt, placeAt, picture, recordAt, stands, reportAt, answerFor, answerAt, answerOn, answerFirst, moved, leaves, model, modelOf}
 use Rattle.model.specs.Trace.{Handed, Handed.latest, recordIn, untaken, seenOn, seenBack, Trace, Trace.none-left, Trace.stepped-on, Trace.stepped-back}
 use Rattle.model.proofs.Laws.{after-on, after-back}
 use Rattle.model.proofs.Opened.{Opened, size, OpenedAs, opening-opened}
@@ -57,7 +57,7 @@ reports F m work room = tests (eqb work (size F)) (ltb (suc m) 1_000_000) (here 
     drawn-to x (fault n) = off n
 
     at-place : (o : Res (Option Frame)) → Reports F m (answerAt F m room o)
-    at-place (ok (some x)) = drawn-to x (built F x (picture F m))
+    at-place (ok (some x)) = drawn-to x (builtAt F m x)
     at-place (ok none) = end
     at-place (fault n) = off n
 
@@ -88,7 +88,7 @@ on-forward F m work room e = tests (eqb work (size F)) (ltb (suc m) 1_000_000) (
     drawn-to x (fault n) q = let z : _≡_ {A = ℕ} 0 1 = cc in omega arith
 
     at-place : (o : Res (Option Frame)) → answerAt F m room o ≡ tookBack → ⊥
-    at-place (ok (some x)) q = drawn-to x (built F x (picture F m)) q
+    at-place (ok (some x)) q = drawn-to x (builtAt F m x) q
     at-place (ok none) q = let z : _≡_ {A = ℕ} 0 1 = cc in omega arith
     at-place (fault n) q = let z : _≡_ {A = ℕ} 0 1 = cc in omega arith
 

@@ -1,10 +1,10 @@
--- Laws that the demands are proved from: a delta keeps the picture's length, parity alternates, and what a step that met its contract
+-- Laws that the demands are proved from: a delta keeps the pictures' length, parity alternates, and what a step that met its contract
 -- hands on.
 use Prim.Native.Nat.{ℕ, zero, suc, _%_}
 use native.Mathlib.Omega.{arith}
-use mathlib.Core.Bool.{not}
+use mathlib.Core.Bool.{Bool, true, false, not}
 use mathlib.Core.List.{List}
-use mathlib.Core.Path.{_≡_, refl}
+use mathlib.Core.Path.{_≡_, refl, _∙_}
 use lib.Dec.{eqb}
 use lib.ListN.{length}
 use borrow.Author.Tests.{eq-eqb, ne-eqb}
@@ -20,12 +20,19 @@ use Rattle.player.specs.declared.SteppedOn.{SteppedOn}
 use Rattle.player.specs.Step.{LeavesOn}
 use Rattle.back.specs.declared.SteppedBack.{SteppedBack}
 use Rattle.back.specs.Back.{LeavesBack}
-use Rattle.model.specs.Model.{built}
+use Rattle.model.specs.Model.{named, built}
 
-pub built-length : (F : Film) (x : Frame) (p g : List ℕ) → built F x p ≡ ok g → length g ≡ length p
+-- what a frame's delta makes of two pictures of one length has that length too
+pub built-length : (F : Film) (x : Frame) (one two g : List ℕ) {n : ℕ} → length one ≡ n → length two ≡ n → built F x one two ≡ ok g → length g ≡ n
 unfolding built
-built-length F x p g e =
-    each-is {P = λ (l : List ℕ). length l ≡ length p} e (each-any (readDelta (shapeOf (F .sizes) (x .header .items)) (x .dlta)) λ ops. each (draw-length (shapeOf (F .sizes) (x .header .items)) (x .dlta) ops p))
+built-length F x one two g {n} p q e =
+    each-is {P = λ (l : List ℕ). length l ≡ n} e
+    (each-any (readDelta (shapeOf (F .sizes) (x .header .items)) (x .dlta)) λ ops.
+    each (draw-length (shapeOf (F .sizes) (x .header .items)) (x .dlta) ops (named x one two) ∙ go (eqb (x .header .interleave) 1) refl))
+  where
+    go : (t : Bool) → eqb (x .header .interleave) 1 ≡ t → length (named x one two) ≡ n
+    go true h = rw h (omega arith)
+    go false h = rw h (omega arith)
 
 pub odd-suc : (n : ℕ) → isOdd (suc n) ≡ not (isOdd n)
 unfolding isOdd

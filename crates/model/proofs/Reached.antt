@@ -4,33 +4,34 @@ use native.Mathlib.Omega.{arith}
 use mathlib.Core.Bool.{Bool, true, false, not}
 use mathlib.Core.List.{List, [], _∷_}
 use mathlib.Core.Option.{some}
-use mathlib.Core.Path.{_≡_, refl, _∙_}
+use mathlib.Core.Path.{_≡_, refl, ap}
 use lib.ListN.{length, take, length-take}
 use borrow.Author.Tests.{le-leb}
-use Rattle.laws.specs.Result.{Res.ok, answer, pick}
+use Rattle.laws.specs.Result.{Res.ok, answer, pick, orKeep}
+use Rattle.laws.specs.ResultLaws.{pick-both}
 use Rattle.state.specs.State.{rowBytes, stateLength}
 use Rattle.frame.specs.Frame.{Frame}
 use Rattle.frame.specs.FrameLaws.{Rises, frame-rises}
 use Rattle.state.specs.World.{isOdd, shownOf, hiddenOf}
 use Rattle.state.specs.Outcome.{Answer, After}
 use Rattle.state.specs.Film.{Film}
-use Rattle.model.specs.Model.{here, past, built, drawn, placeAt, picture, recordAt, stands}
+use Rattle.model.specs.Model.{here, past, builtAt, drawn, placeAt, picture, recordAt, stands}
 use Rattle.model.proofs.Laws.{built-length}
 use Rattle.model.proofs.Opened.{Opened, size}
 
 -- frame m + 1 can be reached
 pub data Reached (F : Film) : ℕ → Type 0 where
   first : Reached F zero
-  next : {m : ℕ} (x : Frame) (g : List ℕ) → Reached F m → here F (placeAt F m) ≡ ok (some x) → built F x (picture F m) ≡ ok g → suc m < 1_000_000 → Reached F (suc m)
+  next : {m : ℕ} (x : Frame) (g : List ℕ) → Reached F m → here F (placeAt F m) ≡ ok (some x) → builtAt F m x ≡ ok g → suc m < 1_000_000 → Reached F (suc m)
 
 -- what a frame that is there makes of the place and of the picture
 pub place-next : (F : Film) (m : ℕ) (x : Frame) → here F (placeAt F m) ≡ ok (some x) → placeAt F (suc m) ≡ x .next
 unfolding placeAt past
 place-next F m x e = rw e
 
-pub picture-next : (F : Film) (m : ℕ) (x : Frame) (g : List ℕ) → here F (placeAt F m) ≡ ok (some x) → built F x (picture F m) ≡ ok g → picture F (suc (suc m)) ≡ g
+pub picture-next : (F : Film) (m : ℕ) (x : Frame) (g : List ℕ) → here F (placeAt F m) ≡ ok (some x) → builtAt F m x ≡ ok g → picture F (suc (suc m)) ≡ g
 unfolding picture drawn
-picture-next F m x g e c = rw (e, c)
+picture-next F m x g e c = rw e (ap (orKeep (picture F m)) c)
 
 -- what holds at a frame that can be reached
 pub record Good (F : Film) (m : ℕ) : Type 0 where
@@ -47,7 +48,7 @@ good F o (next {m = m} x g p e c h) = go (good F o p) (frame-rises (take (F .end
     go : Good F m → Rises (take (F .end) (F .file)) (placeAt F m) x → Good F (suc m)
     go k r = record {
       hidden = k .shown;
-      shown = rw (picture-next F m x g e c) (built-length F x (picture F m) g c ∙ k .hidden);
+      shown = rw (picture-next F m x g e c) (built-length F x (picture F (suc m)) (picture F m) g (k .shown) (k .hidden) c);
       low = rw (place-next F m x e) (omega (arith, k .low, r .rises));
       high = rw (place-next F m x e) (omega (arith, r .ends, length-take (F .end) (F .file)));
       few = h;
@@ -75,10 +76,6 @@ module _ {A : Type 0} where
   pick-back-right true x y z = refl
   pick-back-right false x y z = refl
 
-pub length-pick : (t : Bool) (x y : List ℕ) (n : ℕ) → length x ≡ n → length y ≡ n → length (pick t x y) ≡ n
-length-pick true x y n p q = p
-length-pick false x y n p q = q
-
 -- the state at a frame that can be reached is within the limits
 pub state-good : (F : Film) → Opened F → (m : ℕ) → Good F m → stateLength (stands F m .state) ≡ ok (size F)
 unfolding stateLength stands
@@ -96,11 +93,11 @@ shown-is F m = pick-same (isOdd (suc m)) (picture F (suc m)) (picture F m)
 
 pub left-long : (F : Film) (m : ℕ) → Good F m → length (stands F m .a) ≡ size F
 unfolding stands
-left-long F m k = length-pick (isOdd (suc m)) (picture F (suc m)) (picture F m) (size F) (k .shown) (k .hidden)
+left-long F m k = pick-both (λ (p : List ℕ). length p ≡ size F) (isOdd (suc m)) (k .shown) (k .hidden)
 
 pub right-long : (F : Film) (m : ℕ) → Good F m → length (stands F m .b) ≡ size F
 unfolding stands
-right-long F m k = length-pick (isOdd (suc m)) (picture F m) (picture F (suc m)) (size F) (k .hidden) (k .shown)
+right-long F m k = pick-both (λ (p : List ℕ). length p ≡ size F) (isOdd (suc m)) (k .hidden) (k .shown)
 
 -- the records not yet taken back at frame m + 1, the latest first
 unfoldable pub records : Film → ℕ → List (List ℕ)

@@ -14,7 +14,7 @@ use Rattle.state.specs.World.{isOdd, shownOf, hiddenOf}
 use Rattle.state.specs.Outcome.{Answer, Answer.refused, Answer.ended, Answer.tookOn, Outcome}
 use Rattle.player.specs.Step.{ready, change, Made, makes, make, advance, settle, onHidden, stepOn}
 use Rattle.state.specs.Film.{Film}
-use Rattle.model.specs.Model.{here, built, placeAt, picture, recordAt, stands, reportAt, answerAt, answerOn, moved, leaves}
+use Rattle.model.specs.Model.{here, built, builtAt, placeAt, picture, recordAt, stands, reportAt, answerAt, answerOn, moved, leaves}
 use Rattle.player.specs.OutcomeLaws.{on-kept, on-put}
 use Rattle.model.proofs.Laws.{odd-suc}
 use Rattle.model.proofs.Opened.{Opened, size}
@@ -48,7 +48,7 @@ ahead-is F o m k work =
     go false t = refl
 
 -- what a step on makes at frame m + 1 is frame m + 2
-pub makes-is : (F : Film) (m : ℕ) (x : Frame) (g : List ℕ) → here F (placeAt F m) ≡ ok (some x) → built F x (picture F m) ≡ ok g
+pub makes-is : (F : Film) (m : ℕ) (x : Frame) (g : List ℕ) → here F (placeAt F m) ≡ ok (some x) → builtAt F m x ≡ ok g
     → makes (stands F m .state) x (picture F m) g ≡ record { picture = picture F (suc (suc m)); next = placeAt F (suc m); report = reportAt F m x; bytes = recordAt F m }
 unfolding makes reportAt recordAt
 makes-is F m x g e c =
@@ -56,16 +56,16 @@ makes-is F m x g e c =
     let n : stands F m .state .next ≡ placeAt F m = unfold stands in refl in
     rw (f, n, picture-next F m x g e c, place-next F m x e)
 
-pub make-is : (F : Film) (m : ℕ) (x : Frame) → madeOf F m (some x) ≡ (built F x (picture F m) >>= λ f. ok (some (makes (stands F m .state) x (picture F m) f)))
+pub make-is : (F : Film) (m : ℕ) (x : Frame) → madeOf F m (some x) ≡ (builtAt F m x >>= λ f. ok (some (makes (stands F m .state) x (picture F m) f)))
 unfolding madeOf built change
 make-is F m x =
     let z : stands F m .state .sizes ≡ F .sizes = unfold stands in refl in
-    rw z
+    rw z refl
 
-pub make-fault : (F : Film) (m : ℕ) (x : Frame) (n : ℕ) → built F x (picture F m) ≡ fault n → madeOf F m (some x) ≡ fault n
+pub make-fault : (F : Film) (m : ℕ) (x : Frame) (n : ℕ) → builtAt F m x ≡ fault n → madeOf F m (some x) ≡ fault n
 make-fault F m x n c = make-is F m x ∙ rw c
 
-pub make-ok : (F : Film) (m : ℕ) (x : Frame) (g : List ℕ) → here F (placeAt F m) ≡ ok (some x) → built F x (picture F m) ≡ ok g
+pub make-ok : (F : Film) (m : ℕ) (x : Frame) (g : List ℕ) → here F (placeAt F m) ≡ ok (some x) → builtAt F m x ≡ ok g
     → madeOf F m (some x) ≡ ok (some (record { picture = picture F (suc (suc m)); next = placeAt F (suc m); report = reportAt F m x; bytes = recordAt F m }))
 make-ok F m x g e c = make-is F m x ∙ rw c (ap (λ (k : Made). ok (some k)) (makes-is F m x g e c))
 
@@ -98,7 +98,7 @@ module _ (F : Film) (op : Opened F) (m : ℕ) (p : Reached F m) (room : ℕ) whe
   unfolding Step moved leaves settle
   step-ended = rw (on-kept (stands F m) ended none) (record { answer = refl; world = refl; bytes = refl; there = p })
 
-  step-fits : (x : Frame) (g : List ℕ) → here F (placeAt F m) ≡ ok (some x) → built F x (picture F m) ≡ ok g → suc m < 1_000_000
+  step-fits : (x : Frame) (g : List ℕ) → here F (placeAt F m) ≡ ok (some x) → builtAt F m x ≡ ok g → suc m < 1_000_000
       → Step (ok (some (record { picture = picture F (suc (suc m)); next = placeAt F (suc m); report = reportAt F m x; bytes = recordAt F m }))) (pick (leb (length (recordAt F m)) room) (tookOn (reportAt F m x)) (refused 51))
   unfolding Step moved leaves settle took
   step-fits x g e c h = go (leb (length (recordAt F m)) room)
@@ -111,7 +111,7 @@ module _ (F : Film) (op : Opened F) (m : ℕ) (p : Reached F m) (room : ℕ) whe
       go true = rw (took-stands F m x) (record { answer = refl; world = refl; bytes = refl; there = next x g p e c h })
       go false = rw (on-kept (stands F m) (refused 51) (some (picture F (suc (suc m))))) (record { answer = refl; world = refl; bytes = refl; there = p })
 
-  step-change : (x : Frame) → here F (placeAt F m) ≡ ok (some x) → suc m < 1_000_000 → (c : Res (List ℕ)) → built F x (picture F m) ≡ c
+  step-change : (x : Frame) → here F (placeAt F m) ≡ ok (some x) → suc m < 1_000_000 → (c : Res (List ℕ)) → builtAt F m x ≡ c
       → Step (madeOf F m (some x)) (answerAt F m room (ok (some x)))
   unfolding answerAt
   step-change x e h (fault n) c = rw (make-fault F m x n c, c) (step-refused n)
@@ -120,7 +120,7 @@ module _ (F : Film) (op : Opened F) (m : ℕ) (p : Reached F m) (room : ℕ) whe
   step-here : suc m < 1_000_000 → (o : Res (Option Frame)) → here F (placeAt F m) ≡ o → Step (o >>= λ q. madeOf F m q) (answerAt F m room o)
   step-here h (fault n) e = unfold answerAt in step-refused n
   step-here h (ok none) e = unfold answerAt madeOf in step-ended
-  step-here h (ok (some x)) e = step-change x e h (built F x (picture F m)) refl
+  step-here h (ok (some x)) e = step-change x e h (builtAt F m x) refl
 
   step-tests : (s t : Bool) → ltb (suc m) 1_000_000 ≡ t
       → Step (need s 12 >>= λ _. need t 53 >>= λ _. here F (placeAt F m) >>= λ o. madeOf F m o) (pick s (pick t (answerAt F m room (here F (placeAt F m))) (refused 53)) (refused 12))

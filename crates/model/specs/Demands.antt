@@ -1,10 +1,11 @@
--- What demands 1 and 2 speak of (document 01, "Refusal numbers", "Deltas" and "Opening, stepping on, stepping back").
+-- What demands 1 and 2 speak of (document 01, "Refusal numbers", "Deltas" and "Opening, stepping on, stepping back", and document 02, E7).
 use Prim.Native.Nat.{ℕ, suc}
 use mathlib.Core.List.{List, [], _++_}
 use mathlib.Core.Option.{Option, none, some}
 use mathlib.Core.Path.{_≡_}
+use lib.Dec.{eqb}
 use lib.ListN.{length, take, drop}
-use Rattle.laws.specs.Result.{Res, Res.ok, Res.fault}
+use Rattle.laws.specs.Result.{Res, Res.ok, Res.fault, pick}
 use Rattle.state.specs.declared.Sizes.{Sizes}
 use Rattle.state.specs.State.{rowBytes}
 use Rattle.state.specs.World.{World, shownOf, hiddenOf}
@@ -61,16 +62,20 @@ pub record Free (file : List ℕ) (w : World) (work : ℕ) (x : Frame) : Type 0 
 abbrev pub deltaOps : World → Frame → Res (List Op)
 deltaOps w x = readDelta (shapeOf (w .state .sizes) (x .header .items)) (x .dlta)
 
--- the picture that they make of the hidden one
-abbrev pub newOf : World → Frame → List Op → List ℕ
-newOf w x ops = draw (shapeOf (w .state .sizes) (x .header .items)) (x .dlta) ops (hiddenOf w)
+-- the picture that frame x builds on, by its own interleave: for 1 the shown one, for 0 and 2 the hidden one
+abbrev pub basisOf : World → Frame → List ℕ
+basisOf w x = pick (eqb (x .header .interleave) 1) (shownOf w) (hiddenOf w)
 
--- the record of a step to a frame that makes f of the hidden picture
+-- the picture that the ops of its delta make of that one
+abbrev pub newOf : World → Frame → List Op → List ℕ
+newOf w x ops = draw (shapeOf (w .state .sizes) (x .header .items)) (x .dlta) ops (basisOf w x)
+
+-- the record of a step to a frame whose picture is f
 abbrev pub recordOf : World → List ℕ → List ℕ
 recordOf w f = recordBytes (suc (w .state .frame)) (w .state .next) (hiddenOf w) f
 
--- what a taken step to frame x, which makes f of the hidden picture, answers and leaves: f is in the hidden buffer, which is now the shown
--- one, and in the work buffer; the shown picture doesn't change; the record stands at the front of its buffer, and the bytes past it stay
+-- what a taken step to frame x, whose picture is f, answers and leaves: f is in the hidden buffer, which is now the shown one, and in the
+-- work buffer; the shown picture doesn't change; the record stands at the front of its buffer, and the bytes past it stay
 pub record Takes (w : World) (rec : List ℕ) (x : Frame) (f : List ℕ) (y : Answer) (w′ : World) (work′ rec′ : List ℕ) : Type 0 where
   pub answer : y ≡ tookOn (reportOf (w .state) x (hiddenOf w) f)
   pub state : w′ .state ≡ record { sizes = w .state .sizes; frame = suc (w .state .frame); next = x .next; end = w .state .end }

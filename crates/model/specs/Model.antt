@@ -1,4 +1,4 @@
--- The model of demand 3 (document 01, "Opening, stepping on, stepping back"). It is fed the file and the calls in order, and holds
+-- The model of demand 3 (document 01, "Opening, stepping on, stepping back", and document 02, E7). It is fed the file and the calls in order, and holds
 -- a number n, at first 1. Here m is n − 1: picture m + 1 is shown at n, and picture m hidden, where picture 0 is picture 1 too.
 -- With opening and the steps it shares the readings of chunks, BMHD, BODY, ANHD, deltas and records, what ops draw, the bytes of a record,
 -- the lengths of a row and of a frame, how many bytes differ, what an odd number is, the ids BMHD and BODY, and the types of what is
@@ -57,28 +57,36 @@ past at (ok (some x)) = x .next
 past at (ok none) = at
 past at (fault n) = at
 
--- what a frame's delta makes of a picture
-unfoldable pub built : Film → Frame → List ℕ → Res (List ℕ)
-built F x p =
-    readDelta (shapeOf (F .sizes) (x .header .items)) (x .dlta) >>= λ ops.
-    ok (draw (shapeOf (F .sizes) (x .header .items)) (x .dlta) ops p)
+-- the picture that a frame's interleave names: for 1 that one frame back, for 0 and 2 that two frames back
+abbrev pub named : Frame → List ℕ → List ℕ → List ℕ
+named x one two = pick (eqb (x .header .interleave) 1) one two
 
--- what such a frame makes of a picture, which stays where there is no frame, or its delta is refused
-unfoldable pub drawn : Film → List ℕ → Res (Option Frame) → List ℕ
-drawn F p (ok (some x)) = orKeep p (built F x p)
-drawn F p (ok none) = p
-drawn F p (fault n) = p
+-- what a frame's delta makes of the picture that its interleave names, by the pictures one and two frames back
+unfoldable pub built : Film → Frame → List ℕ → List ℕ → Res (List ℕ)
+built F x one two =
+    readDelta (shapeOf (F .sizes) (x .header .items)) (x .dlta) >>= λ ops.
+    ok (draw (shapeOf (F .sizes) (x .header .items)) (x .dlta) ops (named x one two))
+
+-- what the frame at a place makes of the pictures one and two frames back; where there is none, or its delta is refused, the latter
+unfoldable pub drawn : Film → List ℕ → List ℕ → Res (Option Frame) → List ℕ
+drawn F one two (ok (some x)) = orKeep two (built F x one two)
+drawn F one two (ok none) = two
+drawn F one two (fault n) = two
 
 -- the place past frame m + 1
 unfoldable pub placeAt : Film → ℕ → ℕ
 placeAt F zero = F .start
 placeAt F (suc m) = past (placeAt F m) (here F (placeAt F m))
 
--- picture k is what frame k's delta makes of the picture two frames back, or of picture 1 for frame 2
+-- picture k is what frame k's delta makes of picture k − 1 or k − 2, as its interleave names; for frame 2 both are picture 1
 unfoldable pub picture : Film → ℕ → List ℕ
 picture F zero = F .first
 picture F (suc zero) = F .first
-picture F (suc (suc k)) = drawn F (picture F k) (here F (placeAt F k))
+picture F (suc (suc k)) = drawn F (picture F (suc k)) (picture F k) (here F (placeAt F k))
+
+-- what the delta of x, frame m + 2, makes of picture m + 1 or m
+abbrev pub builtAt : Film → ℕ → Frame → Res (List ℕ)
+builtAt F m x = built F x (picture F (suc m)) (picture F m)
 
 -- the record of the step from frame m + 1 to frame m + 2: the hidden picture before and after
 unfoldable pub recordAt : Film → ℕ → List ℕ
@@ -109,7 +117,7 @@ answerFor F m room x (fault n) = refused n
 unfoldable pub answerAt : Film → ℕ → ℕ → Res (Option Frame) → Answer
 answerAt F m room (fault n) = refused n
 answerAt F m room (ok none) = ended
-answerAt F m room (ok (some x)) = answerFor F m room x (built F x (picture F m))
+answerAt F m room (ok (some x)) = answerFor F m room x (builtAt F m x)
 
 -- a step on from frame m + 1: the first refusal in the order 12, 53, those of the frame, 51; or End; or it is taken. Its state is
 -- within the limits and its pictures have a frame's length, so that neither 11 nor 12 for A or B can be met.

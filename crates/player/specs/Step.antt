@@ -1,4 +1,4 @@
--- Stepping on (document 01, "Opening, stepping on, stepping back" and "Refusal numbers").
+-- Stepping on (document 01, "Opening, stepping on, stepping back" and "Refusal numbers", and document 02, E7).
 use Prim.Native.Nat.{ℕ, suc}
 use mathlib.Core.List.{List, [], _++_}
 use mathlib.Core.Option.{Option, none, some}
@@ -14,6 +14,7 @@ use Rattle.state.specs.World.{World, isOdd, shownOf, hiddenOf}
 use Rattle.state.specs.Outcome.{Report, Answer, Answer.refused, Answer.ended, Answer.tookOn, Outcome, stays, After, inA, inB}
 use Rattle.runs.specs.Runs.{differing}
 use Rattle.record.specs.Record.{recordBytes}
+use Rattle.anhd.specs.declared.FrameHeader.{FrameHeader}
 use Rattle.delta.specs.Delta.{shapeOf, readDelta, draw}
 use Rattle.frame.specs.Frame.{Frame, frameAt}
 use Rattle.player.specs.declared.On.{On}
@@ -30,11 +31,15 @@ ready file s a b work =
     need (eqb work n) 12 >>= λ _.
     need (ltb (s .frame) 1_000_000) 53
 
--- what a frame makes of the shown and the hidden picture: it builds on the hidden one
+-- the picture that a frame with this header builds on: the shown one for interleave 1, the hidden one for 0 and 2
+abbrev pub basis : FrameHeader → List ℕ → List ℕ → List ℕ
+basis h shown hidden = pick (eqb (h .interleave) 1) shown hidden
+
+-- what a frame makes of the shown and the hidden picture
 unfoldable pub change : Sizes → Frame → List ℕ → List ℕ → Res (List ℕ)
 change z x shown hidden =
     readDelta (shapeOf z (x .header .items)) (x .dlta) >>= λ ops.
-    ok (draw (shapeOf z (x .header .items)) (x .dlta) ops hidden)
+    ok (draw (shapeOf z (x .header .items)) (x .dlta) ops (basis (x .header) shown hidden))
 
 -- a step on that a record buffer may still refuse: the new picture, the next place, what is reported, and the record
 pub record Made : Type 0 where
@@ -43,11 +48,11 @@ pub record Made : Type 0 where
   pub report : Report
   pub bytes : List ℕ
 
--- what is reported of a frame that makes f of the hidden picture
+-- what is reported of a frame whose picture is f
 abbrev pub reportOf : State → Frame → List ℕ → List ℕ → Report
 reportOf s x hidden f = record { method = x .header .method; time = x .header .time; changed = differing hidden f; length = length (recordBytes (suc (s .frame)) (s .next) hidden f) }
 
--- the step to a frame that makes f of the hidden picture
+-- the step to a frame whose picture is f
 unfoldable pub makes : State → Frame → List ℕ → List ℕ → Made
 makes s x hidden f = record { picture = f; next = x .next; report = reportOf s x hidden f; bytes = recordBytes (suc (s .frame)) (s .next) hidden f }
 

@@ -5,10 +5,11 @@ use mathlib.Core.Bool.{Bool, true, false}
 use mathlib.Core.List.{List, [], _++_}
 use mathlib.Core.Option.{Option, none, some}
 use mathlib.Core.Path.{_≡_, refl, sym, ap, _∙_}
-use lib.Dec.{leb}
+use lib.Dec.{leb, eqb}
 use lib.ListN.{length, take, drop}
 use borrow.Author.Tests.{eq-eqb, le-leb}
 use Rattle.laws.specs.Result.{Res, Res.ok, Res.fault, _>>=_, need, orKeep}
+use Rattle.laws.specs.ResultLaws.{pick-both}
 use Rattle.refusal.specs.Number.{numberOf}
 use Rattle.refusal.specs.declared.Refusal.{Refusal}
 use Rattle.state.specs.declared.Sizes.{Sizes}
@@ -24,8 +25,8 @@ use Rattle.record.specs.Record.{recordBytes, Measure, measure, written, Commits
 use Rattle.player.specs.declared.On.the-variants.{Taken, End, Refused}
 use Rattle.player.specs.declared.SteppedOn.{SteppedOn}
 use Rattle.state.specs.World.{World, isOdd, shownOf, hiddenOf}
-use Rattle.state.specs.Outcome.{Answer.refused, Outcome}
-use Rattle.player.specs.Step.{ready, change, Made, makes, make, advance, settle, onHidden, stepOn, onOf, workAfter, MeetsOn}
+use Rattle.state.specs.Outcome.{Answer.refused, Answer.ended, Outcome}
+use Rattle.player.specs.Step.{ready, basis, change, Made, makes, make, advance, settle, onHidden, stepOn, onOf, workAfter, LeavesOn, MeetsOn}
 use Rattle.player.specs.OutcomeLaws.{on-kept}
 use Rattle.player.specs.ReadyLaws.{Fits}
 
@@ -41,9 +42,9 @@ pub record Steps (o : Outcome) (work rec : List ℕ) (r : SteppedOn) (p work′ 
 pub record Records (m : Made) (s : State) (hidden rec : List ℕ) (r : SteppedOn) (p rec′ : List ℕ) : Type 0 where
   pub steps : (work : List ℕ) → Steps (settle s hidden (length rec) (ok (some m))) work rec r p (m .picture) rec′
 
--- a frame that builds on the hidden picture, whatever is shown
-pub record Builds (q : List ℕ → Res (Option Made)) (s : State) (hidden work rec : List ℕ) (r : SteppedOn) (p work′ rec′ : List ℕ) : Type 0 where
-  pub steps : (shown : List ℕ) → Steps (settle s hidden (length rec) (q shown)) work rec r p work′ rec′
+-- a step on that comes to q before its record is written
+abbrev pub Builds : (q : Res (Option Made)) (s : State) (hidden work rec : List ℕ) (r : SteppedOn) (p work′ rec′ : List ℕ) → Type 0
+Builds q s hidden work rec r p work′ rec′ = Steps (settle s hidden (length rec) q) work rec r p work′ rec′
 
 -- recording a frame f
 module _ (s : State) (x : Frame) (hidden f rec : List ℕ) (k : Fits s (length hidden) (length f)) {n : ℕ} (en : n ≡ suc (s .frame)) where
@@ -113,57 +114,60 @@ abbrev pub frameOf : ℕ → FrameHeader → List ℕ → Frame
 frameOf next header dlta = record { start = 0; size = 0; next = next; header = header; dlta = dlta }
 
 -- building frame x
-module _ (s : State) (x : Frame) (hidden work rec : List ℕ) (k : Fits s (length hidden) (length work)) (c : columnsOk (x .header .items) (rowBytes (s .sizes .width)) ≡ true) where
-  change-is : (shown : List ℕ) → change (s .sizes) x shown hidden ≡ newFrame (s .sizes) (x .header .items) (x .dlta) hidden (length work)
-  unfolding change newFrame
-  change-is shown = rw (frame-delta (s .sizes) (x .header .items) (x .dlta) (length hidden) (length work) (k .sizes) refl (k .same) c)
+module _ (s : State) (x : Frame) (shown hidden work rec : List ℕ) (j : Fits s (length shown) (length work)) (k : Fits s (length hidden) (length work)) (c : columnsOk (x .header .items) (rowBytes (s .sizes .width)) ≡ true) where
+  basis-length : length (basis (x .header) shown hidden) ≡ length hidden
+  basis-length = pick-both (λ (f : List ℕ). length f ≡ length hidden) (eqb (x .header .interleave) 1) (sym (j .same) ∙ k .same) refl
 
-  pub builds-refused : {why : Refusal} {work′ : List ℕ} → Applies (s .sizes) (x .header .items) (x .dlta) hidden work (fault (numberOf why)) work′
-      → Builds (λ shown. make s shown hidden (some x)) s hidden work rec (record { answer = Refused why; state = s }) hidden work′ rec
+  change-is : change (s .sizes) x shown hidden ≡ newFrame (s .sizes) (x .header .items) (x .dlta) (basis (x .header) shown hidden) (length work)
+  unfolding change newFrame
+  change-is = rw (frame-delta (s .sizes) (x .header .items) (x .dlta) (length (basis (x .header) shown hidden)) (length work) (k .sizes) basis-length (k .same) c)
+
+  pub builds-refused : {why : Refusal} {work′ : List ℕ} → Applies (s .sizes) (x .header .items) (x .dlta) (basis (x .header) shown hidden) work (fault (numberOf why)) work′
+      → Builds (make s shown hidden (some x)) s hidden work rec (record { answer = Refused why; state = s }) hidden work′ rec
   unfolding settle
   builds-refused p =
       let e = applied-refused p in
-      record { steps = λ shown. rw (change-is shown, e) (record { answer = refl; state = refl; picture = refl; drawn = p .leaves ∙ rw e; written = refl }) }
+      rw (change-is, e) (record { answer = refl; state = refl; picture = refl; drawn = p .leaves ∙ rw e; written = refl })
 
-  pub builds-recorded : {n : ℕ} {f p rec′ : List ℕ} {r : SteppedOn} → Applies (s .sizes) (x .header .items) (x .dlta) hidden work (ok n) f
-      → Records (makes s (frameOf (x .next) (x .header) []) hidden f) s hidden rec r p rec′ → Builds (λ shown. make s shown hidden (some x)) s hidden work rec r p f rec′
+  pub builds-recorded : {n : ℕ} {f p rec′ : List ℕ} {r : SteppedOn} → Applies (s .sizes) (x .header .items) (x .dlta) (basis (x .header) shown hidden) work (ok n) f
+      → Records (makes s (frameOf (x .next) (x .header) []) hidden f) s hidden rec r p rec′ → Builds (make s shown hidden (some x)) s hidden work rec r p f rec′
   unfolding makes
-  builds-recorded h q = record { steps = λ shown. rw (change-is shown, applied-drawn h) (q .steps work) }
+  builds-recorded h q = rw (change-is, applied-drawn h) (q .steps work)
+
+-- what a step to the next frame of FORM ANIM leaves
+abbrev pub Advances : (anim : List ℕ) (w : World) (work rec : List ℕ) (r : SteppedOn) (a b work′ rec′ : List ℕ) → Type 0
+Advances anim w work rec r a b work′ rec′ = LeavesOn (onHidden w (settle (w .state) (hiddenOf w) (length rec) (advance anim (w .state) (shownOf w) (hiddenOf w)))) work rec r a b work′ rec′
 
 -- the next frame
-module _ (anim : List ℕ) (s : State) (hidden work rec : List ℕ) where
-  pub advance-refused : {why : Refusal} → frameAt anim (rowBytes (s .sizes .width)) (s .next) ≡ fault (numberOf why)
-      → Builds (λ shown. advance anim s shown hidden) s hidden work rec (record { answer = Refused why; state = s }) hidden work rec
+module _ (anim : List ℕ) (w : World) (work rec : List ℕ) where
+  pub advance-refused : {why : Refusal} → frameAt anim (rowBytes (w .state .sizes .width)) (w .state .next) ≡ fault (numberOf why)
+      → Advances anim w work rec (record { answer = Refused why; state = w .state }) (w .a) (w .b) work rec
   unfolding advance settle
-  advance-refused e = record { steps = λ shown. rw e (record { answer = refl; state = refl; picture = refl; drawn = refl; written = refl }) }
+  advance-refused {why} e = rw e (rw (on-kept w (refused (numberOf why)) none) (record { answer = refl; state = refl; left = refl; right = refl; drawn = refl; written = refl }))
 
-  pub advance-ended : frameAt anim (rowBytes (s .sizes .width)) (s .next) ≡ ok none
-      → Builds (λ shown. advance anim s shown hidden) s hidden work rec (record { answer = End; state = s }) hidden work rec
+  pub advance-ended : frameAt anim (rowBytes (w .state .sizes .width)) (w .state .next) ≡ ok none → Advances anim w work rec (record { answer = End; state = w .state }) (w .a) (w .b) work rec
   unfolding advance settle
-  advance-ended e = record { steps = λ shown. rw e (record { answer = refl; state = refl; picture = refl; drawn = refl; written = refl }) }
+  advance-ended e = rw e (rw (on-kept w ended none) (record { answer = refl; state = refl; left = refl; right = refl; drawn = refl; written = refl }))
 
-  pub advance-built : {x : Frame} {d : List ℕ} {r : SteppedOn} {p work′ rec′ : List ℕ} → frameAt anim (rowBytes (s .sizes .width)) (s .next) ≡ ok (some x) → d ≡ x .dlta
-      → Builds (λ shown. make s shown hidden (some (frameOf (x .next) (x .header) d))) s hidden work rec r p work′ rec′ → Builds (λ shown. advance anim s shown hidden) s hidden work rec r p work′ rec′
-  unfolding advance change makes
-  advance-built e i q = record { steps = λ shown. rw e (rw i at (q .steps shown)) }
+  module _ {x : Frame} {d : List ℕ} {r : SteppedOn} {p work′ rec′ : List ℕ} (e : frameAt anim (rowBytes (w .state .sizes .width)) (w .state .next) ≡ ok (some x)) (i : d ≡ x .dlta) where
+    pub advance-odd : isOdd (w .state .frame) ≡ true → Builds (make (w .state) (w .a) (w .b) (some (frameOf (x .next) (x .header) d))) (w .state) (w .b) work rec r p work′ rec′
+        → Advances anim w work rec r (w .a) p work′ rec′
+    unfolding advance change makes onHidden hiddenOf shownOf
+    advance-odd h q = let k = rw i at q in rw (e, h) (record { answer = k .answer; state = k .state; left = refl; right = k .picture; drawn = k .drawn; written = k .written })
+
+    pub advance-even : isOdd (w .state .frame) ≡ false → Builds (make (w .state) (w .b) (w .a) (some (frameOf (x .next) (x .header) d))) (w .state) (w .a) work rec r p work′ rec′
+        → Advances anim w work rec r p (w .b) work′ rec′
+    unfolding advance change makes onHidden hiddenOf shownOf
+    advance-even h q = let k = rw i at q in rw (e, h) (record { answer = k .answer; state = k .state; left = k .picture; right = refl; drawn = k .drawn; written = k .written })
 
 -- stepping on from a file
 module _ (file : List ℕ) (w : World) (work rec : List ℕ) where
-  tests : Res (Unit {0})
-  tests = ready (length file) (w .state) (length (w .a)) (length (w .b)) (length work)
-
   pub on-refused : {why : Refusal} → ready (length file) (w .state) (length (w .a)) (length (w .b)) (length work) ≡ fault (numberOf why)
       → MeetsOn file w work rec (record { answer = Refused why; state = w .state }) (w .a) (w .b) work rec
   unfolding stepOn settle
   on-refused {why} e = rw e (rw (on-kept w (refused (numberOf why)) none) (record { answer = refl; state = refl; left = refl; right = refl; drawn = refl; written = refl }))
 
-  module _ (e : ready (length file) (w .state) (length (w .a)) (length (w .b)) (length work) ≡ ok tt) {r : SteppedOn} {p work′ rec′ : List ℕ} where
-    pub on-odd : isOdd (w .state .frame) ≡ true → Builds (λ shown. advance (take (w .state .end) file) (w .state) shown (w .b)) (w .state) (w .b) work rec r p work′ rec′
-        → MeetsOn file w work rec r (w .a) p work′ rec′
-    unfolding stepOn onHidden hiddenOf shownOf
-    on-odd h q = let k = q .steps (w .a) in rw (e, h) (record { answer = k .answer; state = k .state; left = refl; right = k .picture; drawn = k .drawn; written = k .written })
-
-    pub on-even : isOdd (w .state .frame) ≡ false → Builds (λ shown. advance (take (w .state .end) file) (w .state) shown (w .a)) (w .state) (w .a) work rec r p work′ rec′
-        → MeetsOn file w work rec r p (w .b) work′ rec′
-    unfolding stepOn onHidden hiddenOf shownOf
-    on-even h q = let k = q .steps (w .b) in rw (e, h) (record { answer = k .answer; state = k .state; left = k .picture; right = refl; drawn = k .drawn; written = k .written })
+  pub on-advanced : {r : SteppedOn} {a b work′ rec′ : List ℕ} → ready (length file) (w .state) (length (w .a)) (length (w .b)) (length work) ≡ ok tt
+      → Advances (take (w .state .end) file) w work rec r a b work′ rec′ → MeetsOn file w work rec r a b work′ rec′
+  unfolding stepOn
+  on-advanced e q = rw e q

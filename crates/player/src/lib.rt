@@ -6,9 +6,10 @@ ghost use mathlib.Core.Path.{_≡_};
 ghost use lib.ListN.{length};
 ghost use Rattle.state.specs.State.{rowBytes};
 ghost use Rattle.anhd.specs.Anhd.{columnsOk};
-ghost use Rattle.player.specs.Step.{ready, makes, make, advance, MeetsOn};
+ghost use Rattle.delta.specs.Delta.{Applies, appliedOf};
+ghost use Rattle.player.specs.Step.{ready, basis, makes, make, MeetsOn};
 ghost use Rattle.player.specs.ReadyLaws.{readyOf, Fits};
-ghost use Rattle.player.specs.StepLaws.{frameOf, Records, Builds};
+ghost use Rattle.player.specs.StepLaws.{frameOf, Records, Builds, Advances};
 use anhd::FrameHeader;
 use delta::Applied;
 use frame::DLTA;
@@ -16,6 +17,7 @@ use frame::Next;
 use record::Recorded;
 use refusal::Refusal;
 use state::Length;
+use state::Sizes;
 use state::State;
 
 // What stepping on answers.
@@ -107,21 +109,42 @@ fn record_frame(
     }
 }
 
-// Builds a frame in the work buffer from the hidden picture, then records it.
+// Builds a frame in the work buffer from the picture that its interleave names.
+fn apply_frame(
+    header: FrameHeader,
+    dlta: &[u8],
+    sizes: Sizes,
+    shown: &[u8],
+    hidden: &[u8],
+    work: &mut [u8],
+) -> Applied
+    ensures { λ r. ⌜ Applies sizes (header .items) (now (dlta .entry)) (basis header (now (shown .entry)) (now (hidden .entry)))
+        (now (work .entry)) (appliedOf r) (now (work .exit)) ⌝ }
+{
+    let items = header.items;
+    if header.interleave == 1 {
+        return delta::apply(work, shown, dlta, sizes, items);
+    }
+    delta::apply(work, hidden, dlta, sizes, items)
+}
+
+// Builds a frame in the work buffer, then records it.
 fn build_frame(
     header: FrameHeader,
     dlta: &[u8],
     next: usize,
     state: State,
+    shown: &[u8],
     hidden: &mut [u8],
     work: &mut [u8],
     rec: &mut [u8],
 ) -> SteppedOn
-    requires { ⌜ Fits state (length (now hidden)) (length (now work)) × (columnsOk (header .items) (rowBytes (state .sizes .width)) ≡ true) ⌝ }
-    ensures { λ r. ⌜ Builds (λ shown. make state shown (now (hidden .entry)) (some (frameOf next header (now (dlta .entry))))) state (now (hidden .entry)) (now (work .entry)) (now (rec .entry)) r (now (hidden .exit)) (now (work .exit)) (now (rec .exit)) ⌝ }
+    requires { ⌜ Fits state (length (now shown)) (length (now work)) × Fits state (length (now hidden)) (length (now work))
+        × (columnsOk (header .items) (rowBytes (state .sizes .width)) ≡ true) ⌝ }
+    ensures { λ r. ⌜ Builds (make state (now (shown .entry)) (now (hidden .entry)) (some (frameOf next header (now (dlta .entry))))) state
+        (now (hidden .entry)) (now (work .entry)) (now (rec .entry)) r (now (hidden .exit)) (now (work .exit)) (now (rec .exit)) ⌝ }
 {
-    let items = header.items;
-    let d = delta::apply(work, hidden, dlta, state.sizes, items);
+    let d = apply_frame(header, dlta, state.sizes, shown, hidden, work);
     match d {
         Applied::Refused(why) => SteppedOn {
             answer: On::Refused(why),
@@ -131,16 +154,18 @@ fn build_frame(
     }
 }
 
-// Steps to the next frame of FORM ANIM.
+// Steps to the next frame of FORM ANIM: into B from an odd frame, into A from an even one.
 fn advance(
     anim: &[u8],
     state: State,
-    hidden: &mut [u8],
+    a: &mut [u8],
+    b: &mut [u8],
     work: &mut [u8],
     rec: &mut [u8],
 ) -> SteppedOn
-    requires { ⌜ Fits state (length (now hidden)) (length (now work)) ⌝ }
-    ensures { λ r. ⌜ Builds (λ shown. advance (now (anim .entry)) state shown (now (hidden .entry))) state (now (hidden .entry)) (now (work .entry)) (now (rec .entry)) r (now (hidden .exit)) (now (work .exit)) (now (rec .exit)) ⌝ }
+    requires { ⌜ Fits state (length (now a)) (length (now work)) × Fits state (length (now b)) (length (now work)) ⌝ }
+    ensures { λ r. ⌜ Advances (now (anim .entry)) (record { a = now (a .entry); b = now (b .entry); state = state }) (now (work .entry)) (now (rec .entry)) r
+        (now (a .exit)) (now (b .exit)) (now (work .exit)) (now (rec .exit)) ⌝ }
 {
     let sizes = state.sizes;
     let f = frame::frame_at(anim, state.next, sizes.row_bytes());
@@ -161,7 +186,10 @@ fn advance(
         } => {
             let stop = start + len;
             let dlta = iff::contents(&anim[start..stop], DLTA);
-            build_frame(header, dlta, next, state, hidden, work, rec)
+            if state.frame % 2 == 1 {
+                return build_frame(header, dlta, next, state, a, b, work, rec);
+            }
+            build_frame(header, dlta, next, state, b, a, work, rec)
         }
     }
 }
@@ -185,11 +213,7 @@ pub fn step_on(
         },
         Begins::Yes => {
             let end = state.end;
-            let anim = &file[..end];
-            if state.frame % 2 == 1 {
-                return advance(anim, state, b, work, rec);
-            }
-            advance(anim, state, a, work, rec)
+            advance(&file[..end], state, a, b, work, rec)
         }
     }
 }

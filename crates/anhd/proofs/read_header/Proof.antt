@@ -1,5 +1,6 @@
 -- `anhd::read_header`: the tests are the definition's, in its order.
-use Prim.Native.Nat.{ℕ, _≤_}
+use Prim.Native.Nat.{ℕ, _<_, _≤_}
+use native.Mathlib.Omega.{arith}
 use mathlib.Core.Path.{_≡_}
 use mathlib.Core.Bool.{true, _||_}
 use mathlib.Core.List.{List}
@@ -15,10 +16,10 @@ use borrow.Author.Needs.{needs}
 use Rattle.anhd.proofs.read_header.Statement.{statement}
 use Rattle.anhd.proofs.read_header.Tie as tie
 
-header-is : (B : ℕ) (s : List ℕ) {m x bits time : ℕ} {items : Items} → 40 ≤ length s → m ≡ getD s 0 0 → (eqb m 5 || eqb m 7) ≡ true → x ≡ getD s 18 0 → (eqb x 0 || eqb x 2) ≡ true
-    → bits ≡ be32 s 20 → bitsOk m bits ≡ true → items ≡ itemsOf m bits → columnsOk items B ≡ true → time ≡ be32 s 14 → ok (record { method = m; time = time; items = items }) ≡ frameHeader B s
+header-is : (B : ℕ) (s : List ℕ) {m x bits time : ℕ} {items : Items} → 40 ≤ length s → m ≡ getD s 0 0 → (eqb m 5 || eqb m 7) ≡ true → x ≡ getD s 18 0 → x ≤ 2
+    → bits ≡ be32 s 20 → bitsOk m bits ≡ true → items ≡ itemsOf m bits → columnsOk items B ≡ true → time ≡ be32 s 14 → ok (record { method = m; time = time; interleave = x; items = items }) ≡ frameHeader B s
 unfolding frameHeader
-header-is B s {m} {x} {bits} {time} {items} l e a f b g k i h t = simp (le-leb 40 (length s) l, ← e, a, ← f, b, ← g, k, ← i, h, ← t)
+header-is B s {m} {x} {bits} {time} {items} l e a f b g k i h t = simp (le-leb 40 (length s) l, ← e, a, ← f, le-leb x 2 b, ← g, k, ← i, h, ← t)
 
 returns : tie.Need-returns
 unfolding frameHeader
@@ -39,15 +40,13 @@ returns-2 c =
 byte-requires-2 : tie.Need-byte-requires-2
 byte-requires-2 c κs = search needs
 
-either-requires-2 : tie.Need-either-requires-2
-either-requires-2 c κs = search needs
-
 returns-3 : tie.Need-returns-3
 unfolding frameHeader
 returns-3 c =
-    let i = c .before .before .before in
+    let i = c .before .before in
     let p = i .before in
-    simp (le-leb _ _ (p .before .before .if1 .left), ← p .before .byte .ensures .0, told-true (p .either .ensures) (i .if2 .left), ← c .before .before .byte2 .ensures .0, told-false (c .before .either2 .ensures) (c .if3 .taken))
+    let k : 2 < c .before .byte2 .result = omega (arith, c .if3 .taken) in
+    simp (le-leb _ _ (p .before .before .if1 .left), ← p .before .byte .ensures .0, told-true (p .either .ensures) (i .if2 .left), ← c .before .byte2 .ensures .0, lt-leb _ _ k)
 
 number32-requires : tie.Need-number32-requires
 number32-requires c κs = search needs
@@ -59,9 +58,10 @@ returns-4 : tie.Need-returns-4
 unfolding frameHeader
 returns-4 c =
     let j = c .before .before .before in
-    let i = j .before .before .before in
+    let i = j .before .before in
     let p = i .before in
-    simp (le-leb _ _ (p .before .before .if1 .left), ← p .before .byte .ensures .0, told-true (p .either .ensures) (i .if2 .left), ← j .before .before .byte2 .ensures .0, told-true (j .before .either2 .ensures) (j .if3 .left), ← c .before .before .number32 .ensures .0, told-false (c .before .bits-ok .ensures) (c .if4 .taken))
+    let x : j .before .byte2 .result ≤ 2 = omega (arith, j .if3 .left) in
+    simp (le-leb _ _ (p .before .before .if1 .left), ← p .before .byte .ensures .0, told-true (p .either .ensures) (i .if2 .left), ← j .before .byte2 .ensures .0, le-leb _ _ x, ← c .before .before .number32 .ensures .0, told-false (c .before .bits-ok .ensures) (c .if4 .taken))
 
 items-of-requires : tie.Need-items-of-requires
 items-of-requires c κs = search needs
@@ -74,9 +74,10 @@ unfolding frameHeader
 returns-5 c =
     let k = c .before .before .before in
     let j = k .before .before .before in
-    let i = j .before .before .before in
+    let i = j .before .before in
     let p = i .before in
-    simp (le-leb _ _ (p .before .before .if1 .left), ← p .before .byte .ensures .0, told-true (p .either .ensures) (i .if2 .left), ← j .before .before .byte2 .ensures .0, told-true (j .before .either2 .ensures) (j .if3 .left), ← k .before .before .number32 .ensures .0, told-true (k .before .bits-ok .ensures) (k .if4 .left), ← c .before .before .items-of .ensures, told-false (c .before .columns-ok .ensures) (c .if5 .taken))
+    let x : j .before .byte2 .result ≤ 2 = omega (arith, j .if3 .left) in
+    simp (le-leb _ _ (p .before .before .if1 .left), ← p .before .byte .ensures .0, told-true (p .either .ensures) (i .if2 .left), ← j .before .byte2 .ensures .0, le-leb _ _ x, ← k .before .before .number32 .ensures .0, told-true (k .before .bits-ok .ensures) (k .if4 .left), ← c .before .before .items-of .ensures, told-false (c .before .columns-ok .ensures) (c .if5 .taken))
 
 number32-requires-2 : tie.Need-number32-requires-2
 number32-requires-2 c κs = search needs
@@ -87,9 +88,12 @@ returns-6 c =
     let l = c .before in
     let k = l .before .before .before in
     let j = k .before .before .before in
-    let i = j .before .before .before in
+    let i = j .before .before in
     let p = i .before in
-    header-is (c .before .before .before .before .before .before .before .before .before .before .before .before .before .before .before .args .row) (c .before .before .before .before .before .before .before .before .before .before .before .before .before .before .before .args .s .now) (p .before .before .if1 .left) (p .before .byte .ensures .0) (told-true (p .either .ensures) (i .if2 .left)) (j .before .before .byte2 .ensures .0) (told-true (j .before .either2 .ensures) (j .if3 .left)) (k .before .before .number32 .ensures .0) (told-true (k .before .bits-ok .ensures) (k .if4 .left)) (l .before .before .items-of .ensures) (told-true (l .before .columns-ok .ensures) (l .if5 .left)) (c .number322 .ensures .0)
+    let x : j .before .byte2 .result ≤ 2 = omega (arith, j .if3 .left) in
+    let z = p .before .before .before .before .args in
+    header-is (z .row) (z .s .now) (p .before .before .if1 .left) (p .before .byte .ensures .0) (told-true (p .either .ensures) (i .if2 .left)) (j .before .byte2 .ensures .0) x
+    (k .before .before .number32 .ensures .0) (told-true (k .before .bits-ok .ensures) (k .if4 .left)) (l .before .before .items-of .ensures) (told-true (l .before .columns-ok .ensures) (l .if5 .left)) (c .number322 .ensures .0)
 
 pub read-header-spec : {M : Type 1} → statement M
 read-header-spec =
@@ -100,7 +104,6 @@ read-header-spec =
     either-requires
     returns-2
     byte-requires-2
-    either-requires-2
     returns-3
     number32-requires
     bits-ok-requires

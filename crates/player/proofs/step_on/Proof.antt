@@ -1,9 +1,7 @@
--- `player::step_on`: the tests, and then a step into B from an odd frame, into A from an even one.
+-- `player::step_on`: the tests, and then a step to the next frame of FORM ANIM.
 use Rattle.player.specs.ReadyLaws.{readyOf, ready-passed}
-use Rattle.player.specs.StepLaws.{on-refused, on-odd, on-even}
-use Rattle.state.specs.World.{isOdd}
+use Rattle.player.specs.StepLaws.{on-refused, on-advanced}
 use Rattle.laws.specs.ResultLaws.{told, each-is}
-use borrow.Author.Tests.{eq-eqb, ne-eqb}
 use lib.Seq.{length-take-le}
 use mathlib.Core.Path.{sym}
 use borrow.Author.Needs.{needs}
@@ -19,11 +17,20 @@ enum-known-t c = search needs
 enum-told : tie.Need-enum-told
 enum-told c = search needs
 
-slice-aggregate-anim : tie.Need-slice-aggregate-anim
-slice-aggregate-anim c = let k = c .before .before .before .before .before .before .before .before .before .args in sym (length-take-le _ _ (each-is (told readyOf (c .before .before .before .ready .ensures) (c .before .enum-told .given .1)) (ready-passed _ _ _ _ _) .inFile))
+slice-aggregate-advance : tie.Need-slice-aggregate-advance
+slice-aggregate-advance c = sym (length-take-le _ _ (each-is (told readyOf (c .before .before .before .ready .ensures) (c .before .enum-told .given .1)) (ready-passed _ _ _ _ _) .inFile))
 
 advance-requires : tie.Need-advance-requires
-advance-requires c κs = each-is (told readyOf (c .before .before .before .before .before .before .before .before .ready .ensures) (c .before .before .before .before .before .before .enum-told .given .1)) (ready-passed _ _ _ _ _) .onB
+advance-requires c κs =
+    let t = c .before .before .before .before .before in
+    let p = each-is (told readyOf (t .before .before .ready .ensures) (t .enum-told .given .1)) (ready-passed _ _ _ _ _) in
+    (p .onA, p .onB)
+
+returns : tie.Need-returns
+returns c =
+    let t = c .before .before .before in
+    let k = t .before .before .before .before .before .before .args in
+    on-refused (k .file .now) (record { a = k .a .now; b = k .b .now; state = k .state }) (k .work .now) (k .rec .now) (told readyOf (t .ready .ensures) (c .before .t .given .1))
 
 same-length : tie.Need-same-length
 same-length c = search needs
@@ -34,28 +41,15 @@ same-length-2 c = search needs
 same-length-3 : tie.Need-same-length-3
 same-length-3 c = search needs
 
-returns : tie.Need-returns
-unfolding isOdd
-returns c = let k = c .before .before .before .before .before .before .before .before .before .before .before .before .before .before .before .before .before .before .before .before .before .args in on-odd (k .file .now) (record { a = k .a .now; b = k .b .now; state = k .state }) (k .work .now) (k .rec .now) (told readyOf (c .before .before .before .before .before .before .before .before .before .before .before .before .before .before .before .ready .ensures) (c .before .before .before .before .before .before .before .before .before .before .before .before .before .enum-told .given .1)) (eq-eqb _ _ (c .before .before .before .before .before .before .before .before .before .before .if1 .taken)) (c .before .before .before .before .before .before .advance .ensures)
-
-advance-requires-2 : tie.Need-advance-requires-2
-advance-requires-2 c κs = each-is (told readyOf (c .before .before .before .before .before .before .before .before .ready .ensures) (c .before .before .before .before .before .before .enum-told .given .1)) (ready-passed _ _ _ _ _) .onA
-
-returns-2 : tie.Need-returns-2
-returns-2 c = let k = c .before .before .before .before .before .before .before .before .before .args in on-refused (k .file .now) (record { a = k .a .now; b = k .b .now; state = k .state }) (k .work .now) (k .rec .now) (told readyOf (c .before .before .before .ready .ensures) (c .before .t .given .1))
-
 same-length-4 : tie.Need-same-length-4
 same-length-4 c = search needs
 
-same-length-5 : tie.Need-same-length-5
-same-length-5 c = search needs
-
-same-length-6 : tie.Need-same-length-6
-same-length-6 c = search needs
-
-returns-3 : tie.Need-returns-3
-unfolding isOdd
-returns-3 c = let k = c .before .before .before .before .before .before .before .before .before .before .before .before .before .before .before .before .before .before .before .before .before .args in on-even (k .file .now) (record { a = k .a .now; b = k .b .now; state = k .state }) (k .work .now) (k .rec .now) (told readyOf (c .before .before .before .before .before .before .before .before .before .before .before .before .before .before .before .ready .ensures) (c .before .before .before .before .before .before .before .before .before .before .before .before .before .enum-told .given .1)) (ne-eqb _ _ (c .before .before .before .before .before .before .before .before .before .before .if1 .left)) (c .before .before .before .before .before .before .advance2 .ensures)
+returns-2 : tie.Need-returns-2
+returns-2 c =
+    let v = c .before .before .before .before .before .before .before .before in
+    let t = v .before .before .before .before .before .before in
+    let k = t .before .before .before .before .before .before .before .before .args in
+    on-advanced (k .file .now) (record { a = k .a .now; b = k .b .now; state = k .state }) (k .work .now) (k .rec .now) (told readyOf (t .before .before .ready .ensures) (t .enum-told .given .1)) (v .advance .ensures)
 
 pub step-on-spec : {M : Type 1} → statement M
 step-on-spec =
@@ -64,15 +58,11 @@ step-on-spec =
     ready-requires
     enum-known-t
     enum-told
-    slice-aggregate-anim
+    slice-aggregate-advance
     advance-requires
+    returns
     same-length
     same-length-2
     same-length-3
-    returns
-    advance-requires-2
-    returns-2
     same-length-4
-    same-length-5
-    same-length-6
-    returns-3)
+    returns-2)
