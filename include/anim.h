@@ -55,7 +55,7 @@ extern "C" {
 #endif
 
 /* The version of the interface. It grows by one with every landing that changes the interface. */
-#define ANIM_VERSION 2
+#define ANIM_VERSION 3
 
 /* Limits. */
 #define ANIM_MAX_WIDTH 1024                /* pixels */
@@ -82,7 +82,7 @@ extern "C" {
 #define ANIM_NO_DELTA 31           /* a frame without ANHD or DLTA */
 #define ANIM_SHORT_ANHD 32         /* ANHD under 40 bytes */
 #define ANIM_UNKNOWN_METHOD 33     /* a method that is neither 5 nor 7 */
-#define ANIM_UNKNOWN_INTERLEAVE 34 /* an interleave that is neither 0 nor 2 */
+#define ANIM_UNKNOWN_INTERLEAVE 34 /* an interleave other than 0, 1 and 2 */
 #define ANIM_UNKNOWN_OPTIONS 35    /* option bits: any for method 5, bits 1 to 31 for method 7 */
 #define ANIM_ODD_LONG_COLUMNS 36   /* method 7 with long data, and B isn't a multiple of 4 */
 #define ANIM_BAD_POINTER 41        /* DLTA under 64 bytes, or a pointer outside 64 to its length */
@@ -155,7 +155,7 @@ static inline const uint8_t *anim_shown(const anim_state *state, const uint8_t *
     return state->frame % 2 == 1 ? a : b;
 }
 
-/* Which buffer is hidden: the other one. The next step on builds its frame on this one. */
+/* Which buffer is hidden: the other one. The next step on puts its frame there. */
 static inline const uint8_t *anim_hidden(const anim_state *state, const uint8_t *a, const uint8_t *b) {
     return state->frame % 2 == 1 ? b : a;
 }
@@ -177,7 +177,7 @@ static inline const char *anim_refusal_text(uint64_t answer) {
     case ANIM_NO_DELTA: return "a frame lacks ANHD or DLTA";
     case ANIM_SHORT_ANHD: return "ANHD is too short";
     case ANIM_UNKNOWN_METHOD: return "the method is neither 5 nor 7";
-    case ANIM_UNKNOWN_INTERLEAVE: return "the interleave is neither 0 nor 2";
+    case ANIM_UNKNOWN_INTERLEAVE: return "the interleave is none of 0, 1 and 2";
     case ANIM_UNKNOWN_OPTIONS: return "option bits that the method doesn't have";
     case ANIM_ODD_LONG_COLUMNS: return "long data, and a row isn't a multiple of 4 bytes";
     case ANIM_BAD_POINTER: return "DLTA is too short for its pointers, or a pointer is bad";
@@ -263,7 +263,7 @@ uint64_t anim_open(const uint8_t *file, size_t file_length,
  *   31  the frame lacks ANHD or DLTA; the first chunk of each id counts
  *   32  ANHD is shorter than 40 bytes
  *   33  the method is neither 5 nor 7
- *   34  the interleave is neither 0 nor 2
+ *   34  the interleave is none of 0, 1 and 2
  *   35  option bits that the method doesn't have
  *   36  method 7 with long data, and B isn't a multiple of 4
  *   41  DLTA is shorter than 64 bytes
@@ -274,6 +274,10 @@ uint64_t anim_open(const uint8_t *file, size_t file_length,
  *       an end past the last row (43), items past DLTA's end (42). A Uniq or Same of none (count 0)
  *       isn't refused: it moves nothing, and the Same still takes its item
  *   51  the record is longer than its buffer
+ *
+ * The new frame is what its delta makes of the hidden picture (interleave 0 or 2: two frames back, for
+ * frame 2 the first picture) or of the shown one (interleave 1: one frame back). The record is of the
+ * hidden buffer before and after, whichever picture the frame is built on.
  *
  * Taken: the hidden buffer and the work buffer hold the new frame, the shown buffer is as it was, the
  * state is at the next frame and past its FORM, the report tells of it, and the record's bytes stand
@@ -354,7 +358,8 @@ uint64_t anim_row_refusal(uint64_t plane, uint64_t row,
  *   51  the delta is longer than out
  *
  * Written: the delta stands at the front of out, whose other bytes stay. Refused: all is as it was.
- * In a player that shows frame n, the old picture of frame n + 1 is the hidden one (anim_hidden).
+ * In a player that shows frame n, the old picture of frame n + 1 is the hidden one (anim_hidden), or
+ * the shown one (anim_shown) if its interleave is to be 1.
  */
 uint64_t anim_write_delta(uint64_t width, uint64_t height, uint64_t planes,
                           const uint8_t *old_frame, size_t old_length,

@@ -2,6 +2,7 @@
 pub mod calls;
 pub mod damaged;
 pub mod fences;
+pub mod interleaves;
 pub mod large;
 pub mod limits;
 pub mod listings;
@@ -27,6 +28,11 @@ pub fn play(check: &mut Check, file: &[u8]) -> Checked<()> {
     if player.open(&mut check.pair)? != 0 {
         return Ok(());
     }
+    on_and_back(check, player)
+}
+
+/// Plays on to the end or the first refusal, and takes every step back.
+pub fn on_and_back(check: &mut Check, mut player: Player) -> Checked<()> {
     let mut past = Vec::new();
     loop {
         let before = (player.a.bytes().to_vec(), player.b.bytes().to_vec(), player.now());
@@ -60,14 +66,14 @@ pub fn small_films(check: &mut Check) -> Vec<Vec<u8>> {
     films
 }
 
-/// A file with a packed BODY and a frame of each kind of item.
+/// A file with a packed BODY and a frame of each kind of item, and of each interleave where the rows have long columns.
 fn every_method(random: &mut Random, sizes: Sizes) -> Vec<u8> {
     let picture = random.bytes(sizes.frame());
     let body = files::packed_body(&picture, sizes);
     let mut parts = vec![files::picture_form(sizes, 1, &body)];
-    for items in [1, 2, 4].into_iter().filter(|items| sizes.row().is_multiple_of(*items)) {
+    for (items, interleave) in [(1, 0), (2, 1), (4, 2)].into_iter().filter(|(items, _)| sizes.row().is_multiple_of(*items)) {
         let delta = files::random_delta(random, sizes, items);
-        parts.push(files::delta_form(items, 3, &delta));
+        parts.push(files::delta_form(items, interleave, 3, &delta));
     }
     files::form(b"ANIM", &parts)
 }

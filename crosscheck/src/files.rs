@@ -1,5 +1,6 @@
 //! Makers of chunks, pictures, deltas and whole files, well formed or damaged.
-use crate::plain::Sizes;
+use crate::pair::delta_room;
+use crate::plain::{self, Sizes};
 use crate::random::Random;
 
 /// A chunk with its pad.
@@ -31,10 +32,11 @@ pub fn bmhd(sizes: Sizes, compression: u8) -> Vec<u8> {
 }
 
 /// ANHD's contents.
-pub fn anhd(items: usize, time: u32) -> Vec<u8> {
+pub fn anhd(items: usize, interleave: u8, time: u32) -> Vec<u8> {
     let mut all = vec![0; 40];
     all[0] = if items == 1 { 5 } else { 7 };
     all[14..18].copy_from_slice(&time.to_be_bytes());
+    all[18] = interleave;
     all[23] = u8::from(items == 4);
     all
 }
@@ -45,8 +47,8 @@ pub fn picture_form(sizes: Sizes, compression: u8, body: &[u8]) -> Vec<u8> {
 }
 
 /// The FORM of a later frame.
-pub fn delta_form(items: usize, time: u32, delta: &[u8]) -> Vec<u8> {
-    form(b"ILBM", &[chunk(b"ANHD", &anhd(items, time)), chunk(b"DLTA", delta)])
+pub fn delta_form(items: usize, interleave: u8, time: u32, delta: &[u8]) -> Vec<u8> {
+    form(b"ILBM", &[chunk(b"ANHD", &anhd(items, interleave, time)), chunk(b"DLTA", delta)])
 }
 
 /// The rows of a frame in BODY's order.
@@ -199,6 +201,18 @@ pub fn method_7(old_frame: &[u8], new_frame: &[u8], sizes: Sizes, items: usize) 
         }
         place_lists(&mut out, plane, &ops, &data);
     }
+    out
+}
+
+/// The delta of items of 1, 2 or 4 bytes that turns the old frame into the new one.
+pub fn delta_between(old: &[u8], new: &[u8], sizes: Sizes, items: usize) -> Vec<u8> {
+    if items > 1 {
+        return method_7(old, new, sizes, items);
+    }
+    let mut out = vec![0; delta_room(sizes)];
+    let [w, h, p] = [sizes.width as u64, sizes.height as u64, sizes.planes as u64];
+    let length = plain::write_delta(w, h, p, old, new, &mut out).expect("room");
+    out.truncate(length);
     out
 }
 
@@ -363,13 +377,12 @@ fn later_frame(random: &mut Random, sizes: Sizes, harm: Harm) -> Vec<u8> {
     let longs = sizes.row().is_multiple_of(4) || harm == Harm::AnimHeader && random.once_in(3);
     let items = *random.pick(if longs { &[1, 2, 4] } else { &[1, 2, 1] });
     let time = random.number() as u32 >> random.below(32);
-    let mut header = anhd(items, time);
-    header[18] = *random.pick(&[0, 2]);
+    let mut header = anhd(items, *random.pick(&[0, 1, 2]), time);
     if harm == Harm::AnimHeader {
         match random.below(4) {
             0 => header.truncate(random.below(41)),
             1 => header[0] = random.below(9) as u8,
-            2 => header[18] = random.below(4) as u8,
+            2 => header[18] = *random.pick(&[3, 4, 127, 128, 255]),
             _ => header[random.from_to(20, 23)] = random.byte() >> random.below(8),
         }
     } else if random.once_in(5) {

@@ -1,4 +1,4 @@
-//! Document 01 in plain Rust, written from the papers and not from the proved library.
+//! Document 01, with the change requests that have landed, in plain Rust, written from the papers and not from the proved library.
 //!
 //! A refused call changes nothing that it was lent, but for `step_on`'s work buffer under `NoRoom`.
 mod delta;
@@ -178,23 +178,37 @@ pub fn step_on(file: &[u8], state: &mut State, a: &mut [u8], b: &mut [u8], work:
     let (anhd, dlta) = anhd.zip(dlta).ok_or(NoDelta)?;
     let header = Header::read(anhd, sizes)?;
 
-    let hidden = if state.shows_a() { b } else { a };
+    let (shown, hidden) = if state.shows_a() { (a, b) } else { (b, a) };
+    let black = vec![0; if broken("frame-2-on-black") { length } else { 0 }];
+    let basis: &[u8] = match header.interleave {
+        _ if state.frame == 1 && broken("frame-2-on-black") => &black,
+        _ if state.frame == 1 && broken("frame-2-on-shown") => shown,
+        _ if state.frame == 1 && broken("frame-2-on-hidden") => hidden,
+        1 if !broken("one-back-as-two") => shown,
+        0 if broken("zero-as-one-back") => shown,
+        2 if broken("two-as-one-back") => shown,
+        _ => hidden,
+    };
     if broken("drawn-before-checked") {
-        work.copy_from_slice(hidden);
+        work.copy_from_slice(basis);
         delta::draw(dlta, sizes, header.items, work)?;
     }
     if !(broken("first-delta-only") && state.frame > 1) {
         delta::check(dlta, sizes, header.items)?;
         if broken("full-record-hides-frame") {
-            let mut drawn = hidden.to_vec();
+            let mut drawn = basis.to_vec();
             delta::draw(dlta, sizes, header.items, &mut drawn)?;
             record::write(hidden, &drawn, state.frame + 1, state.next, rec)?;
         }
-        work.copy_from_slice(hidden);
+        work.copy_from_slice(basis);
         delta::draw(dlta, sizes, header.items, work)?;
     }
-    let written = record::write(hidden, work, state.frame + 1, state.next, rec)?;
+    let before: &[u8] = if broken("record-of-shown") { basis } else { hidden };
+    let written = record::write(before, work, state.frame + 1, state.next, rec)?;
     hidden.copy_from_slice(work);
+    if broken("one-back-in-both") && header.interleave == 1 {
+        shown.copy_from_slice(work);
+    }
     state.frame += 1;
     state.next = form.next as u64;
     Ok(Some(Report { method: header.method, time: header.time, changed: written.changed, record_length: written.length }))

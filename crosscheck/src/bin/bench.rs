@@ -5,7 +5,7 @@
 //! A case is run N times (25 unless said), and for a fifth of a second at least. The table has ratios,
 //! library / plain Rust; with --times microseconds stand beside them.
 //! With --only a case is run if it has all the words: open or step or write, the width, light or heavy or noise,
-//! and the items' bytes of the method (1, 2, 4), or packed or plain for opening.
+//! the items' bytes of the method (1, 2, 4) and one-back or two-back, or packed or plain for opening.
 use crosscheck::files;
 use crosscheck::pair::{delta_room, record_room};
 use crosscheck::plain::{self, Sizes, State};
@@ -17,7 +17,8 @@ use std::time::{Duration, Instant};
 const SIZES: [Sizes; 3] =
     [Sizes { width: 320, height: 200, planes: 5 }, Sizes { width: 640, height: 512, planes: 8 }, Sizes { width: 1024, height: 1024, planes: 8 }];
 const CHANGES: [&str; 3] = ["light", "heavy", "noise"];
-const METHODS: [(&str, usize); 3] = [("method 5", 1), ("7 short", 2), ("7 long", 4)];
+/// Methods with the bytes of their items and an interleave.
+const METHODS: [(&str, usize, u8); 4] = [("method 5", 1, 0), ("7 short", 2, 0), ("7 long", 4, 0), ("5, one back", 1, 1)];
 
 /// How long a case is run at least, so that the best times of short calls settle.
 const SETTLED: Duration = Duration::from_millis(200);
@@ -97,9 +98,9 @@ fn next_picture(random: &mut Random, sizes: Sizes, old: &[u8], change: &str) -> 
     new
 }
 
-fn file_of(sizes: Sizes, compression: u8, body: &[u8], later: Option<(usize, &[u8])>) -> Vec<u8> {
+fn file_of(sizes: Sizes, compression: u8, body: &[u8], later: Option<(usize, u8, &[u8])>) -> Vec<u8> {
     let mut parts = vec![files::picture_form(sizes, compression, body)];
-    parts.extend(later.map(|(items, delta)| files::delta_form(items, 1, delta)));
+    parts.extend(later.map(|(items, interleave, delta)| files::delta_form(items, interleave, 1, delta)));
     files::form(b"ANIM", &parts)
 }
 
@@ -162,17 +163,6 @@ fn writing(least: usize, old: &[u8], new: &[u8], sizes: Sizes) -> Best {
     best
 }
 
-fn method_delta(old: &[u8], new: &[u8], sizes: Sizes, items: usize) -> Vec<u8> {
-    if items > 1 {
-        return files::method_7(old, new, sizes, items);
-    }
-    let mut out = vec![0; delta_room(sizes)];
-    let [w, h, p] = [sizes.width as u64, sizes.height as u64, sizes.planes as u64];
-    let length = plain::write_delta(w, h, p, old, new, &mut out).expect("room");
-    out.truncate(length);
-    out
-}
-
 /// What was asked for.
 struct Words {
     times: bool,
@@ -221,10 +211,11 @@ fn bench_change(words: &Words, tables: &mut Tables, sizes: Sizes, old: &[u8], ne
     let body = files::plain_body(old, sizes);
     let start = format!("| {} | {change} |", name(sizes));
     let (mut on_line, mut back_line) = (start.clone(), start.clone());
-    for (_, items) in METHODS {
-        let steps = words.wants(&["step", &width, change, &items.to_string()]).then(|| {
-            let delta = method_delta(old, new, sizes, items);
-            steps(words.turns, &file_of(sizes, 0, &body, Some((items, &delta))), sizes)
+    for (_, items, interleave) in METHODS {
+        let back = ["two-back", "one-back"][usize::from(interleave)];
+        let steps = words.wants(&["step", &width, change, &items.to_string(), back]).then(|| {
+            let delta = files::delta_between(old, new, sizes, items);
+            steps(words.turns, &file_of(sizes, 0, &body, Some((items, interleave, &delta))), sizes)
         });
         on_line += &cell(words, steps.map(|s| s.0));
         back_line += &cell(words, steps.map(|s| s.1));
@@ -259,8 +250,8 @@ fn main() {
     println!("Ratios, library / plain Rust{}; below 1 the library is faster.", if words.times { " (microseconds of each)" } else { "" });
     let methods = METHODS.map(|m| m.0).join(" | ");
     table("Opening", "| sizes | ByteRun1 | plain BODY |\n|---|---|---|", &tables.open);
-    table("Step on, record included", &format!("| sizes | changes | {methods} |\n|---|---|---|---|---|"), &tables.on);
-    table("Step back", &format!("| sizes | changes | {methods} |\n|---|---|---|---|---|"), &tables.back);
+    table("Step on, record included", &format!("| sizes | changes | {methods} |\n|---|---|---|---|---|---|"), &tables.on);
+    table("Step back", &format!("| sizes | changes | {methods} |\n|---|---|---|---|---|---|"), &tables.back);
     table("Writer", "| sizes | changes | method 5 |\n|---|---|---|", &tables.write);
 }
 

@@ -1,7 +1,7 @@
 //! Makes calls on both sides until they differ or the time is over.
 //!
 //!     check [--seed N] [--seconds N] [--broken NAME] [--names]
-use crosscheck::checks::{calls, damaged, fences, large, limits, listings, none, orders, records, writer, Check};
+use crosscheck::checks::{calls, damaged, fences, interleaves, large, limits, listings, none, orders, records, writer, Check};
 use crosscheck::faults;
 use crosscheck::pair::{Checked, Pair};
 use crosscheck::random::Random;
@@ -13,6 +13,7 @@ type Group = (&'static str, fn(&mut Check) -> Checked<()>);
 /// Made once, in this order.
 const ONCE: &[Group] = &[
     ("ops of none", none::run),
+    ("interleaves", interleaves::run),
     ("the outside listings", listings::run),
     ("buffers of wrong lengths", limits::lengths),
     ("states around each limit", limits::states),

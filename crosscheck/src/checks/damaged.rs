@@ -56,7 +56,7 @@ pub fn cut_contents(check: &mut Check) -> Checked<()> {
 
 /// A file of a plain picture and one delta.
 pub fn two_frames(sizes: Sizes, body: &[u8], items: usize, delta: &[u8]) -> Vec<u8> {
-    files::form(b"ANIM", &[files::picture_form(sizes, 0, body), files::delta_form(items, 1, delta)])
+    files::form(b"ANIM", &[files::picture_form(sizes, 0, body), files::delta_form(items, 0, 1, delta)])
 }
 
 /// One file, well formed or harmed.

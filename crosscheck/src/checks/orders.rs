@@ -58,12 +58,12 @@ pub fn openings(check: &mut Check) -> Checked<()> {
 
 /// ANHD with each of its things wrong.
 fn header(set: u32) -> Vec<u8> {
-    let mut header = files::anhd(if has(set, 0) { 4 } else { 1 }, 1);
+    let mut header = files::anhd(if has(set, 0) { 4 } else { 1 }, 0, 1);
     if has(set, 1) {
         header[20] = 1;
     }
     if has(set, 2) {
-        header[18] = 1;
+        header[18] = 3;
     }
     if has(set, 3) {
         header[0] = 4;

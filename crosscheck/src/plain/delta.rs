@@ -17,6 +17,8 @@ pub enum Items {
 pub struct Header {
     pub method: u64,
     pub time: u64,
+    /// 1 is one frame back, 0 and 2 are two.
+    pub interleave: u8,
     pub items: Items,
 }
 
@@ -29,7 +31,8 @@ impl Header {
         need(anhd.len() == 40 || !broken("anhd-exactly"), ShortAnhd)?;
         let (method, interleave, bits) = (anhd[0], anhd[18], be32(&anhd[20..]));
         need(method == 5 || method == 7, UnknownMethod)?;
-        need(matches!(interleave, 0 | 2) || interleave == 1 && broken("interleave-1"), UnknownInterleave)?;
+        need(interleave <= 2 || interleave == 3 && broken("three-back-taken"), UnknownInterleave)?;
+        need(interleave != 1 || !broken("one-back-refused"), UnknownInterleave)?;
         need(bits == 0 || method == 7 && bits == 1, UnknownOptions)?;
         let items = match (method, bits) {
             (5, _) => Items::Bytes,
@@ -37,7 +40,7 @@ impl Header {
             _ => Items::Longs,
         };
         need(items != Items::Longs || sizes.row().is_multiple_of(4), OddLongColumns)?;
-        Ok(Header { method: u64::from(method), time: be32(&anhd[14..]), items })
+        Ok(Header { method: u64::from(method), time: be32(&anhd[14..]), interleave, items })
     }
 }
 

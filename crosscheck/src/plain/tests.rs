@@ -107,5 +107,5 @@ fn outside_listings() {
     for vector in &vectors {
         assert_eq!(list(&vector.file), vector.listing, "{}", vector.name);
     }
-    assert_eq!(vectors.len(), 80);
+    assert_eq!(vectors.len(), 102);
 }
