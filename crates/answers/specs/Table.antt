@@ -8,6 +8,7 @@ use lib.Dec.{leb, ltb, eqb}
 use lib.ListN.{length, getD, take}
 use Rattle.laws.specs.Bytes.{be32}
 use Rattle.laws.specs.Result.{Res, Res.ok, Res.fault, _>>=_, need, orRefuse, pick}
+use Rattle.laws.specs.ResultLaws.{pick-both}
 use Rattle.laws.specs.LoopLaws.{Comes, Comes.comes-next, Comes.comes-done, comes-pick, runs-holds}
 use Rattle.refusal.specs.Number.{isNumber}
 use Rattle.state.specs.declared.Sizes.{Sizes}
@@ -52,14 +53,10 @@ table-refuse : {A : Type 0} (n : ℕ) (o : Option A) → isNumber n ≡ true →
 table-refuse n (some a) h = table-value
 table-refuse n none h = table-refusal h
 
-table-pick : {A : Type 0} (t : Bool) {x y : Res A} → InTable x → InTable y → InTable (pick t x y)
-table-pick true h k = h
-table-pick false h k = k
-
 -- chunks
 chunk-table : (s : List ℕ) (at : ℕ) → InTable (chunkAt s at)
 unfolding chunkAt
-chunk-table s at = table-pick (leb (length s) at) table-value (table-need (leb (at + 8) (length s)) 21 _ refl (table-need (leb (at + 8 + padded (be32 s (at + 4))) (length s)) 21 _ refl table-value))
+chunk-table s at = pick-both InTable (leb (length s) at) table-value (table-need (leb (at + 8) (length s)) 21 _ refl (table-need (leb (at + 8 + padded (be32 s (at + 4))) (length s)) 21 _ refl table-value))
 
 find-table : (id : ℕ) (s : List ℕ) → InTable (find id s)
 unfolding find
@@ -71,7 +68,7 @@ find-table id s = runs-holds (walkStep id s) (λ w. length s - w .at) (fault 21)
     or-table (fault n) p (table-refusal h) = table-refusal h
 
     step : (w : Walk) → InTable (w .answer) → (q : Res (Option Chunk)) → InTable q → Comes (λ (v : Walk). InTable (v .answer)) InTable (walkOn id w q)
-    step w h (ok (some c)) k = comes-next (table-pick (eqb (c .id) id) (or-table (w .answer) (partOf c) h) h)
+    step w h (ok (some c)) k = comes-next (pick-both InTable (eqb (c .id) id) (or-table (w .answer) (partOf c) h) h)
     step w h (ok none) k = comes-done h
     step w h (fault n) (table-refusal k) = comes-done (table-refusal k)
 
@@ -220,8 +217,8 @@ module _ (z : Sizes) (i : Items) (d : List ℕ) where
   planes-table zero p c = table-value
   planes-table (suc k) p c =
       table-bind
-      (table-pick (eqb (be32 d (4 * p)) 0) table-value
-      (table-bind (pointer-table p) λ a. table-bind (table-pick (shapeOf z i .inline) table-value (pointer-table (p + 8))) λ b. columns-table (shapeOf z i .row / shapeOf z i .item) (p * (shapeOf z i .height * shapeOf z i .row)) _))
+      (pick-both InTable (eqb (be32 d (4 * p)) 0) table-value
+      (table-bind (pointer-table p) λ a. table-bind (pick-both InTable (shapeOf z i .inline) table-value (pointer-table (p + 8))) λ b. columns-table (shapeOf z i .row / shapeOf z i .item) (p * (shapeOf z i .height * shapeOf z i .row)) _))
       λ e. planes-table k (p + 1) e
 
   delta-table : InTable (readDelta (shapeOf z i) d)

@@ -14,7 +14,7 @@ use Rattle.iff.specs.Both.{hasBoth}
 use Rattle.form.specs.Form.{Frame as Form, chunksOf, nextFrame}
 use Rattle.form.specs.FormLaws.{Follows, frame-follows}
 use Rattle.anhd.specs.Anhd.{columnsOk, frameHeader}
-use Rattle.anhd.specs.AnhdLaws.{header-columns}
+use Rattle.anhd.specs.AnhdLaws.{header-read}
 use Rattle.anhd.specs.declared.FrameHeader.{FrameHeader}
 use Rattle.frame.specs.Frame.{ANHD, DLTA, Frame, frameIn, frameOr, frameAt}
 
@@ -52,7 +52,7 @@ or-columns : (s : List ℕ) (B : ℕ) (o : Option Form) → Each (All (λ (x : F
 unfolding frameIn
 or-columns s B none = each all-none
 or-columns s B (some x) =
-    each-bind (each-any (hasBoth ANHD DLTA (chunksOf s x)) λ t. each-any (need t 31) λ _. each-bind (header-columns B (contents ANHD (chunksOf s x))) λ h e. each e) λ f e. each (all-some e)
+    each-bind (each-any (hasBoth ANHD DLTA (chunksOf s x)) λ t. each-any (need t 31) λ _. each-bind (header-read B (contents ANHD (chunksOf s x))) λ h e. each (e .columns)) λ f e. each (all-some e)
 
 pub frame-columns : (s : List ℕ) (B at : ℕ) (x : Frame) → frameAt s B at ≡ ok (some x) → columnsOk (x .header .items) B ≡ true
 unfolding frameAt

@@ -6,13 +6,13 @@ use native.Mathlib.Decide.{decLt}
 use mathlib.Core.List.{List, [], _∷_}
 use mathlib.Core.Option.{Option, none, some}
 use mathlib.Core.Path.{_≡_, refl, ap, _∙_}
-use mathlib.Core.Bool.{Bool, true, false, _||_}
-use lib.Dec.{leb, eqb, lit<}
-use lib.ListN.{length, getD, drop, length-append, length-take}
+use mathlib.Core.Bool.{Bool, true, false}
+use lib.Dec.{leb, lit<}
+use lib.ListN.{length, drop, length-append, length-take}
 use borrow.Author.Tests.{leb-true}
-use Rattle.laws.specs.Bytes.{bytes-take, be32, Bytes, be32-bound, bytes-drop}
+use Rattle.laws.specs.Bytes.{bytes-take, Bytes, be32-bound, bytes-drop}
 use Rattle.laws.specs.Result.{Res, Res.ok, Res.fault, _>>=_, need}
-use Rattle.laws.specs.ResultLaws.{Each, Each.each, Each.no-value, each-self, each-bind, each-need, All, All.all-some, All.all-none, all-value}
+use Rattle.laws.specs.ResultLaws.{Each, Each.each, Each.no-value, each-self, each-bind, each-need, each-map, All, All.all-some, All.all-none, all-value}
 use Rattle.refusal.specs.Number.{isNumber}
 use Rattle.refusal.specs.NumberLaws.{two-digits}
 use Rattle.state.specs.declared.Sizes.{Sizes}
@@ -22,7 +22,8 @@ use Rattle.iff.specs.ChunkLaws.{contents-room}
 use Rattle.iff.specs.Both.{isThere, andHas, hasBoth}
 use Rattle.form.specs.Form.{Frame as Form, chunksOf}
 use Rattle.form.specs.FormLaws.{Follows, frame-follows}
-use Rattle.anhd.specs.Anhd.{bitsOk, columnsOk, itemsOf, frameHeader}
+use Rattle.anhd.specs.Anhd.{frameHeader}
+use Rattle.anhd.specs.AnhdLaws.{header-read}
 use Rattle.anhd.specs.declared.FrameHeader.{FrameHeader}
 use Rattle.anhd.specs.declared.Items.{Items}
 use Rattle.delta.specs.Delta.{shapeOf, readPicture, readDelta}
@@ -59,11 +60,7 @@ pub record Holds (at : ℕ) (x : Frame) : Type 0 where
   pub takes : at + 20 + length (x .dlta) ≤ x .next
 
 header-holds : (B : ℕ) (s : List ℕ) → Bytes s → Each (λ (h : FrameHeader). (h .method < 256) × (h .time < 4_294_967_296)) (frameHeader B s)
-unfolding frameHeader
-header-holds B s h =
-    each-need (leb 40 (length s)) 32 _ λ _. each-need (eqb (getD s 0 0) 5 || eqb (getD s 0 0) 7) 33 _ λ _. each-need (leb (getD s 18 0) 2) 34 _ λ _.
-    each-need (bitsOk (getD s 0 0) (be32 s 20)) 35 _ λ _. each-need (columnsOk (itemsOf (getD s 0 0) (be32 s 20)) B) 36 _ λ _.
-    each (h 0, be32-bound s 14 h)
+header-holds B s h = each-map (λ y r. (rw (r .method) (h 0), rw (r .time) (be32-bound s 14 h))) (header-read B s)
 
 -- the contents of a chunk are bytes, and the second of two that are there has room for its header
 contents-bytes : (id : ℕ) (s : List ℕ) → Bytes s → Bytes (contents id s)
