@@ -1,6 +1,6 @@
 -- ANHD (document 01, "Chunks"): at least 40 bytes; method at 0, relative time at 14, interleave at 18, option bits at 20.
--- Interleave 0 and 2 both mean two frames back, and 1 one frame back (document 02, E7). Method 5 wants all option bits zero; method 7 wants
--- bits 1 to 31 zero, and bit 0 set means long data. Refusals 32 to 36 in table order.
+-- Interleave 0 and 2 both mean two frames back, and 1 one frame back (document 02, E7); the first frame's isn't looked at (E1). Method 5
+-- wants all option bits zero; method 7 wants bits 1 to 31 zero, and bit 0 set means long data. Refusals 32 to 36 in table order.
 use Prim.Native.Nat.{ℕ, _/_, _%_}
 use mathlib.Core.Bool.{Bool, true, _||_}
 use mathlib.Core.List.{List}
@@ -14,6 +14,10 @@ use Rattle.anhd.specs.declared.Items.the-variants.{Bytes, Shorts, Longs}
 use Rattle.anhd.specs.declared.FrameHeader.{FrameHeader}
 use Rattle.anhd.specs.declared.Anhd.{Anhd}
 use Rattle.anhd.specs.declared.Anhd.the-variants.{Header, Unread}
+
+-- the interleaves that the first frame, or a later one, takes
+abbrev pub interleaveOk : Bool → ℕ → Bool
+interleaveOk first interleave = first || leb interleave 2
 
 -- the option bits that a method takes
 abbrev pub bitsOk : ℕ → ℕ → Bool
@@ -29,12 +33,12 @@ columnsOk Bytes B = true
 columnsOk Shorts B = true
 columnsOk Longs B = eqb (B % 4) 0
 
--- the header of a frame whose rows have B bytes
-unfoldable pub frameHeader : ℕ → List ℕ → Res FrameHeader
-frameHeader B s =
+-- the header of a frame, the first or a later one, whose rows have B bytes
+unfoldable pub frameHeader : Bool → ℕ → List ℕ → Res FrameHeader
+frameHeader first B s =
     need (leb 40 (length s)) 32 >>= λ _.
     need (eqb (getD s 0 0) 5 || eqb (getD s 0 0) 7) 33 >>= λ _.
-    need (leb (getD s 18 0) 2) 34 >>= λ _.
+    need (interleaveOk first (getD s 18 0)) 34 >>= λ _.
     need (bitsOk (getD s 0 0) (be32 s 20)) 35 >>= λ _.
     need (columnsOk (itemsOf (getD s 0 0) (be32 s 20)) B) 36 >>= λ _.
     ok (record { method = getD s 0 0; time = be32 s 14; interleave = getD s 18 0; items = itemsOf (getD s 0 0) (be32 s 20) })

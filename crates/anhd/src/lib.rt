@@ -1,8 +1,8 @@
-// The header of a later frame, ANHD.
+// The header of a frame, ANHD.
 ghost use mathlib.Core.Path.{_≡_};
 ghost use mathlib.Core.Bool.{_||_};
 ghost use lib.Dec.{eqb};
-ghost use Rattle.anhd.specs.Anhd.{bitsOk, itemsOf, columnsOk, frameHeader, anhdOf};
+ghost use Rattle.anhd.specs.Anhd.{interleaveOk, bitsOk, itemsOf, columnsOk, frameHeader, anhdOf};
 use buffer::byte;
 use buffer::number32;
 use refusal::Refusal;
@@ -37,6 +37,16 @@ fn either(x: usize, a: usize, b: usize) -> bool
     x == b
 }
 
+// Whether an interleave is taken, in the first frame or a later one.
+fn interleave_ok(first: bool, interleave: usize) -> bool
+    ensures { λ r. ⌜ r ≡ interleaveOk first interleave ⌝ }
+{
+    if first {
+        return true;
+    }
+    interleave <= 2
+}
+
 fn bits_ok(method: usize, bits: usize) -> bool
     ensures { λ r. ⌜ r ≡ bitsOk method bits ⌝ }
 {
@@ -69,9 +79,9 @@ pub fn columns_ok(items: Items, row: usize) -> bool
     }
 }
 
-// Reads the contents of an ANHD, for a picture with row bytes per row.
-pub fn read_header(s: &[u8], row: usize) -> Anhd
-    ensures { λ r. ⌜ anhdOf r ≡ frameHeader row (now (s .entry)) ⌝ }
+// Reads the contents of an ANHD, of the first frame or a later one, for a picture with row bytes per row.
+pub fn read_header(first: bool, row: usize, s: &[u8]) -> Anhd
+    ensures { λ r. ⌜ anhdOf r ≡ frameHeader first row (now (s .entry)) ⌝ }
 {
     if s.len() < 40 {
         return Anhd::Unread(Refusal::ShortAnhd);
@@ -81,7 +91,7 @@ pub fn read_header(s: &[u8], row: usize) -> Anhd
         return Anhd::Unread(Refusal::UnknownMethod);
     }
     let interleave = byte(s, 18);
-    if 2 < interleave {
+    if !interleave_ok(first, interleave) {
         return Anhd::Unread(Refusal::UnknownInterleave);
     }
     let bits = number32(s, 20);

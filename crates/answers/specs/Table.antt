@@ -15,17 +15,19 @@ use Rattle.state.specs.declared.Sizes.{Sizes}
 use Rattle.state.specs.declared.State.{State}
 use Rattle.state.specs.State.{within, rowBytes, frameLength, stateLength}
 use Rattle.state.specs.World.{World, shownOf}
-use Rattle.iff.specs.Chunk.{FORM, Chunk, Part, Walk, padded, chunkAt, orPart, partOf, walkOn, walkStep, find, contents}
-use Rattle.form.specs.Form.{animEnd, Frame as Form, chunksOf, passOn, frameStep, nextFrame, ANIM, ILBM}
-use Rattle.iff.specs.Both.{andHas, hasBoth}
+use Rattle.iff.specs.Ids.{FORM, ANIM, ILBM, BMHD, BODY, ANHD, DLTA}
+use Rattle.iff.specs.Chunk.{Chunk, Part, Walk, padded, chunkAt, orPart, partOf, walkOn, walkStep, find, contents}
+use Rattle.form.specs.Form.{animEnd, Frame as Form, chunksOf, passOn, frameStep, nextFrame}
+use Rattle.iff.specs.Both.{has, andHas, hasBoth}
 use Rattle.bmhd.specs.Header.{sizesAt, refusedAs, header}
-use Rattle.anhd.specs.Anhd.{bitsOk, columnsOk, itemsOf, frameHeader}
+use Rattle.bmhd.specs.declared.Header.{Header}
+use Rattle.anhd.specs.Anhd.{interleaveOk, bitsOk, columnsOk, itemsOf, frameHeader}
 use Rattle.anhd.specs.declared.Items.{Items}
 use Rattle.ilbm.specs.ByteRun.{Row, Kind, Kind.copies, Kind.nothing, Kind.repeats, kindOf, packetAs, packetAt, withPacket, unpackOn, unpackRow}
 use Rattle.ilbm.specs.Body.{rowAt, rowsFrom, body}
 use Rattle.delta.specs.Delta.{shapeOf, Reading, byteAt, skip, fill, Kind as OpKind, Kind.same, Kind.skips, Kind.uniq, kindOf as opKindOf, opAs, readOp, readOps, readColumn, readColumns, pointer, readPlane, readPlanes, readPicture, readDelta}
-use Rattle.frame.specs.Frame.{ANHD, Frame, frameIn, frameOr, frameAt}
-use Rattle.opening.specs.Open.{placesIn, firstPlaces, bmhdAt, bodyAt, firstSize, firstOf, opening}
+use Rattle.frame.specs.Frame.{Frame, frameIn, frameOr, frameAt}
+use Rattle.opening.specs.Open.{bodyIn, placesIn, firstPlaces, firstHeader, firstSize, firstDelta, firstPicture, firstOf, opening}
 use Rattle.record.specs.Record.{pastOf, restored}
 use Rattle.player.specs.Step.{ready, change, make, advance}
 use Rattle.back.specs.Back.{retreat}
@@ -72,12 +74,15 @@ find-table id s = runs-holds (walkStep id s) (λ w. length s - w .at) (fault 21)
     step w h (ok none) k = comes-done h
     step w h (fault n) (table-refusal k) = comes-done (table-refusal k)
 
+has-table : (x : ℕ) (s : List ℕ) → InTable (has x s)
+has-table x s = table-bind (find-table x s) λ o. table-value
+
 both-table : (x y : ℕ) (s : List ℕ) → InTable (hasBoth x y s)
 unfolding hasBoth
 both-table x y s = table-bind (find-table x s) go
   where
     go : (o : Option Part) → InTable (andHas y s o)
-    go (some p) = table-bind (find-table y s) λ q. table-value
+    go (some p) = has-table y s
     go none = table-value
 
 form-table : (s : List ℕ) (from : ℕ) → InTable (nextFrame s from)
@@ -93,13 +98,19 @@ form-table s from = runs-holds (frameStep s) (λ at. length s - at) (fault 21) (
     step (fault n) (table-refusal k) = comes-done (table-refusal k)
 
 -- the first picture's places and its frame's length
+body-table : (s : List ℕ) → InTable (bodyIn s)
+unfolding bodyIn
+body-table s =
+    table-bind (has-table BMHD s) λ h. table-need h 23 _ refl
+    (table-bind (has-table BODY s) λ b. pick-both InTable b table-value (table-bind (has-table DLTA s) λ d. table-need d 23 _ refl table-value))
+
 places-table : (file : List ℕ) → InTable (firstPlaces file)
 unfolding firstPlaces animEnd placesIn
 places-table file =
     table-need (leb (length file) 2_147_483_647) 13 _ refl
     (table-bind (table-need (leb 12 (length file)) 21 _ refl (table-need (eqb (be32 file 0) FORM && eqb (be32 file 8) ANIM) 22 _ refl
     (table-need (leb 4 (be32 file 4)) 21 _ refl (table-need (leb (be32 file 4 + 8) (length file)) 21 _ refl table-value)))) λ end.
-    table-bind (form-table (take end file) 12) λ o. table-bind (table-refuse 23 o refl) λ x. table-bind (both-table _ _ (chunksOf (take end file) x)) λ t. table-need t 23 _ refl table-value)
+    table-bind (form-table (take end file) 12) λ o. table-bind (table-refuse 23 o refl) λ x. table-bind (body-table (chunksOf (take end file) x)) λ b. table-value)
 
 length-table : (z : Sizes) → InTable (frameLength z)
 unfolding frameLength
@@ -115,26 +126,32 @@ header-table s =
     refused-table (ok a) = table-value
     refused-table (fault n) = table-refusal {n = 24} refl
 
+first-table : (s : List ℕ) (t : Bool) → InTable (firstHeader s t)
+unfolding firstHeader
+first-table s t = table-bind (pick-both InTable t table-value (has-table ANHD s)) λ h. table-need h 31 _ refl (header-table (contents BMHD s))
+
 pub size-table : (file : List ℕ) → InTable (firstSize file)
 unfolding firstSize
-size-table file = table-bind (places-table file) λ p. table-bind (header-table _) λ z. table-value
+size-table file = table-bind (places-table file) λ p. table-bind (first-table (chunksOf file (p .form)) (p .body)) λ z. table-value
+
+-- a frame's header
+anhd-table : (first : Bool) (B : ℕ) (d : List ℕ) → InTable (frameHeader first B d)
+unfolding frameHeader
+anhd-table first B d =
+    table-need (leb 40 (length d)) 32 _ refl (table-need (eqb (getD d 0 0) 5 || eqb (getD d 0 0) 7) 33 _ refl (table-need (interleaveOk first (getD d 18 0)) 34 _ refl
+    (table-need (bitsOk (getD d 0 0) (be32 d 20)) 35 _ refl (table-need (columnsOk (itemsOf (getD d 0 0) (be32 d 20)) B) 36 _ refl table-value))))
 
 -- a later frame
 frame-table : (s : List ℕ) (B at : ℕ) → InTable (frameAt s B at)
-unfolding frameAt frameIn frameHeader
+unfolding frameAt frameIn
 frame-table s B at = table-bind (form-table s at) go
   where
-    anhd-table : (d : List ℕ) → InTable (frameHeader B d)
-    anhd-table d =
-        table-need (leb 40 (length d)) 32 _ refl (table-need (eqb (getD d 0 0) 5 || eqb (getD d 0 0) 7) 33 _ refl (table-need (leb (getD d 18 0) 2) 34 _ refl
-        (table-need (bitsOk (getD d 0 0) (be32 d 20)) 35 _ refl (table-need (columnsOk (itemsOf (getD d 0 0) (be32 d 20)) B) 36 _ refl table-value))))
-
     go : (o : Option Form) → InTable (frameOr s B o)
     go none = table-value
     go (some x) =
         table-bind
         (table-bind (both-table _ _ (chunksOf s x)) λ t. table-need t 31 _ refl
-        (table-bind (anhd-table (contents ANHD (chunksOf s x))) λ h. table-value))
+        (table-bind (anhd-table false B (contents ANHD (chunksOf s x))) λ h. table-value))
         λ f. table-value
 
 -- the first picture's BODY
@@ -167,15 +184,6 @@ rows-table : (packed : Bool) (s : List ℕ) (B k at : ℕ) → InTable (rowsFrom
 unfolding rowsFrom
 rows-table packed s B zero at = table-value
 rows-table packed s B (suc k) at = table-bind (row-table packed s B at) λ r. table-bind (rows-table packed s B k (r .next)) λ rs. table-value
-
-pub opening-table : (file : List ℕ) (a b : ℕ) → InTable (opening file a b)
-unfolding opening firstOf body
-opening-table file a b =
-    table-bind (places-table file) λ p.
-    table-bind
-    (table-bind (header-table (bmhdAt file p)) λ z. table-need (eqb a (z .length)) 12 _ refl (table-need (eqb b (z .length)) 12 _ refl
-    (table-bind (table-bind (rows-table (z .packed) (bodyAt file p) (rowBytes (z .sizes .width)) (z .sizes .height * z .sizes .planes) 0) λ rs. table-value) λ f. table-value)))
-    λ f. table-value
 
 -- a delta
 module _ (z : Sizes) (i : Items) (d : List ℕ) where
@@ -224,6 +232,22 @@ module _ (z : Sizes) (i : Items) (d : List ℕ) where
   delta-table : InTable (readDelta (shapeOf z i) d)
   unfolding readDelta readPicture
   delta-table = table-bind (table-need (leb 64 (length d)) 41 _ refl (planes-table (shapeOf z i .planes) 0 _)) λ c. table-value
+
+-- opening
+picture-table : (s : List ℕ) (t : Bool) (z : Header) → InTable (firstPicture s t z)
+unfolding firstPicture firstDelta body
+picture-table s true z = table-bind (rows-table (z .packed) (contents BODY s) (rowBytes (z .sizes .width)) (z .sizes .height * z .sizes .planes) 0) λ rs. table-value
+picture-table s false z =
+    table-bind (anhd-table true (rowBytes (z .sizes .width)) (contents ANHD s)) λ h. table-bind (delta-table (z .sizes) (h .items) (contents DLTA s)) λ ops. table-value
+
+pub opening-table : (file : List ℕ) (a b : ℕ) → InTable (opening file a b)
+unfolding opening firstOf
+opening-table file a b =
+    table-bind (places-table file) λ p.
+    table-bind
+    (table-bind (first-table (chunksOf file (p .form)) (p .body)) λ z. table-need (eqb a (z .length)) 12 _ refl (table-need (eqb b (z .length)) 12 _ refl
+    (table-bind (picture-table (chunksOf file (p .form)) (p .body) z) λ f. table-value)))
+    λ f. table-value
 
 -- the state
 state-table : (s : State) → InTable (stateLength s)

@@ -19,7 +19,7 @@ use Rattle.column.specs.Column.{join, groupsOf, loose, stretch, restOf, uniqs, 
 use Rattle.writer.specs.Write.{columnAt, columnIn, columnsBytes, equal, planeBytes, be32Bytes, pointerOf, pointersBytes, listsBytes, deltaBytes, written}
 use Rattle.iff.specs.Both.{hasBoth}
 use Rattle.frame.specs.Frame.{frameIn, frameAt}
-use Rattle.opening.specs.Open.{placesIn, firstPlaces, firstOf, opening}
+use Rattle.opening.specs.Open.{bodyIn, placesIn, firstPlaces, firstHeader, firstPicture, firstOf, opening}
 use Rattle.state.specs.World.{isOdd, shownOf, hiddenOf}
 use Rattle.player.specs.Step.{ready, change, makes, advance, settle, onHidden, stepOn}
 use Rattle.bench.specs.Film.{twoFrames}
@@ -27,5 +27,5 @@ use Rattle.bench.specs.Bench.{Example, table}
 
 -- every example comes to what the paper says
 pub bench : map (λ (x : Example). x .comes) table ≡ map (λ (x : Example). x .says) table
-unfolding table twoFrames runs be16 be32 rowBytes frameBytes frameLength stateLength readNumber groups lastGroup writeNumber writeGroups kept changed runsOf differ differing runBytes runsBytes listBytes recordBytes readRun readRuns readList putBack runsBack beforeOf pastOf restored chunkAt find animEnd nextFrame header unpackRow packetAt body rowsFrom rowAt place drawRows frameHeader byteAt skip fill readOp readOps readColumn readColumns pointer readPlane readPlanes readPicture readDelta put draw readFrame newFrame join groupsOf loose stretch restOf uniqs cut cutAll opsOf columnOps opBytes opsBytes columnBytes columnAt columnIn columnsBytes equal planeBytes be32Bytes pointerOf pointersBytes listsBytes deltaBytes written hasBoth contents frameIn frameAt placesIn firstPlaces firstOf opening isOdd shownOf hiddenOf ready change makes advance settle onHidden stepOn
+unfolding table twoFrames runs be16 be32 rowBytes frameBytes frameLength stateLength readNumber groups lastGroup writeNumber writeGroups kept changed runsOf differ differing runBytes runsBytes listBytes recordBytes readRun readRuns readList putBack runsBack beforeOf pastOf restored chunkAt find animEnd nextFrame header unpackRow packetAt body rowsFrom rowAt place drawRows frameHeader byteAt skip fill readOp readOps readColumn readColumns pointer readPlane readPlanes readPicture readDelta put draw readFrame newFrame join groupsOf loose stretch restOf uniqs cut cutAll opsOf columnOps opBytes opsBytes columnBytes columnAt columnIn columnsBytes equal planeBytes be32Bytes pointerOf pointersBytes listsBytes deltaBytes written hasBoth contents frameIn frameAt bodyIn placesIn firstPlaces firstHeader firstPicture firstOf opening isOdd shownOf hiddenOf ready change makes advance settle onHidden stepOn
 bench = refl

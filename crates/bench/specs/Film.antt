@@ -2,10 +2,7 @@
 use Prim.Native.Nat.{ℕ, _/_, _%_}
 use mathlib.Core.List.{List, [], _∷_, _++_}
 use lib.ListN.{length, replicate}
-use Rattle.iff.specs.Chunk.{FORM}
-use Rattle.form.specs.Form.{ANIM, ILBM}
-use Rattle.frame.specs.Frame.{ANHD, DLTA}
-use Rattle.opening.specs.Open.{BMHD, BODY}
+use Rattle.iff.specs.Ids.{FORM, ANIM, ILBM, BMHD, BODY, ANHD, DLTA}
 
 -- four bytes, the highest first
 abbrev fourBytes : ℕ → List ℕ

@@ -2,11 +2,11 @@
 use Prim.Native.Nat.{ℕ}
 use native.Mathlib.Omega.{arith}
 use mathlib.Core.Bool.{true, false}
-use mathlib.Core.Path.{_≡_, refl, ap, _∙_}
+use mathlib.Core.Path.{_≡_, refl, _∙_}
 use mathlib.Core.List.{List, []}
 use lib.ListN.{length}
 use borrow.Author.Tests.{eq-eqb, ne-eqb}
-use Rattle.laws.specs.Result.{Res.ok, Res.fault}
+use Rattle.laws.specs.Result.{Res, Res.ok, Res.fault, _>>=_, orKeep}
 use Rattle.refusal.specs.Number.{numberOf}
 use Rattle.refusal.specs.declared.Refusal.{Refusal}
 use Rattle.state.specs.declared.Sizes.{Sizes}
@@ -19,8 +19,8 @@ use Rattle.delta.specs.declared.Shape.{Shape}
 use Rattle.delta.specs.declared.Cursor.{Cursor}
 use Rattle.delta.specs.declared.Step.{Step}
 use Rattle.delta.specs.declared.Step.the-variants.{Next, Faulty}
-use Rattle.delta.specs.Delta.{Op, Reading, width, shapeOf, readPicture, readDelta, draw, readFrame, newFrame, opCount, Applies}
-use Rattle.delta.specs.Walk.{Width, Planes, top, reading, Walked, Refused, Took, Took.took, Took.refused, Built, Built.built, Built.kept}
+use Rattle.delta.specs.Delta.{Op, width, shapeOf, readPicture, readDelta, draw, readFrame, newFrame, opCount, Applies}
+use Rattle.delta.specs.Walk.{Width, Planes, top, Took, Took.took, Took.refused, Passes, Checked, Checked.passes, Checked.stops}
 
 widths : (i : Items) → Width (width i)
 widths Bytes = record { least = omega arith; most = omega arith; not-three = λ e. omega arith }
@@ -72,38 +72,69 @@ module _ {z : Sizes} {i : Items} {d f w : List ℕ} where
   unfolding opCount newFrame
   applies-ok e = record { counts = rw e; leaves = rw e }
 
-  pub applies-built : {S : Shape} {g : List ℕ} {b : Step} {c : Cursor} → S ≡ shapeOf z i → readFrame z i d (length f) (length w) ≡ readDelta (shapeOf z i) d → Built S d f w g b → b ≡ Next c
-      → Applies z i d f w (ok (c .ops)) g
-  applies-built {c = c} e r (built {c = c′} ops t n q) h =
-      let u : c′ ≡ c = cc in
-      let m : c .ops ≡ length ops = rw u at n in
-      rw (m, q, e) (applies-ok (r ∙ rw e at t))
-  applies-built e r (kept t q) h = let z : _≡_ {A = ℕ} 0 1 = cc in absurd (omega arith)
+-- a delta that is checked
+module _ {z : Sizes} {i : Items} {d w : List ℕ} {m : ℕ} where
+  pub check-stops : {why : Refusal} → readFrame z i d m (length w) ≡ fault (numberOf why) → Checked z i d m w w (Faulty why)
+  check-stops {why} e = stops {why = why} e refl
 
-  pub applies-kept : {S : Shape} {g : List ℕ} {b : Step} {why : Refusal} → S ≡ shapeOf z i → readFrame z i d (length f) (length w) ≡ readDelta (shapeOf z i) d → Built S d f w g b → b ≡ Faulty why
-      → Applies z i d f w (fault (numberOf why)) g
-  applies-kept e r (built ops t n q) h = let z : _≡_ {A = ℕ} 0 1 = cc in absurd (omega arith)
-  applies-kept {why = why} e r (kept {why = x} t q) h =
-      let u : x ≡ why = cc in
-      rw q (applies-fault (r ∙ rw (e, u) at t))
-
--- what the two walks come to
-module _ {S : Shape} {d f w : List ℕ} where
-  pub built-kept : {g : List ℕ} (why : Refusal) → Refused false w (readPicture S d) top g (numberOf why) → Built S d f w g (Faulty why)
+  pub check-walked : {S : Shape} {g : List ℕ} {n : ℕ} {b : Step} → S ≡ shapeOf z i → readFrame z i d m (length w) ≡ readDelta (shapeOf z i) d → m ≡ length w → Planes (shapeOf z i) (length w)
+      → Took S d false w (readPicture S d) top g n b → Checked z i d m w g b
   unfolding readDelta
-  built-kept why t = kept {why = why} (rw (t .same [])) (t .kept refl)
+  check-walked e r s p (took {c = c} t) =
+      let q : readDelta (shapeOf z i) d ≡ ok (t .new) = rw (← e) (rw (t .same []) refl) in
+      passes {c = c} (record { ops = t .new; read = q; frame = r ∙ q; counted = omega (arith, t .counted); same = s; planes = p; kept = t .drawn })
+  check-walked e r s p (refused {why = why} u) = stops {why = why} (r ∙ rw (← e) (rw (u .same []) refl)) (u .kept refl)
+
+  check-next : {g : List ℕ} {b : Step} {c : Cursor} → Checked z i d m w g b → b ≡ Next c → Passes z i d m w g c
+  check-next {c = c} (passes {c = x} p) e = let u : x ≡ c = cc in rw u at p
+  check-next (stops r q) e = let z : _≡_ {A = ℕ} 0 1 = cc in absurd (omega arith)
+
+  check-faulty : {g : List ℕ} {b : Step} {why : Refusal} → Checked z i d m w g b → b ≡ Faulty why → (readFrame z i d m (length w) ≡ fault (numberOf why)) × (g ≡ w)
+  check-faulty (passes p) e = let z : _≡_ {A = ℕ} 0 1 = cc in absurd (omega arith)
+  check-faulty {why = why} (stops {why = x} r q) e = let u : x ≡ why = cc in (rw u at r, q)
+
+-- the frame that is then drawn into has the work buffer's length
+pub planes-for : {S : Shape} {z : Sizes} {i : Items} {d w g : List ℕ} {m n : ℕ} {b : Step} {c : Cursor} → Checked z i d m w g b → b ≡ Next c → S ≡ shapeOf z i → n ≡ length g → Planes S n
+planes-for t h s e = let p = check-next t h in rw (s, e, p .kept) (p .planes)
+
+-- a delta that is checked, and drawn
+module _ {z : Sizes} {i : Items} {d f w : List ℕ} {m : ℕ} (e : m ≡ length f) where
+  pub applies-refused : {g : List ℕ} {b : Step} {why : Refusal} → Checked z i d m w g b → b ≡ Faulty why → Applies z i d f w (fault (numberOf why)) g
+  applies-refused c h = let p = check-faulty c h in rw (p .1) (applies-fault (rw e at (p .0)))
 
   -- the second walk draws what the first one read
-  pub built-drawn : {g h k : List ℕ} {m : ℕ} (c : Cursor) {r : Step} → Walked S d false w (readPicture S d) top ok g m c → h ≡ f → Took S d true h (readPicture S d) top k m r → Built S d f w k (Next c)
+  passes-drawn : {S : Shape} {g h k : List ℕ} {n : ℕ} {t : Step} {c : Cursor} → Passes z i d m w g c → S ≡ shapeOf z i → h ≡ f → Took S d true h (readPicture S d) top k n t
+      → Applies z i d f w (ok (c .ops)) k
   unfolding readDelta
-  built-drawn c t l (took {c = c′} u) =
-      let a : readPicture S d (reading top []) ≡ ok (reading c (t .new)) = t .same [] in
-      let b : readPicture S d (reading top []) ≡ ok (reading c′ (u .new)) = u .same [] in
-      let q : reading c (t .new) ≡ reading c′ (u .new) = cc in
-      let p : t .new ≡ u .new = ap (λ (x : Reading). x .ops) q in
-      built {c = c} (t .new) (rw a) (omega (arith, t .counted)) (u .drawn ∙ rw (l, p))
-  built-drawn c t l (refused {why = why} u) =
-      let a : readPicture S d (reading top []) ≡ ok (reading c (t .new)) = t .same [] in
-      let b = u .same [] in
+  passes-drawn {S} {g} {h} {k} {n} {t} {c} p s l (took u) =
+      let a : readDelta (shapeOf z i) d ≡ ok (u .new) = rw (← s) (rw (u .same []) refl) in
+      let o : u .new ≡ p .ops = cc in
+      let q : k ≡ draw (shapeOf z i) d (p .ops) f = u .drawn ∙ rw (l, o, s) refl in
+      rw (q, p .counted) (applies-ok (rw e at (p .frame)))
+  passes-drawn p s l (refused {why = why} u) =
+      let a : readDelta (shapeOf z i) d ≡ fault (numberOf why) = rw (← s) (rw (u .same []) refl) in
+      let b = p .read in
       let q : _≡_ {A = ℕ} 0 1 = cc in
       absurd (omega arith)
+
+  pub applies-drawn : {S : Shape} {g h k : List ℕ} {n : ℕ} {b t : Step} {c : Cursor} → Checked z i d m w g b → b ≡ Next c → S ≡ shapeOf z i → (g ≡ w → m ≡ length w → h ≡ f) → Took S d true h (readPicture S d) top k n t
+      → Applies z i d f w (ok (c .ops)) k
+  applies-drawn x y s l u = let p = check-next x y in passes-drawn p s (l (p .kept) (p .same)) u
+
+-- what was applied
+module _ {z : Sizes} {i : Items} {d f w g : List ℕ} where
+  pub applied-refused : {n : ℕ} → Applies z i d f w (fault n) g → newFrame z i d f (length w) ≡ fault n
+  unfolding opCount newFrame
+  applied-refused {n} p = go (readFrame z i d (length f) (length w)) (p .counts)
+    where
+      go : (r : Res (List Op)) → fault n ≡ (r >>= λ ops. ok (length ops)) → (r >>= λ ops. ok (draw (shapeOf z i) d ops f)) ≡ fault n
+      go (ok ops) e = let q : _≡_ {A = ℕ} 0 1 = cc in absurd (omega arith)
+      go (fault m) e = let q : m ≡ n = cc in rw q
+
+  pub applied-drawn : {c : ℕ} → Applies z i d f w (ok c) g → newFrame z i d f (length w) ≡ ok g
+  unfolding opCount newFrame
+  applied-drawn {c} p = go (readFrame z i d (length f) (length w)) (p .counts) (p .leaves)
+    where
+      go : (r : Res (List Op)) → ok c ≡ (r >>= λ ops. ok (length ops)) → g ≡ orKeep w (r >>= λ ops. ok (draw (shapeOf z i) d ops f)) → (r >>= λ ops. ok (draw (shapeOf z i) d ops f)) ≡ ok g
+      go (ok ops) e h = rw h
+      go (fault m) e h = let q : _≡_ {A = ℕ} 0 1 = cc in absurd (omega arith)

@@ -8,7 +8,9 @@ use Rattle.laws.specs.Result.{Res, Res.ok, Res.fault, pick}
 use Rattle.refusal.specs.Number.{numberOf}
 use Rattle.refusal.specs.declared.Refusal.{Refusal}
 use Rattle.refusal.specs.declared.Refusal.the-variants.{OpPastLastRow}
-use Rattle.delta.specs.Delta.{Op, noRows, Reading, readDelta, draw}
+use Rattle.state.specs.declared.Sizes.{Sizes}
+use Rattle.anhd.specs.declared.Items.{Items}
+use Rattle.delta.specs.Delta.{Op, shapeOf, noRows, Reading, readDelta, draw, readFrame}
 use Rattle.delta.specs.declared.Shape.{Shape}
 use Rattle.delta.specs.declared.Cursor.{Cursor}
 use Rattle.delta.specs.declared.Step.{Step}
@@ -124,7 +126,17 @@ pub data Took (S : Shape) (d : List ℕ) (drawing : Bool) (f : List ℕ) (whole 
   took : {c : Cursor} → Walked S d drawing f whole c₀ ok g most c → Took S d drawing f whole c₀ g most (Next c)
   refused : {why : Refusal} → Refused drawing f whole c₀ g (numberOf why) → Took S d drawing f whole c₀ g most (Faulty why)
 
--- a whole delta is checked, then drawn into a copy of the picture f: the work buffer w has become g
-pub data Built (S : Shape) (d f w g : List ℕ) : Step → Type 0 where
-  built : {c : Cursor} (ops : List Op) → readDelta S d ≡ ok ops → c .ops ≡ length ops → g ≡ draw S d ops f → Built S d f w g (Next c)
-  kept : {why : Refusal} → readDelta S d ≡ fault (numberOf why) → g ≡ w → Built S d f w g (Faulty why)
+-- a delta that passes the check for a picture of m bytes: its ops, and that the work buffer w, which has become g, is fit for them
+pub record Passes (z : Sizes) (i : Items) (d : List ℕ) (m : ℕ) (w g : List ℕ) (c : Cursor) : Type 0 where
+  pub ops : List Op
+  pub read : readDelta (shapeOf z i) d ≡ ok ops
+  pub frame : readFrame z i d m (length w) ≡ ok ops
+  pub counted : c .ops ≡ length ops
+  pub same : m ≡ length w
+  pub planes : Planes (shapeOf z i) (length w)
+  pub kept : g ≡ w
+
+-- what the check of a whole delta answers and leaves in the work buffer
+pub data Checked (z : Sizes) (i : Items) (d : List ℕ) (m : ℕ) (w g : List ℕ) : Step → Type 0 where
+  passes : {c : Cursor} → Passes z i d m w g c → Checked z i d m w g (Next c)
+  stops : {why : Refusal} → readFrame z i d m (length w) ≡ fault (numberOf why) → g ≡ w → Checked z i d m w g (Faulty why)

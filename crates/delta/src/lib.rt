@@ -1,14 +1,15 @@
-// The delta of a later frame, DLTA of method 5 or 7: checked whole, then drawn.
+// The delta of a frame, DLTA of method 5 or 7: checked whole, then drawn.
 ghost use mathlib.Core.Path.{_≡_};
 ghost use Prim.Native.Nat.{_*_, _<_, _≤_};
-ghost use lib.ListN.{length};
+ghost use lib.ListN.{length, replicate};
 ghost use Rattle.delta.specs.Delta.{shapeOf, readColumns, pointer, dataPointer, readPlane, readPicture, Applies, appliedOf};
-ghost use Rattle.delta.specs.Walk.{pointerOf, Width, Columns, Planes, Stands, top, Took, Built};
+ghost use Rattle.delta.specs.Walk.{pointerOf, Width, Columns, Planes, Stands, top, Took, Checked};
 
 mod column;
 
 use anhd::Items;
 use buffer::copy;
+use buffer::fill;
 use buffer::number32;
 use column::take_column;
 use refusal::Refusal;
@@ -211,18 +212,24 @@ fn take_delta(frame: &mut [u8], d: &[u8], shape: Shape, drawing: bool) -> Step
     Step::Next(at)
 }
 
-// Checks the whole delta, then draws it into a copy of the picture.
-fn build(work: &mut [u8], picture: &[u8], dlta: &[u8], shape: Shape) -> Step
-    requires { ⌜ Planes shape (length (now work)) × (length (now picture) ≡ length (now work)) ⌝ }
-    ensures { λ r. ⌜ Built shape (now (dlta .entry)) (now (picture .entry)) (now (work .entry)) (now (work .exit)) r ⌝ }
+// Checks the whole delta for a picture of so many bytes; nothing is drawn.
+fn check(work: &mut [u8], bytes: usize, dlta: &[u8], sizes: Sizes, items: Items) -> Step
+    ensures { λ r. ⌜ Checked sizes items (now (dlta .entry)) bytes (now (work .entry)) (now (work .exit)) r ⌝ }
 {
-    let checked = take_delta(work, dlta, shape, false);
-    match checked {
-        Step::Faulty(why) => Step::Faulty(why),
-        Step::Next(end) => {
-            copy(work, picture);
-            take_delta(work, dlta, shape, true);
-            Step::Next(end)
+    let l = sizes.frame_length();
+    match l {
+        Length::Refused(why) => Step::Faulty(why),
+        Length::Bytes(frame) => {
+            if bytes != frame {
+                return Step::Faulty(Refusal::BufferLength);
+            }
+            if work.len() != frame {
+                return Step::Faulty(Refusal::BufferLength);
+            }
+            if !anhd::columns_ok(items, sizes.row_bytes()) {
+                return Step::Faulty(Refusal::OddLongColumns);
+            }
+            take_delta(work, dlta, shape_of(sizes, items), false)
         }
     }
 }
@@ -231,24 +238,28 @@ fn build(work: &mut [u8], picture: &[u8], dlta: &[u8], shape: Shape) -> Step
 pub fn apply(work: &mut [u8], picture: &[u8], dlta: &[u8], sizes: Sizes, items: Items) -> Applied
     ensures { λ r. ⌜ Applies sizes items (now (dlta .entry)) (now (picture .entry)) (now (work .entry)) (appliedOf r) (now (work .exit)) ⌝ }
 {
-    let l = sizes.frame_length();
-    match l {
-        Length::Refused(why) => Applied::Refused(why),
-        Length::Bytes(length) => {
-            if picture.len() != length {
-                return Applied::Refused(Refusal::BufferLength);
-            }
-            if work.len() != length {
-                return Applied::Refused(Refusal::BufferLength);
-            }
-            if !anhd::columns_ok(items, sizes.row_bytes()) {
-                return Applied::Refused(Refusal::OddLongColumns);
-            }
-            let b = build(work, picture, dlta, shape_of(sizes, items));
-            match b {
-                Step::Faulty(why) => Applied::Refused(why),
-                Step::Next(end) => Applied::Drawn { ops: end.ops },
-            }
+    let checked = check(work, picture.len(), dlta, sizes, items);
+    match checked {
+        Step::Faulty(why) => Applied::Refused(why),
+        Step::Next(end) => {
+            copy(work, picture);
+            take_delta(work, dlta, shape_of(sizes, items), true);
+            Applied::Drawn { ops: end.ops }
+        }
+    }
+}
+
+// Builds the frame that a delta makes of zeros, all or nothing.
+pub fn apply_first(work: &mut [u8], dlta: &[u8], sizes: Sizes, items: Items) -> Applied
+    ensures { λ r. ⌜ Applies sizes items (now (dlta .entry)) (replicate (length (now (work .entry))) 0) (now (work .entry)) (appliedOf r) (now (work .exit)) ⌝ }
+{
+    let checked = check(work, work.len(), dlta, sizes, items);
+    match checked {
+        Step::Faulty(why) => Applied::Refused(why),
+        Step::Next(end) => {
+            fill(work, 0);
+            take_delta(work, dlta, shape_of(sizes, items), true);
+            Applied::Drawn { ops: end.ops }
         }
     }
 }

@@ -21,14 +21,17 @@ fn call(first: u8, d: &[u8], out: &mut [u8]) {
         b'd' => frames::delta(d, out),
         b'e' => chunks::end(d),
         b'f' => chunks::find(d),
+        b'h' => frames::head(d),
         b'l' => pictures::length(d),
         b'n' => chunks::next(d),
+        b'o' => pictures::open(d),
         b'p' => records::put_back(d, out),
         b'r' => pictures::row(d),
         b's' => records::state(d),
         b't' => records::text(d, out),
         b'u' => pictures::unpack(d, out),
         b'v' => records::value(d),
+        b'z' => frames::zeros(d, out),
         _ => records::word(d, out),
     }
 }
@@ -55,8 +58,8 @@ fn run_all(text: &[u8], d: &mut [u8], out: &mut [u8]) {
 }
 
 fn main() {
-    let mut text = [0u8; 16384];
-    let mut d = [0u8; 128];
+    let mut text = [0u8; 32768];
+    let mut d = [0u8; 256];
     let mut out = [0u8; 64];
     let n = io::read_full(0, &mut text);
     run_all(&text[..n], &mut d, &mut out);

@@ -6,6 +6,7 @@ use bmhd::Bmhd;
 use buffer::byte;
 use buffer::number16;
 use ilbm::Unpacked;
+use opening::Opening;
 use shown::Place;
 use state::Length;
 use state::Sizes;
@@ -55,6 +56,21 @@ pub(crate) fn unpack(d: &[u8], out: &mut [u8]) {
         Unpacked::Refused(why) => show::refused(why),
     }
     show::bytes(frame);
+}
+
+// A file: the refusal or the next place, then A and B, each of four bytes 07 before.
+pub(crate) fn open(d: &[u8]) {
+    let mut a = [7u8; 4];
+    let mut b = [7u8; 4];
+    let r = opening::open(d, &mut a, &mut b);
+    let answer = r.answer;
+    let state = r.state;
+    match answer {
+        Opening::Opened => show::number(state.next),
+        Opening::Refused(why) => show::refused(why),
+    }
+    show::bytes(&a);
+    show::bytes(&b);
 }
 
 // A frame number, a plane, a row, and A and B of 16 x 2 pixels in two planes: the row's place, and the row.

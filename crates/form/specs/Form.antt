@@ -10,18 +10,12 @@ use Rattle.laws.specs.Result.{Res, Res.ok, Res.fault, _>>=_, need, pick}
 use Rattle.laws.specs.Loop.{Step, Step.next, Step.done, runs}
 use Rattle.laws.specs.Bytes.{be32}
 use Rattle.refusal.specs.Number.{numberOf}
-use Rattle.iff.specs.Chunk.{FORM, Chunk, chunkAt}
+use Rattle.iff.specs.Ids.{FORM, ANIM, ILBM}
+use Rattle.iff.specs.Chunk.{Chunk, chunkAt}
 use Rattle.form.specs.declared.Outer.{Outer}
 use Rattle.form.specs.declared.Outer.the-variants.{Ends, Unread}
 use Rattle.form.specs.declared.Form.{Form}
 use Rattle.form.specs.declared.Form.the-variants.{Ilbm, Last, Faulty}
-
--- the two types, each as a number
-abbrev pub ANIM : ℕ
-ANIM = 0x414E494D
-
-abbrev pub ILBM : ℕ
-ILBM = 0x494C424D
 
 -- the end place of FORM ANIM: 21 for fewer than 12 bytes, 22, and 21 for its length, in opening's order
 unfoldable pub animEnd : List ℕ → Res ℕ

@@ -13,9 +13,10 @@ use Rattle.laws.specs.ResultLaws.{Each, Each.each, Each.no-value, each-need, ea
 use Rattle.laws.specs.Loop.{Step.next}
 use Rattle.laws.specs.LoopLaws.{Comes, Comes.comes-next, Comes.comes-done, comes-pick, runs-holds}
 use Rattle.laws.specs.Bytes.{be32}
-use Rattle.iff.specs.Chunk.{FORM, Chunk, chunkAt}
+use Rattle.iff.specs.Ids.{FORM, ANIM, ILBM}
+use Rattle.iff.specs.Chunk.{Chunk, chunkAt}
 use Rattle.iff.specs.ChunkLaws.{Within, chunk-within}
-use Rattle.form.specs.Form.{ANIM, ILBM, animEnd, Frame, passOn, frameStep, nextFrame}
+use Rattle.form.specs.Form.{animEnd, Frame, passOn, frameStep, nextFrame}
 
 -- the end of FORM ANIM is past its type, and within the file
 pub record Closes (s : List ℕ) (end : ℕ) : Type 0 where

@@ -4,13 +4,10 @@ ghost use Rattle.form.specs.Form.{animEnd, outerOf, nextFrame, formOf};
 use buffer::number32;
 use iff::Standing;
 use iff::chunk_at;
+use iff::ids::ANIM;
+use iff::ids::FORM;
+use iff::ids::ILBM;
 use refusal::Refusal;
-
-pub const FORM: usize = 0x464F524D;
-
-pub const ANIM: usize = 0x414E494D;
-
-pub const ILBM: usize = 0x494C424D;
 
 // Where FORM ANIM ends.
 pub enum Outer {

@@ -1,11 +1,13 @@
 -- A later frame (document 01, "Chunks" and "Refusal numbers"): the next FORM ILBM from a place of FORM ANIM on, 21 as chunks are
 -- walked, the frame walked whole, then 31 to 36 in table order.
 use Prim.Native.Nat.{ℕ}
+use mathlib.Core.Bool.{false}
 use mathlib.Core.List.{List}
 use lib.ListN.{take, drop}
 use mathlib.Core.Option.{Option, none, some}
 use Rattle.laws.specs.Result.{Res, Res.ok, Res.fault, _>>=_, need}
 use Rattle.refusal.specs.Number.{numberOf}
+use Rattle.iff.specs.Ids.{ANHD, DLTA}
 use Rattle.iff.specs.Chunk.{contents}
 use Rattle.iff.specs.Both.{hasBoth}
 use Rattle.form.specs.Form.{Frame as Form, chunksOf, nextFrame}
@@ -13,12 +15,6 @@ use Rattle.anhd.specs.Anhd.{frameHeader}
 use Rattle.anhd.specs.declared.FrameHeader.{FrameHeader}
 use Rattle.frame.specs.declared.Next.{Next}
 use Rattle.frame.specs.declared.Next.the-variants.{Later, Last, Refused}
-
-abbrev pub ANHD : ℕ
-ANHD = 0x414E4844
-
-abbrev pub DLTA : ℕ
-DLTA = 0x444C5441
 
 -- a later frame: where its chunks start, their length, the place after it, its header, and the contents of its DLTA
 pub record Frame : Type 0 where
@@ -33,7 +29,7 @@ unfoldable pub frameIn : List ℕ → ℕ → Form → Res Frame
 frameIn s B x =
     hasBoth ANHD DLTA (chunksOf s x) >>= λ t.
     need t 31 >>= λ _.
-    frameHeader B (contents ANHD (chunksOf s x)) >>= λ h.
+    frameHeader false B (contents ANHD (chunksOf s x)) >>= λ h.
     ok (record { start = x .start; size = x .size; next = x .next; header = h; dlta = contents DLTA (chunksOf s x) })
 
 abbrev pub frameOr : List ℕ → ℕ → Option Form → Res (Option Frame)

@@ -9,6 +9,7 @@ use mathlib.Core.Path.{_≡_, refl}
 use lib.ListN.{length, take, drop}
 use Rattle.laws.specs.Result.{Res.ok, Res.fault, need}
 use Rattle.laws.specs.ResultLaws.{Each, Each.each, All, All.all-some, All.all-none, all-value, each-any, each-bind, each-some}
+use Rattle.iff.specs.Ids.{ANHD, DLTA}
 use Rattle.iff.specs.Chunk.{contents}
 use Rattle.iff.specs.Both.{hasBoth}
 use Rattle.form.specs.Form.{Frame as Form, chunksOf, nextFrame}
@@ -16,7 +17,7 @@ use Rattle.form.specs.FormLaws.{Follows, frame-follows}
 use Rattle.anhd.specs.Anhd.{columnsOk, frameHeader}
 use Rattle.anhd.specs.AnhdLaws.{header-read}
 use Rattle.anhd.specs.declared.FrameHeader.{FrameHeader}
-use Rattle.frame.specs.Frame.{ANHD, DLTA, Frame, frameIn, frameOr, frameAt}
+use Rattle.frame.specs.Frame.{Frame, frameIn, frameOr, frameAt}
 
 -- a frame stands where its FORM does
 record Stands (x : Form) (f : Frame) : Type 0 where
@@ -28,7 +29,7 @@ frame-stands : (s : List ℕ) (B : ℕ) (x : Form) → Each (Stands x) (frameIn 
 unfolding frameIn
 frame-stands s B x =
     each-any (hasBoth ANHD DLTA (chunksOf s x)) λ t. each-any (need t 31) λ _.
-    each-any (frameHeader B (contents ANHD (chunksOf s x))) λ h. each (record { start = refl; size = refl; next = refl })
+    each-any (frameHeader false B (contents ANHD (chunksOf s x))) λ h. each (record { start = refl; size = refl; next = refl })
 
 -- a frame that follows a place
 pub record Rises (s : List ℕ) (at : ℕ) (x : Frame) : Type 0 where
@@ -52,7 +53,7 @@ or-columns : (s : List ℕ) (B : ℕ) (o : Option Form) → Each (All (λ (x : F
 unfolding frameIn
 or-columns s B none = each all-none
 or-columns s B (some x) =
-    each-bind (each-any (hasBoth ANHD DLTA (chunksOf s x)) λ t. each-any (need t 31) λ _. each-bind (header-read B (contents ANHD (chunksOf s x))) λ h e. each (e .columns)) λ f e. each (all-some e)
+    each-bind (each-any (hasBoth ANHD DLTA (chunksOf s x)) λ t. each-any (need t 31) λ _. each-bind (header-read false B (contents ANHD (chunksOf s x))) λ h e. each (e .columns)) λ f e. each (all-some e)
 
 pub frame-columns : (s : List ℕ) (B at : ℕ) (x : Frame) → frameAt s B at ≡ ok (some x) → columnsOk (x .header .items) B ≡ true
 unfolding frameAt
@@ -79,11 +80,11 @@ module _ (s : List ℕ) (B a n next : ℕ) where
   in-missing e = rw (rw chunks-are at e)
 
   module _ (e : hasBoth ANHD DLTA (take (a + n - a) (drop a s)) ≡ ok true) where
-    pub in-unread : {k : ℕ} {h : List ℕ} → h ≡ contents ANHD (take (a + n - a) (drop a s)) → frameHeader B h ≡ fault k → fault k ≡ frameOr s B (some (record { start = a; size = n; next = next }))
+    pub in-unread : {k : ℕ} {h : List ℕ} → h ≡ contents ANHD (take (a + n - a) (drop a s)) → frameHeader false B h ≡ fault k → fault k ≡ frameOr s B (some (record { start = a; size = n; next = next }))
     unfolding frameIn chunks form
     in-unread i h = rw (rw chunks-are at e) (rw (rw (i, chunks-are) at h))
 
-    pub in-later : {d : List ℕ} {h : FrameHeader} → d ≡ contents ANHD (take (a + n - a) (drop a s)) → frameHeader B d ≡ ok h
+    pub in-later : {d : List ℕ} {h : FrameHeader} → d ≡ contents ANHD (take (a + n - a) (drop a s)) → frameHeader false B d ≡ ok h
         → ok (some (record { start = a; size = n; next = next; header = h; dlta = contents DLTA (take n (drop a s)) })) ≡ frameOr s B (some (record { start = a; size = n; next = next }))
     unfolding frameIn chunks form
     in-later i h = rw (rw chunks-are at e) (rw (rw (i, chunks-are) at h))

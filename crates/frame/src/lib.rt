@@ -8,11 +8,9 @@ use anhd::Anhd;
 use anhd::FrameHeader;
 use form::Form;
 use iff::Both;
+use iff::ids::ANHD;
+use iff::ids::DLTA;
 use refusal::Refusal;
-
-pub const ANHD: usize = 0x414E4844;
-
-pub const DLTA: usize = 0x444C5441;
 
 // The next frame: the place after it, its header, and where its chunks stand in FORM ANIM, its DLTA among them.
 pub enum Next {
@@ -38,7 +36,7 @@ fn frame_in(anim: &[u8], start: usize, len: usize, next: usize, row: usize) -> N
         Both::Broken(why) => Next::Refused(why),
         Both::Missing => Next::Refused(Refusal::NoDelta),
         Both::There => {
-            let h = anhd::read_header(iff::contents(chunks, ANHD), row);
+            let h = anhd::read_header(false, row, iff::contents(chunks, ANHD));
             match h {
                 Anhd::Unread(why) => Next::Refused(why),
                 Anhd::Header(header) => Next::Later {

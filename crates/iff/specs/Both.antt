@@ -1,4 +1,4 @@
--- Two chunks that a frame must have (document 01, "Refusal numbers": 23 and 31). The frame is walked whole before one is missed.
+-- Whether a frame has a chunk, or two (document 01, "Refusal numbers": 23 and 31). The frame is walked whole before one is missed.
 use Prim.Native.Nat.{ℕ}
 use mathlib.Core.Bool.{Bool, true, false}
 use mathlib.Core.List.{List}
@@ -13,8 +13,12 @@ abbrev pub isThere : Option Part → Bool
 isThere (some p) = true
 isThere none = false
 
+-- whether a parent has a chunk of an id, or 21
+abbrev pub has : ℕ → List ℕ → Res Bool
+has x s = find x s >>= λ o. ok (isThere o)
+
 abbrev pub andHas : ℕ → List ℕ → Option Part → Res Bool
-andHas y s (some p) = find y s >>= λ q. ok (isThere q)
+andHas y s (some p) = has y s
 andHas y s none = ok false
 
 -- whether a parent has a chunk of each of two ids, or 21

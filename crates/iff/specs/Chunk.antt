@@ -14,10 +14,6 @@ use Rattle.iff.specs.declared.Standing.the-variants.{Whole, End, Refused
 use Rattle.iff.specs.declared.Found.{Found}
 use Rattle.iff.specs.declared.Found.the-variants.{At, Missing, Broken}
 
--- the id of a FORM: its four bytes, as a number
-abbrev pub FORM : ℕ
-FORM = 0x464F524D
-
 -- a whole chunk: its id, where its contents start, their length, and the place after it
 pub record Chunk : Type 0 where
   pub id : ℕ

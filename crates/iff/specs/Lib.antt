@@ -1,3 +1,4 @@
+pub mod Ids
 pub mod Chunk
 pub mod ChunkLaws
 pub mod Both

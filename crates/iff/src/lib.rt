@@ -2,6 +2,9 @@
 ghost use mathlib.Core.Path.{_≡_};
 ghost use Rattle.iff.specs.Chunk.{chunkAt, standingOf, find, foundOf, orPart, contents};
 ghost use Rattle.iff.specs.Both.{hasBoth, bothOf};
+
+pub mod ids;
+
 use buffer::number32;
 use refusal::Refusal;
 

@@ -1,4 +1,4 @@
-// The first picture of a file: the contents of its BODY, plain or packed by ByteRun1.
+// The picture in a BODY, plain or packed by ByteRun1.
 ghost use mathlib.Core.Path.{_≡_};
 ghost use Prim.Native.Nat.{_+_, _*_, _≤_};
 ghost use lib.ListN.{length, take, drop, replicate};

@@ -17,6 +17,7 @@ use Rattle.refusal.specs.Number.{isNumber}
 use Rattle.refusal.specs.NumberLaws.{two-digits}
 use Rattle.state.specs.declared.Sizes.{Sizes}
 use Rattle.state.specs.StateLaws.{Sound}
+use Rattle.iff.specs.Ids.{ANHD, DLTA}
 use Rattle.iff.specs.Chunk.{Part, find, foundIn, contents}
 use Rattle.iff.specs.ChunkLaws.{contents-room}
 use Rattle.iff.specs.Both.{isThere, andHas, hasBoth}
@@ -27,7 +28,7 @@ use Rattle.anhd.specs.AnhdLaws.{header-read}
 use Rattle.anhd.specs.declared.FrameHeader.{FrameHeader}
 use Rattle.anhd.specs.declared.Items.{Items}
 use Rattle.delta.specs.Delta.{shapeOf, readPicture, readDelta}
-use Rattle.frame.specs.Frame.{ANHD, DLTA, Frame, frameIn, frameOr, frameAt}
+use Rattle.frame.specs.Frame.{Frame, frameIn, frameOr, frameAt}
 use Rattle.state.specs.Outcome.{Report}
 use Rattle.lines.specs.Lines.{decimal, frameLine, refusedLine, endLine, pictureLine}
 use Rattle.lines.specs.TextLaws.{decimal-digit, decimal-more}
@@ -59,8 +60,8 @@ pub record Holds (at : ℕ) (x : Frame) : Type 0 where
   pub time : x .header .time < 4_294_967_296
   pub takes : at + 20 + length (x .dlta) ≤ x .next
 
-header-holds : (B : ℕ) (s : List ℕ) → Bytes s → Each (λ (h : FrameHeader). (h .method < 256) × (h .time < 4_294_967_296)) (frameHeader B s)
-header-holds B s h = each-map (λ y r. (rw (r .method) (h 0), rw (r .time) (be32-bound s 14 h))) (header-read B s)
+header-holds : (B : ℕ) (s : List ℕ) → Bytes s → Each (λ (h : FrameHeader). (h .method < 256) × (h .time < 4_294_967_296)) (frameHeader false B s)
+header-holds B s h = each-map (λ y r. (rw (r .method) (h 0), rw (r .time) (be32-bound s 14 h))) (header-read false B s)
 
 -- the contents of a chunk are bytes, and the second of two that are there has room for its header
 contents-bytes : (id : ℕ) (s : List ℕ) → Bytes s → Bytes (contents id s)
@@ -91,7 +92,7 @@ unfolding frameAt frameIn
 frame-holds s B at h = each-bind (frame-follows s at) form
   where
     there : (x : Form) → Follows s at x → (t : Bool) → hasBoth ANHD DLTA (chunksOf s x) ≡ ok t
-        → Each (Holds at) (need t 31 >>= λ _. frameHeader B (contents ANHD (chunksOf s x)) >>= λ e. ok (record { start = x .start; size = x .size; next = x .next; header = e; dlta = contents DLTA (chunksOf s x) }))
+        → Each (Holds at) (need t 31 >>= λ _. frameHeader false B (contents ANHD (chunksOf s x)) >>= λ e. ok (record { start = x .start; size = x .size; next = x .next; header = e; dlta = contents DLTA (chunksOf s x) }))
     there x f false e = no-value
     there x f true e =
         each-bind (header-holds B (contents ANHD (chunksOf s x)) (contents-bytes ANHD (chunksOf s x) (bytes-take (x .size) _ (bytes-drop (x .start) s h)))) λ y k.

@@ -5,27 +5,26 @@ use native.Mathlib.Omega.{arith}
 use mathlib.Core.Bool.{Bool, true, false}
 use mathlib.Core.List.{List, [], _++_}
 use mathlib.Core.Option.{Option, none, some}
-use mathlib.Core.Path.{_≡_, refl, sym, _∙_}
+use mathlib.Core.Path.{_≡_, refl}
 use lib.Dec.{leb, eqb}
 use lib.ListN.{length, take, length-take, length-append}
-use borrow.Author.Tests.{eqb-true, leb-true}
+use borrow.Author.Tests.{leb-true}
 use Rattle.laws.specs.Bytes.{Bytes, bytes-take}
 use Rattle.laws.specs.Result.{Res, Res.ok, Res.fault, _>>=_, pick}
-use Rattle.laws.specs.ResultLaws.{Each, Each.each, Each.no-value, each-bind, each-need, each-is, All, All.all-some, All.all-none, all-value, pick-both}
+use Rattle.laws.specs.ResultLaws.{Each, Each.each, Each.no-value, each-bind, each-is, All, All.all-some, All.all-none, all-value, pick-both}
 use Rattle.laws.specs.LoopLaws.{Comes, Comes.comes-next, Comes.comes-done, runs-holds}
 use Rattle.state.specs.declared.Sizes.{Sizes}
 use Rattle.state.specs.declared.State.{State}
 use Rattle.state.specs.State.{rowBytes}
 use Rattle.state.specs.StateLaws.{Sound, sizes-sound}
-use Rattle.bmhd.specs.HeaderLaws.{header-sizes}
-use Rattle.ilbm.specs.BodyLaws.{body-length}
+use Rattle.form.specs.Form.{chunksOf}
 use Rattle.delta.specs.Delta.{shapeOf}
 use Rattle.delta.specs.DeltaLaws.{draw-length}
 use Rattle.frame.specs.Frame.{Frame, frameAt}
 use Rattle.frame.specs.FrameLaws.{frame-rises}
 use Rattle.state.specs.Film.{Film}
-use Rattle.opening.specs.Open.{bmhdAt, bodyAt, firstSize, firstOf, opening, First}
-use Rattle.opening.specs.OpenLaws.{places-lie}
+use Rattle.opening.specs.Open.{firstSize, opening}
+use Rattle.opening.specs.OpenLaws.{places-lie, first-long}
 use Rattle.state.specs.World.{World, isOdd, shownOf, hiddenOf}
 use Rattle.state.specs.Outcome.{Answer.refused, Answer.tookOn, Outcome, After}
 use Rattle.player.specs.Step.{ready, basis, change, Made, makes, make, advance, settle, stepOn}
@@ -159,26 +158,12 @@ record Begins (file : List ℕ) (n : ℕ) (F : Film) : Type 0 where
   first : length (F .first) ≡ n
   start : F .start ≤ length file
 
--- a first picture whose frame has n bytes
-record Firsts (n : ℕ) (f : First) : Type 0 where
-  sound : Sound (f .sizes) n
-  whole : length (f .picture) ≡ n
-
-first-holds : (h d : List ℕ) (n : ℕ) → Each (Firsts n) (firstOf h d n n)
-unfolding firstOf
-first-holds h d n =
-    each-bind (header-sizes h) λ z e. each-need (eqb n (z .length)) 12 _ λ t. each-need (eqb n (z .length)) 12 _ λ _.
-    each-bind (body-length (z .packed) (z .sizes) d) λ f w.
-    let i : n ≡ z .length = eqb-true n (z .length) t in
-    let k : Sound (z .sizes) (z .length) = each-is e (sizes-sound (z .sizes)) in
-    each (record { sound = rw i k; whole = w ∙ sym (k .length) ∙ sym i })
-
 opening-begins : (file : List ℕ) (n : ℕ) → Each (Begins file n) (opening file n n)
 unfolding opening
 opening-begins file n =
-    each-bind (places-lie file) λ p l. each-bind (first-holds (bmhdAt file p) (bodyAt file p) n) λ f g.
+    each-bind (places-lie file) λ p l. each-bind (first-long (chunksOf file (p .form)) (p .body) n n) λ f g.
     let s : p .form .next ≤ length file = omega (arith, l .stops, l .ends) in
-    each (record { sound = g .sound; first = g .whole; start = s })
+    each (record { sound = each-is (g .sizes) (sizes-sound (f .sizes)); first = g .picture; start = s })
 
 -- the text of any file of bytes
 module _ (file : List ℕ) (bytes : Bytes file) where

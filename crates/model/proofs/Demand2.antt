@@ -7,13 +7,12 @@ use mathlib.Core.List.{List, [], _++_}
 use mathlib.Core.Option.{none, some}
 use mathlib.Core.Path.{_≡_, refl, ap, _∙_}
 use lib.ListN.{length, take, drop}
-use native.Mathlib.Omega.{arith}
 use borrow.Author.Tests.{le-leb, lt-leb}
-use Rattle.laws.specs.Result.{Res, Res.ok, Res.fault, _>>=_, pick}
+use Rattle.laws.specs.Result.{Res.ok, Res.fault, _>>=_, pick}
 use Rattle.anhd.specs.declared.Items.the-variants.{Bytes}
 use Rattle.delta.specs.Delta.{Op}
 use Rattle.writer.specs.Write.{Writes}
-use Rattle.roundtrip.specs.Calls.{delta-stands, delta-makes}
+use Rattle.roundtrip.specs.Calls.{delta-makes}
 use Rattle.frame.specs.Frame.{Frame}
 use Rattle.player.specs.declared.SteppedOn.{SteppedOn}
 use Rattle.state.specs.World.{World, isOdd, shownOf, hiddenOf}
@@ -116,8 +115,7 @@ module _ (file : List ℕ) (w : World) (work rec : List ℕ) (r : SteppedOn) (a 
   pub demand-2-written : (new out out′ : List ℕ) (n : ℕ) → Writes (w .state .sizes) (basisOf w x) new out (ok n) out′ → x .header .items ≡ Bytes → x .dlta ≡ take n out′
       → length (recordOf w new) ≤ length rec → Takes w rec x new (onOf (r .answer)) (record { a = a; b = b; state = r .state }) work′ rec′
   demand-2-written new out out′ n g j d h =
-      go (deltaOps w x) refl (rw (j, d, delta-stands (w .state .sizes) (basisOf w x) new out n out′ g) (delta-makes (w .state .sizes) (basisOf w x) new out n out′ g))
-    where
-      go : (q : Res (List Op)) → deltaOps w x ≡ q → (q >>= λ ops. ok (newOf w x ops)) ≡ ok new → Takes w rec x new (onOf (r .answer)) (record { a = a; b = b; state = r .state }) work′ rec′
-      go (ok ops) e k = let i : newOf w x ops ≡ new = cc in rw i at (demand-2-taken ops e (rw i h))
-      go (fault m) e k = let z : _≡_ {A = ℕ} 0 1 = cc in absurd (omega arith)
+      let t = delta-makes (w .state .sizes) (basisOf w x) new out n out′ g in
+      let e : deltaOps w x ≡ ok (t .0) = rw (j, d) (t .1) in
+      let i : newOf w x (t .0) ≡ new = rw (j, d) (t .2) in
+      rw i at (demand-2-taken (t .0) e (rw i h))

@@ -1,6 +1,7 @@
 pub mod Laws
 pub mod Demand1
 pub mod Demand2
+pub mod Demand2First
 pub mod Opened
 pub mod Reached
 pub mod StepsOn

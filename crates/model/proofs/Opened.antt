@@ -5,27 +5,27 @@ use native.Mathlib.Omega.{arith}
 use mathlib.Core.Bool.{Bool, true, false}
 use mathlib.Core.List.{List, []}
 use mathlib.Core.Option.{Option, none, some}
-use mathlib.Core.Path.{_≡_, refl}
+use mathlib.Core.Path.{_≡_, refl, ap, _∙_}
 use lib.Dec.{leb, eqb}
 use lib.ListN.{length, take}
 use lib.Seq.{length-take-le}
-use Rattle.laws.specs.Result.{Res, Res.ok, Res.fault, _>>=_, need, orRefuse}
-use Rattle.laws.specs.ResultLaws.{Each, Each.each, Each.no-value, each-self, each-bind, each-need, each-is}
+use Rattle.laws.specs.Result.{Res, Res.ok, _>>=_, need, orRefuse, pick}
+use Rattle.laws.specs.ResultLaws.{Each, Each.each, Each.no-value, each-self, each-any, each-bind, each-need, each-is}
 use Rattle.laws.specs.Store.{part-of-part}
-use Rattle.iff.specs.Both.{hasBoth}
+use Rattle.iff.specs.Ids.{BMHD, BODY, ANHD, DLTA}
+use Rattle.iff.specs.Chunk.{contents}
+use Rattle.iff.specs.Both.{has}
 use Rattle.form.specs.Form.{Frame, chunksOf, animEnd, nextFrame}
 use Rattle.form.specs.FormLaws.{anim-closes}
 use Rattle.bmhd.specs.declared.Header.{Header}
 use Rattle.bmhd.specs.Header.{header}
-use Rattle.bmhd.specs.HeaderLaws.{header-sizes}
 use Rattle.ilbm.specs.Body.{body}
-use Rattle.ilbm.specs.BodyLaws.{body-length}
 use Rattle.state.specs.State.{frameBytes, frameLength, opened}
 use Rattle.state.specs.StateLaws.{Sound, sizes-sound}
-use Rattle.opening.specs.Open.{BMHD, BODY, Places, placesIn, firstPlaces, bmhdAt, bodyAt, First, firstOf, opening}
-use Rattle.opening.specs.OpenLaws.{places-lie}
+use Rattle.opening.specs.Open.{Places, bodyIn, placesIn, firstPlaces, firstDelta, firstPicture, First, firstOf, filmOf, opening}
+use Rattle.opening.specs.OpenLaws.{places-lie, header-same, first-long}
 use Rattle.state.specs.Film.{Film}
-use Rattle.model.specs.Model.{film}
+use Rattle.model.specs.Model.{onZeros, pictureOne, film}
 
 -- what opening gives
 pub record Opened (F : Film) : Type 0 where
@@ -46,87 +46,70 @@ pub record OpenedAs (file : List ℕ) (F : Film) : Type 0 where
   pub read : film file ≡ ok F
   pub opened : Opened F
 
+-- whether there is a BODY
+body-has : (s : List ℕ) → Each (λ (t : Bool). has BODY s ≡ ok t) (bodyIn s)
+unfolding bodyIn
+body-has s = each-any (has BMHD s) λ h. each-any (need h 23) λ _. each-bind (each-self (has BODY s)) go
+  where
+    go : (t : Bool) → has BODY s ≡ ok t → Each (λ (t : Bool). has BODY s ≡ ok t) (pick t (ok true) (has DLTA s >>= λ d. need d 23 >>= λ _. ok false))
+    go true e = each e
+    go false e = each-any (has DLTA s) λ d. each-any (need d 23) λ _. each e
+
 -- where the first picture was found
 record Found (file : List ℕ) (p : Places) : Type 0 where
   ends : animEnd file ≡ ok (p .end)
   form : nextFrame (take (p .end) file) 12 ≡ ok (some (p .form))
-  parts : hasBoth BMHD BODY (chunksOf (take (p .end) file) (p .form)) ≡ ok true
+  body : has BODY (chunksOf (take (p .end) file) (p .form)) ≡ ok (p .body)
 
 places-found : (file : List ℕ) → Each (Found file) (firstPlaces file)
 unfolding firstPlaces placesIn
 places-found file = each-need (leb (length file) 2_147_483_647) 13 _ λ _. each-bind (each-self (animEnd file)) λ end e. each-bind (each-self (nextFrame (take end file) 12)) (form end e (length-take-le end file (each-is e (anim-closes file) .most)))
   where
-    pair : (end : ℕ) → animEnd file ≡ ok end → length (take end file) ≡ end → (x : Frame) → nextFrame (take end file) 12 ≡ ok (some x) → (t : Bool) → hasBoth BMHD BODY (chunksOf (take end file) x) ≡ ok t
-        → Each (Found file) (need t 23 >>= λ _. ok (record { end = length (take end file); form = x }))
-    pair end e n x h false k = no-value
-    pair end e n x h true k =
-        let c : Found file (record { end = length (take end file); form = x }) = rw n (record { ends = e; form = h; parts = k }) in
+    form : (end : ℕ) → animEnd file ≡ ok end → length (take end file) ≡ end → (o : Option Frame) → nextFrame (take end file) 12 ≡ ok o
+        → Each (Found file) (orRefuse 23 o >>= λ x. bodyIn (chunksOf (take end file) x) >>= λ t. ok (record { end = length (take end file); form = x; body = t }))
+    form end e n none h = no-value
+    form end e n (some x) h =
+        each-bind (body-has (chunksOf (take end file) x)) λ t k.
+        let c : Found file (record { end = length (take end file); form = x; body = t }) = rw n (record { ends = e; form = h; body = k }) in
         each c
 
-    form : (end : ℕ) → animEnd file ≡ ok end → length (take end file) ≡ end → (o : Option Frame) → nextFrame (take end file) 12 ≡ ok o
-        → Each (Found file) (orRefuse 23 o >>= λ x. hasBoth BMHD BODY (chunksOf (take end file) x) >>= λ t. need t 23 >>= λ _. ok (record { end = length (take end file); form = x }))
-    form end e n none h = no-value
-    form end e n (some x) h = each-bind (each-self (hasBoth BMHD BODY (chunksOf (take end file) x))) (pair end e n x h)
+-- the model's first picture is opening's
+abbrev given : List ℕ → Header → Res Bool → Res (List ℕ)
+given s z r = r >>= λ t. pick t (body (z .packed) (z .sizes) (contents BODY s)) (onZeros (z .sizes) (contents ANHD s) (contents DLTA s))
 
--- the first picture, without the lengths of A and B
-abbrev firstIn : Res Header → List ℕ → Res First
-firstIn q d = q >>= λ z. body (z .packed) (z .sizes) d >>= λ f. ok (record { sizes = z .sizes; picture = f })
+picture-same : (s : List ℕ) (z : Header) (t : Bool) → has BODY s ≡ ok t → pictureOne s z ≡ firstPicture s t z
+unfolding pictureOne onZeros firstPicture firstDelta
+picture-same s z true e = ap (given s z) e
+picture-same s z false e = ap (given s z) e
 
-first-in : (h d : List ℕ) (a b : ℕ) → Each (λ (f : First). firstIn (header h) d ≡ ok f) (firstOf h d a b)
+film-in : (file s : List ℕ) (t : Bool) (end start a b : ℕ) → has BODY s ≡ ok t
+    → Each (λ (f : First). _≡_ {A = Res Film} (header (contents BMHD s) >>= λ z. pictureOne s z >>= λ p. ok (record { file = file; end = end; sizes = z .sizes; start = start; first = p })) (ok (filmOf file end start f)))
+    (firstOf s t a b)
 unfolding firstOf
-first-in h d a b = go (header h)
-  where
-    go : (q : Res Header) → Each (λ (f : First). firstIn q d ≡ ok f) (q >>= λ z. need (eqb a (z .length)) 12 >>= λ _. need (eqb b (z .length)) 12 >>= λ _. body (z .packed) (z .sizes) d >>= λ f. ok (record { sizes = z .sizes; picture = f }))
-    go (fault n) = no-value
-    go (ok z) = each-need (eqb a (z .length)) 12 _ λ _. each-need (eqb b (z .length)) 12 _ λ _. each-self (firstIn (ok z) d)
-
--- the film with it
-abbrev filmWith : (file : List ℕ) (end start : ℕ) → First → Film
-filmWith file end start f = record { file = file; end = end; sizes = f .sizes; start = start; first = f .picture }
-
-abbrev filmIn : (file : List ℕ) (end start : ℕ) → Res Header → List ℕ → Res Film
-filmIn file end start q d = q >>= λ z. body (z .packed) (z .sizes) d >>= λ f. ok (record { file = file; end = end; sizes = z .sizes; start = start; first = f })
-
-film-in : (file d : List ℕ) (end start : ℕ) (q : Res Header) → Each (λ (f : First). filmIn file end start q d ≡ ok (filmWith file end start f)) (firstIn q d)
-film-in file d end start (fault n) = no-value
-film-in file d end start (ok z) = go (body (z .packed) (z .sizes) d)
-  where
-    go : (r : Res (List ℕ)) → Each (λ (f : First). _≡_ {A = Res Film} (r >>= λ p. ok (record { file = file; end = end; sizes = z .sizes; start = start; first = p })) (ok (filmWith file end start f))) (r >>= λ p. ok (record { sizes = z .sizes; picture = p }))
-    go (fault n) = no-value
-    go (ok p) = each refl
+film-in file s t end start a b k =
+    each-bind (header-same s t) λ z e.
+    each-need (eqb a (z .length)) 12 _ λ _. each-need (eqb b (z .length)) 12 _ λ _.
+    each-bind (each-self (firstPicture s t z)) λ p h.
+    each (rw e (rw (picture-same s z t k ∙ h) refl))
 
 -- the model reads the film that was opened
-film-read : (file : List ℕ) (a b : ℕ) {p : Places} {f : First} → firstPlaces file ≡ ok p → firstOf (bmhdAt file p) (bodyAt file p) a b ≡ ok f
-    → film file ≡ ok (filmWith file (p .end) (p .form .next) f)
+film-read : (file : List ℕ) (a b : ℕ) {p : Places} {f : First} → firstPlaces file ≡ ok p → firstOf (chunksOf file (p .form)) (p .body) a b ≡ ok f
+    → film file ≡ ok (filmOf file (p .end) (p .form .next) f)
 unfolding film
 film-read file a b {p} {f} e d =
     let l = each-is e (places-lie file) in
     let k = each-is e (places-found file) in
     let i : chunksOf (take (p .end) file) (p .form) ≡ chunksOf file (p .form) = part-of-part (p .form .start) (p .form .size) (p .end) file (omega (arith, l .chunks, l .stops)) in
-    rw (k .ends) (rw (k .form) (rw (k .parts) (rw i (each-is (each-is d (first-in (bmhdAt file p) (bodyAt file p) a b)) (film-in file (bodyAt file p) (p .end) (p .form .next) (header (bmhdAt file p)))))))
-
--- what a first picture gives
-pub record FirstGood (p : First) : Type 0 where
-  pub sizes : frameLength (p .sizes) ≡ ok (frameBytes (p .sizes))
-  pub sound : Sound (p .sizes) (frameBytes (p .sizes))
-  pub whole : length (p .picture) ≡ frameBytes (p .sizes)
-
-first-good : (h d : List ℕ) (a b : ℕ) → Each FirstGood (firstOf h d a b)
-unfolding firstOf
-first-good h d a b =
-    each-bind (header-sizes h) λ z e.
-    each-need (eqb a (z .length)) 12 _ λ _. each-need (eqb b (z .length)) 12 _ λ _.
-    each-bind (body-length (z .packed) (z .sizes) d) λ f w.
-    let k : Sound (z .sizes) (z .length) = each-is e (sizes-sound (z .sizes)) in
-    let n : z .length ≡ frameBytes (z .sizes) = k .length in
-    each (record { sizes = rw n at e; sound = rw n at k; whole = w })
+    rw (k .ends) (rw (k .form) (rw i (each-is d (film-in file (chunksOf file (p .form)) (p .body) (p .end) (p .form .next) a b (rw i at (k .body))))))
 
 pub opening-opened : (file : List ℕ) (a b : ℕ) → Each (OpenedAs file) (opening file a b)
 unfolding opening
 opening-opened file a b =
     each-bind (each-self (firstPlaces file)) λ p e.
-    each-bind (each-self (firstOf (bmhdAt file p) (bodyAt file p) a b)) λ f d.
+    each-bind (each-self (firstOf (chunksOf file (p .form)) (p .body) a b)) λ f d.
     let l = each-is e (places-lie file) in
-    let g = each-is d (first-good (bmhdAt file p) (bodyAt file p) a b) in
+    let g = each-is d (first-long (chunksOf file (p .form)) (p .body) a b) in
+    let k : Sound (f .sizes) a = each-is (g .sizes) (sizes-sound (f .sizes)) in
+    let n : a ≡ frameBytes (f .sizes) = k .length in
     let m : p .end ≤ 2_147_483_647 = omega (arith, l .ends, l .short) in
-    each (record { same = refl; read = film-read file a b e d; opened = record { sizes = g .sizes; sound = g .sound; whole = g .whole; from = l .starts; inside = l .stops; short = m; inFile = l .ends } })
+    each (record { same = refl; read = film-read file a b e d; opened = record { sizes = rw n at (g .sizes); sound = rw n at k; whole = g .picture ∙ n; from = l .starts; inside = l .stops; short = m; inFile = l .ends } })

@@ -1,20 +1,28 @@
--- What demands 1 and 2 speak of (document 01, "Refusal numbers", "Deltas" and "Opening, stepping on, stepping back", and document 02, E7).
+-- What demands 1 and 2 speak of (document 01, "Refusal numbers", "Deltas" and "Opening, stepping on, stepping back", and document 02, E1 and E7).
 use Prim.Native.Nat.{ℕ, suc}
+use mathlib.Core.Bool.{true, false}
 use mathlib.Core.List.{List, [], _++_}
 use mathlib.Core.Option.{Option, none, some}
 use mathlib.Core.Path.{_≡_}
 use lib.Dec.{eqb}
-use lib.ListN.{length, take, drop}
+use lib.ListN.{length, take, drop, replicate}
 use Rattle.laws.specs.Result.{Res, Res.ok, Res.fault, pick}
 use Rattle.state.specs.declared.Sizes.{Sizes}
-use Rattle.state.specs.State.{rowBytes}
+use Rattle.state.specs.State.{rowBytes, frameBytes}
+use Rattle.state.specs.declared.State.{State}
 use Rattle.state.specs.World.{World, shownOf, hiddenOf}
 use Rattle.state.specs.Outcome.{Answer, Answer.refused, Answer.ended, Answer.tookOn, Answer.tookBack}
+use Rattle.iff.specs.Ids.{ANHD, DLTA}
+use Rattle.iff.specs.Chunk.{contents}
+use Rattle.form.specs.Form.{chunksOf}
+use Rattle.bmhd.specs.declared.Header.{Header}
+use Rattle.anhd.specs.declared.FrameHeader.{FrameHeader}
+use Rattle.anhd.specs.Anhd.{frameHeader}
 use Rattle.delta.specs.Delta.{Op, shapeOf, readDelta, draw}
 use Rattle.record.specs.Record.{recordBytes}
 use Rattle.frame.specs.Frame.{Frame, frameAt}
 use Rattle.opening.specs.declared.OpenedFile.{OpenedFile}
-use Rattle.opening.specs.Open.{zeros, openingOf, MeetsOpen}
+use Rattle.opening.specs.Open.{Places, firstPlaces, firstHeader, zeros, openingOf, MeetsOpen}
 use Rattle.player.specs.declared.SteppedOn.{SteppedOn}
 use Rattle.player.specs.Step.{ready, reportOf, onOf, MeetsOn}
 use Rattle.back.specs.declared.SteppedBack.{SteppedBack}
@@ -83,3 +91,31 @@ pub record Takes (w : World) (rec : List ℕ) (x : Frame) (f : List ℕ) (y : An
   pub hidden : hiddenOf w′ ≡ shownOf w
   pub drawn : work′ ≡ f
   pub written : rec′ ≡ recordOf w f ++ drop (length (recordOf w f)) rec
+
+-- an opening that only its delta (41 to 43) can refuse: the walk found a first frame at p (13, 21 to 23), without a BODY but with an ANHD
+-- (31) and a good BMHD z (24), A and B have a frame's length (12), and h is a good header (32, 33, 35, 36)
+pub record FreeFirst (file : List ℕ) (a b : ℕ) (p : Places) (z : Header) (h : FrameHeader) : Type 0 where
+  pub there : firstPlaces file ≡ ok p
+  pub given : p .body ≡ false
+  pub sizes : firstHeader (chunksOf file (p .form)) false ≡ ok z
+  pub left : a ≡ z .length
+  pub right : b ≡ z .length
+  pub header : frameHeader true (rowBytes (z .sizes .width)) (contents ANHD (chunksOf file (p .form))) ≡ ok h
+
+-- its DLTA, and the ops of that, or its first fault
+abbrev pub firstDlta : List ℕ → Places → List ℕ
+firstDlta file p = contents DLTA (chunksOf file (p .form))
+
+abbrev pub firstOps : List ℕ → Places → Header → FrameHeader → Res (List Op)
+firstOps file p z h = readDelta (shapeOf (z .sizes) (h .items)) (firstDlta file p)
+
+-- the picture that the ops make of an all-zero one
+abbrev pub firstNew : List ℕ → Places → Header → FrameHeader → List Op → List ℕ
+firstNew file p z h ops = draw (shapeOf (z .sizes) (h .items)) (firstDlta file p) ops (replicate (frameBytes (z .sizes)) 0)
+
+-- what a taken opening whose picture is f answers and leaves: f is in both buffers, and the state stands at frame 1
+pub record OpensAt (p : Places) (z : Sizes) (f : List ℕ) (y : Res (Unit {0})) (s : State) (a′ b′ : List ℕ) : Type 0 where
+  pub answer : y ≡ ok tt
+  pub state : s ≡ record { sizes = z; frame = 1; next = p .form .next; end = p .end }
+  pub left : a′ ≡ f
+  pub right : b′ ≡ f

@@ -1,26 +1,30 @@
--- The model of demand 3 (document 01, "Opening, stepping on, stepping back", and document 02, E7). It is fed the file and the calls in order, and holds
+-- The model of demand 3 (document 01, "Opening, stepping on, stepping back", and document 02, E1 and E7). It is fed the file and the calls in order, and holds
 -- a number n, at first 1. Here m is n − 1: picture m + 1 is shown at n, and picture m hidden, where picture 0 is picture 1 too.
 -- With opening and the steps it shares the readings of chunks, BMHD, BODY, ANHD, deltas and records, what ops draw, the bytes of a record,
--- the lengths of a row and of a frame, how many bytes differ, what an odd number is, the ids BMHD and BODY, and the types of what is
+-- the lengths of a row and of a frame, how many bytes differ, what an odd number is, the ids of chunks, and the types of what is
 -- answered; and nothing of what an opening or a step comes to.
 use Prim.Native.Nat.{ℕ, zero, suc}
+use mathlib.Core.Bool.{true}
 use mathlib.Core.List.{List, [], _∷_}
 use mathlib.Core.Option.{Option, none, some}
 use lib.Dec.{leb, ltb, eqb}
-use lib.ListN.{length, take}
-use Rattle.laws.specs.Result.{Res, Res.ok, Res.fault, _>>=_, need, orRefuse, pick, orKeep}
+use lib.ListN.{length, take, replicate}
+use Rattle.laws.specs.Result.{Res, Res.ok, Res.fault, _>>=_, orRefuse, pick, orKeep}
 use Rattle.state.specs.State.{rowBytes, frameBytes}
+use Rattle.state.specs.declared.Sizes.{Sizes}
 use Rattle.state.specs.Film.{Film}
+use Rattle.iff.specs.Ids.{BMHD, BODY, ANHD, DLTA}
 use Rattle.iff.specs.Chunk.{contents}
-use Rattle.iff.specs.Both.{hasBoth}
+use Rattle.iff.specs.Both.{has}
 use Rattle.form.specs.Form.{chunksOf, animEnd, nextFrame}
 use Rattle.bmhd.specs.Header.{header}
+use Rattle.bmhd.specs.declared.Header.{Header}
 use Rattle.ilbm.specs.Body.{body}
+use Rattle.anhd.specs.Anhd.{frameHeader}
 use Rattle.delta.specs.Delta.{shapeOf, readDelta, draw}
 use Rattle.runs.specs.Runs.{differing}
 use Rattle.record.specs.Record.{recordBytes, Past, pastOf}
 use Rattle.frame.specs.Frame.{Frame, frameAt}
-use Rattle.opening.specs.Open.{BMHD, BODY}
 use Rattle.state.specs.World.{World, isOdd}
 use Rattle.state.specs.Outcome.{Report, Answer, Answer.refused, Answer.ended, Answer.tookOn, Answer.tookBack}
 
@@ -35,16 +39,28 @@ pub record Seen : Type 0 where
   pub world : World
   pub bytes : List ℕ
 
--- picture 1 is frame 1's BODY unpacked; frame 1 is the first FORM ILBM of FORM ANIM
+-- what frame 1's delta, by its ANHD and DLTA, makes of an all-zero picture; its interleave isn't looked at
+unfoldable pub onZeros : Sizes → List ℕ → List ℕ → Res (List ℕ)
+onZeros z anhd dlta =
+    frameHeader true (rowBytes (z .width)) anhd >>= λ h.
+    readDelta (shapeOf z (h .items)) dlta >>= λ ops.
+    ok (draw (shapeOf z (h .items)) dlta ops (replicate (frameBytes z) 0))
+
+-- picture 1, by the chunks of frame 1 and its BMHD: the BODY unpacked if there is one, or else what the delta makes
+unfoldable pub pictureOne : List ℕ → Header → Res (List ℕ)
+pictureOne s z =
+    has BODY s >>= λ t.
+    pick t (body (z .packed) (z .sizes) (contents BODY s)) (onZeros (z .sizes) (contents ANHD s) (contents DLTA s))
+
+-- what a file fixes; frame 1 is the first FORM ILBM of FORM ANIM. Which files are refused, and with which number, is opening's to say: demand 3
+-- speaks of files that were opened
 unfoldable pub film : List ℕ → Res Film
 film file =
     animEnd file >>= λ end.
     nextFrame (take end file) 12 >>= λ o.
     orRefuse 23 o >>= λ x.
-    hasBoth BMHD BODY (chunksOf (take end file) x) >>= λ t.
-    need t 23 >>= λ _.
     header (contents BMHD (chunksOf (take end file) x)) >>= λ z.
-    body (z .packed) (z .sizes) (contents BODY (chunksOf (take end file) x)) >>= λ f.
+    pictureOne (chunksOf (take end file) x) z >>= λ f.
     ok (record { file = file; end = end; sizes = z .sizes; start = x .next; first = f })
 
 -- the next frame from a place on, if there is one

@@ -1,46 +1,57 @@
--- Opening (document 01, "Opening, stepping on, stepping back" and "Refusal numbers"): 13, 21 for under 12 bytes, 22, 21 for the
--- outer length, 21 or 23 as chunks are walked, a frame walked whole before 23; then 24, 12, 25.
+-- Opening (document 01, "Opening, stepping on, stepping back" and "Refusal numbers", and document 02, E1): 13, 21 for under 12 bytes, 22,
+-- 21 for the outer length, 21 or 23 as chunks are walked, a frame walked whole before 23; 31 with neither a BODY nor an ANHD; 24 and 12;
+-- then 25 for a BODY, or 32, 33, 35, 36 and the delta's refusals. Without a BODY the first picture is what its delta makes of an all-zero one.
 use Prim.Native.Nat.{ℕ}
+use mathlib.Core.Bool.{Bool, true, false}
 use mathlib.Core.List.{List}
 use mathlib.Core.Path.{_≡_}
 use lib.Dec.{leb, eqb}
-use lib.ListN.{length, take}
-use Rattle.laws.specs.Result.{Res, Res.ok, Res.fault, _>>=_, need, orRefuse, answer}
+use lib.ListN.{length, take, replicate}
+use Rattle.laws.specs.Result.{Res, Res.ok, Res.fault, _>>=_, need, orRefuse, pick, answer}
 use Rattle.refusal.specs.Number.{numberOf}
-use Rattle.state.specs.State.{opened}
+use Rattle.state.specs.State.{rowBytes, frameBytes, opened}
 use Rattle.state.specs.Film.{Film}
 use Rattle.state.specs.declared.Sizes.{Sizes}
 use Rattle.state.specs.declared.State.{State}
+use Rattle.iff.specs.Ids.{BMHD, BODY, ANHD, DLTA}
 use Rattle.iff.specs.Chunk.{contents}
-use Rattle.iff.specs.Both.{hasBoth}
+use Rattle.iff.specs.Both.{has}
 use Rattle.form.specs.Form.{Frame, chunksOf, animEnd, nextFrame}
 use Rattle.bmhd.specs.Header.{header}
+use Rattle.bmhd.specs.declared.Header.{Header}
 use Rattle.ilbm.specs.Body.{body}
+use Rattle.anhd.specs.Anhd.{frameHeader}
+use Rattle.delta.specs.Delta.{shapeOf, readDelta, draw}
 use Rattle.opening.specs.declared.Opening.{Opening}
 use Rattle.opening.specs.declared.Opening.the-variants.{Opened, Refused}
 use Rattle.opening.specs.declared.OpenedFile.{OpenedFile}
 use Rattle.opening.specs.declared.Size.{Size}
 use Rattle.opening.specs.declared.Size.the-variants.{Bytes, Refused as SizeRefused}
 
-abbrev pub BMHD : ℕ
-BMHD = 0x424D4844
-
-abbrev pub BODY : ℕ
-BODY = 0x424F4459
-
--- where the first picture stands: the end place of FORM ANIM, and the first FORM ILBM in it
+-- where the first picture stands: the end place of FORM ANIM, the first FORM ILBM in it, and whether that has a BODY
 pub record Places : Type 0 where
   pub end : ℕ
   pub form : Frame
+  pub body : Bool
+
+-- whether the first frame's chunks have a BODY: 23 without a BMHD, and with neither a BODY nor a DLTA
+unfoldable pub bodyIn : List ℕ → Res Bool
+bodyIn s =
+    has BMHD s >>= λ h.
+    need h 23 >>= λ _.
+    has BODY s >>= λ b.
+    pick b (ok true)
+    (has DLTA s >>= λ d.
+    need d 23 >>= λ _.
+    ok false)
 
 -- 21 or 23 as the chunks of FORM ANIM are walked
 unfoldable pub placesIn : List ℕ → Res Places
 placesIn s =
     nextFrame s 12 >>= λ o.
     orRefuse 23 o >>= λ x.
-    hasBoth BMHD BODY (chunksOf s x) >>= λ t.
-    need t 23 >>= λ _.
-    ok (record { end = length s; form = x })
+    bodyIn (chunksOf s x) >>= λ b.
+    ok (record { end = length s; form = x; body = b })
 
 -- before them 13, 21 for under 12 bytes, 22, 21 for the outer length
 unfoldable pub firstPlaces : List ℕ → Res Places
@@ -49,29 +60,41 @@ firstPlaces file =
     animEnd file >>= λ end.
     placesIn (take end file)
 
--- the contents of its BMHD and of its BODY
-abbrev pub bmhdAt : List ℕ → Places → List ℕ
-bmhdAt file p = contents BMHD (chunksOf file (p .form))
-
-abbrev pub bodyAt : List ℕ → Places → List ℕ
-bodyAt file p = contents BODY (chunksOf file (p .form))
+-- what the first picture's BMHD says, where t tells whether there is a BODY: 31 with neither a BODY nor an ANHD, then 24
+unfoldable pub firstHeader : List ℕ → Bool → Res Header
+firstHeader s t =
+    pick t (ok true) (has ANHD s) >>= λ h.
+    need h 31 >>= λ _.
+    header (contents BMHD s)
 
 -- the length of the first picture's frame, or what refuses it up to and including 24
 unfoldable pub firstSize : List ℕ → Res ℕ
-firstSize file = firstPlaces file >>= λ p. header (bmhdAt file p) >>= λ z. ok (z .length)
+firstSize file = firstPlaces file >>= λ p. firstHeader (chunksOf file (p .form)) (p .body) >>= λ z. ok (z .length)
+
+-- what an ANHD and a DLTA make of an all-zero picture: 32, 33, 35, 36, then the delta's refusals
+unfoldable pub firstDelta : List ℕ → List ℕ → Sizes → Res (List ℕ)
+firstDelta h d z =
+    frameHeader true (rowBytes (z .width)) h >>= λ x.
+    readDelta (shapeOf z (x .items)) d >>= λ ops.
+    ok (draw (shapeOf z (x .items)) d ops (replicate (frameBytes z) 0))
+
+-- the bytes of the first picture, by whether there is a BODY: that, or else what the delta makes
+unfoldable pub firstPicture : List ℕ → Bool → Header → Res (List ℕ)
+firstPicture s true z = body (z .packed) (z .sizes) (contents BODY s)
+firstPicture s false z = firstDelta (contents ANHD s) (contents DLTA s) (z .sizes)
 
 -- the first picture: its sizes and its bytes
 pub record First : Type 0 where
   pub sizes : Sizes
   pub picture : List ℕ
 
--- the first picture of a BMHD and a BODY, with buffers A and B of so many bytes
-unfoldable pub firstOf : List ℕ → List ℕ → ℕ → ℕ → Res First
-firstOf h d a b =
-    header h >>= λ z.
+-- the first picture in a frame's chunks, where t tells whether there is a BODY, with buffers A and B of so many bytes
+unfoldable pub firstOf : List ℕ → Bool → ℕ → ℕ → Res First
+firstOf s t a b =
+    firstHeader s t >>= λ z.
     need (eqb a (z .length)) 12 >>= λ _.
     need (eqb b (z .length)) 12 >>= λ _.
-    body (z .packed) (z .sizes) d >>= λ p.
+    firstPicture s t z >>= λ p.
     ok (record { sizes = z .sizes; picture = p })
 
 -- what is fixed with it: the file, its end place and the place after frame 1
@@ -82,7 +105,7 @@ filmOf file end start p = record { file = file; end = end; sizes = p .sizes; sta
 unfoldable pub opening : List ℕ → ℕ → ℕ → Res Film
 opening file a b =
     firstPlaces file >>= λ p.
-    firstOf (bmhdAt file p) (bodyAt file p) a b >>= λ f.
+    firstOf (chunksOf file (p .form)) (p .body) a b >>= λ f.
     ok (filmOf file (p .end) (p .form .next) f)
 
 -- the state after it: six zeros where it is refused

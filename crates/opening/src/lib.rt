@@ -2,21 +2,29 @@
 ghost use mathlib.Core.Path.{_≡_};
 ghost use lib.ListN.{length};
 ghost use Rattle.opening.specs.declared.Opening.the-variants.{Refused};
-ghost use Rattle.opening.specs.Open.{placesIn, firstPlaces, firstSize, firstOf, zeros, sizeOf, MeetsOpen};
-ghost use Rattle.opening.specs.OpenLaws.{placesOf, OpensFirst};
+ghost use Rattle.laws.specs.Result.{Res.ok};
+ghost use Rattle.ilbm.specs.Body.{body as bodyOf};
+ghost use Rattle.state.specs.State.{frameLength};
+ghost use Rattle.bmhd.specs.Header.{headerOf};
+ghost use Rattle.opening.specs.Open.{bodyIn, placesIn, firstPlaces, firstHeader, firstSize, firstDelta, firstPicture, firstOf};
+ghost use Rattle.opening.specs.Open.{zeros, sizeOf, MeetsOpen};
+ghost use Rattle.opening.specs.OpenLaws.{givenOf, placesOf, Fills, OpensFirst};
+use anhd::Anhd;
 use bmhd::Bmhd;
+use bmhd::Header;
 use buffer::copy;
+use delta::Applied;
 use form::Form;
 use form::Outer;
-use iff::Both;
+use iff::Found;
+use iff::ids::ANHD;
+use iff::ids::BMHD;
+use iff::ids::BODY;
+use iff::ids::DLTA;
 use ilbm::Unpacked;
 use refusal::Refusal;
 use state::Sizes;
 use state::State;
-
-pub const BMHD: usize = 0x424D4844;
-
-pub const BODY: usize = 0x424F4459;
 
 // What opening answers.
 pub enum Opening {
@@ -36,15 +44,29 @@ pub enum Size {
     Refused(Refusal),
 }
 
-// Where the first picture stands: the end of FORM ANIM, the place past its FORM, and the chunks of that, len bytes from start on.
+// Whether the first picture is given as a BODY, or else as a delta; or why there is none.
+enum Given {
+    Body(bool),
+    Nowhere(Refusal),
+}
+
+// Where the first picture stands: the end of FORM ANIM, the place past its FORM, the chunks of that, len bytes from start on, and
+// whether they have a BODY.
 enum Places {
     At {
         end: usize,
         next: usize,
         start: usize,
         len: usize,
+        body: bool,
     },
     Nowhere(Refusal),
+}
+
+// Whether A was filled with the first picture.
+enum Filled {
+    Done,
+    Refused(Refusal),
 }
 
 fn refused(why: Refusal) -> OpenedFile
@@ -66,6 +88,32 @@ fn refused(why: Refusal) -> OpenedFile
     }
 }
 
+// Looks for a BMHD, and a BODY or else a DLTA.
+fn body_in(chunks: &[u8]) -> Given
+    ensures { λ r. ⌜ givenOf r ≡ bodyIn (now (chunks .entry)) ⌝ }
+{
+    let h = iff::find(chunks, BMHD);
+    match h {
+        Found::Broken(why) => Given::Nowhere(why),
+        Found::Missing => Given::Nowhere(Refusal::NoPicture),
+        Found::At { start: _, len: _ } => {
+            let b = iff::find(chunks, BODY);
+            match b {
+                Found::At { start: _, len: _ } => Given::Body(true),
+                Found::Broken(why) => Given::Nowhere(why),
+                Found::Missing => {
+                    let d = iff::find(chunks, DLTA);
+                    match d {
+                        Found::Broken(why) => Given::Nowhere(why),
+                        Found::Missing => Given::Nowhere(Refusal::NoPicture),
+                        Found::At { start: _, len: _ } => Given::Body(false),
+                    }
+                }
+            }
+        }
+    }
+}
+
 // Finds the first picture in FORM ANIM.
 fn places_in(anim: &[u8]) -> Places
     ensures { λ r. ⌜ placesOf r ≡ placesIn (now (anim .entry)) ⌝ }
@@ -76,15 +124,15 @@ fn places_in(anim: &[u8]) -> Places
         Form::Last => Places::Nowhere(Refusal::NoPicture),
         Form::Ilbm { start, len, next } => {
             let stop = start + len;
-            let p = iff::has_both(&anim[start..stop], BMHD, BODY);
-            match p {
-                Both::Broken(why) => Places::Nowhere(why),
-                Both::Missing => Places::Nowhere(Refusal::NoPicture),
-                Both::There => Places::At {
+            let g = body_in(&anim[start..stop]);
+            match g {
+                Given::Nowhere(why) => Places::Nowhere(why),
+                Given::Body(body) => Places::At {
                     end: anim.len(),
                     next,
                     start,
                     len,
+                    body,
                 },
             }
         }
@@ -105,6 +153,21 @@ fn first_places(file: &[u8]) -> Places
     }
 }
 
+// What the first picture's BMHD says; without a BODY, ANHD is asked for before it.
+fn first_header(chunks: &[u8], body: bool) -> Bmhd
+    ensures { λ r. ⌜ headerOf r ≡ firstHeader (now (chunks .entry)) body ⌝ }
+{
+    if body {
+        return bmhd::read_header(iff::contents(chunks, BMHD));
+    }
+    let h = iff::find(chunks, ANHD);
+    match h {
+        Found::Broken(why) => Bmhd::Unread(why),
+        Found::Missing => Bmhd::Unread(Refusal::NoDelta),
+        Found::At { start: _, len: _ } => bmhd::read_header(iff::contents(chunks, BMHD)),
+    }
+}
+
 // The length of the first picture's frame, or what refuses it up to and including its BMHD.
 pub fn frame_size(file: &[u8]) -> Size
     ensures { λ r. ⌜ sizeOf r ≡ firstSize (now (file .entry)) ⌝ }
@@ -117,9 +180,10 @@ pub fn frame_size(file: &[u8]) -> Size
             next: _,
             start,
             len,
+            body,
         } => {
             let stop = start + len;
-            let h = bmhd::read_header(iff::contents(&file[start..stop], BMHD));
+            let h = first_header(&file[start..stop], body);
             match h {
                 Bmhd::Unread(why) => Size::Refused(why),
                 Bmhd::Picture(picture) => Size::Bytes(picture.length),
@@ -128,35 +192,83 @@ pub fn frame_size(file: &[u8]) -> Size
     }
 }
 
-// Opens with the contents of a BMHD and of a BODY.
+// Fills A with the picture that an ANHD and a DLTA make of zeros, all or nothing.
+fn first_delta(a: &mut [u8], anhd: &[u8], dlta: &[u8], sizes: Sizes) -> Filled
+    requires { ⌜ frameLength sizes ≡ ok (length (now a)) ⌝ }
+    ensures { λ r. ⌜ Fills (firstDelta (now (anhd .entry)) (now (dlta .entry)) sizes) (now (a .entry)) r (now (a .exit)) ⌝ }
+{
+    let h = anhd::read_header(true, sizes.row_bytes(), anhd);
+    match h {
+        Anhd::Unread(why) => Filled::Refused(why),
+        Anhd::Header(header) => {
+            let items = header.items;
+            let d = delta::apply_first(a, dlta, sizes, items);
+            match d {
+                Applied::Refused(why) => Filled::Refused(why),
+                Applied::Drawn { ops: _ } => Filled::Done,
+            }
+        }
+    }
+}
+
+// Fills A with the picture in a BODY, all or nothing.
+fn first_body(a: &mut [u8], body: &[u8], sizes: Sizes, packed: bool) -> Filled
+    requires { ⌜ frameLength sizes ≡ ok (length (now a)) ⌝ }
+    ensures { λ r. ⌜ Fills (bodyOf packed sizes (now (body .entry))) (now (a .entry)) r (now (a .exit)) ⌝ }
+{
+    let u = ilbm::unpack(a, body, sizes, packed);
+    match u {
+        Unpacked::Refused(why) => Filled::Refused(why),
+        Unpacked::Done => Filled::Done,
+    }
+}
+
+// Fills A with the first picture, all or nothing.
+fn first_picture(a: &mut [u8], chunks: &[u8], body: bool, header: Header) -> Filled
+    requires { ⌜ frameLength (header .sizes) ≡ ok (length (now a)) ⌝ }
+    ensures { λ r. ⌜ Fills (firstPicture (now (chunks .entry)) body header) (now (a .entry)) r (now (a .exit)) ⌝ }
+{
+    if body {
+        return first_body(a, iff::contents(chunks, BODY), header.sizes, header.packed);
+    }
+    first_delta(
+        a,
+        iff::contents(chunks, ANHD),
+        iff::contents(chunks, DLTA),
+        header.sizes,
+    )
+}
+
+// Opens with the chunks of the first frame.
 fn open_picture(
-    header: &[u8],
-    body: &[u8],
+    chunks: &[u8],
+    body: bool,
     next: usize,
     end: usize,
     a: &mut [u8],
     b: &mut [u8],
 ) -> OpenedFile
-    ensures { λ r. ⌜ OpensFirst end next (firstOf (now (header .entry)) (now (body .entry)) (length (now (a .entry))) (length (now (b .entry)))) (now (a .entry)) (now (b .entry)) r (now (a .exit)) (now (b .exit)) ⌝ }
+    ensures { λ r. ⌜ OpensFirst end next (firstOf (now (chunks .entry)) body (length (now (a .entry))) (length (now (b .entry))))
+        (now (a .entry)) (now (b .entry)) r (now (a .exit)) (now (b .exit)) ⌝ }
 {
-    let h = bmhd::read_header(header);
+    let h = first_header(chunks, body);
     match h {
         Bmhd::Unread(why) => refused(why),
-        Bmhd::Picture(picture) => {
-            if a.len() != picture.length {
+        Bmhd::Picture(header) => {
+            if a.len() != header.length {
                 return refused(Refusal::BufferLength);
             }
-            if b.len() != picture.length {
+            if b.len() != header.length {
                 return refused(Refusal::BufferLength);
             }
-            let u = ilbm::unpack(a, body, picture.sizes, picture.packed);
-            match u {
-                Unpacked::Refused(why) => refused(why),
-                Unpacked::Done => {
+            let f = first_picture(a, chunks, body, header);
+            match f {
+                Filled::Refused(why) => refused(why),
+                Filled::Done => {
                     copy(b, a);
                     OpenedFile {
                         answer: Opening::Opened,
-                        state: State::opened(picture.sizes, next, end),
+                        state: State::opened(header.sizes, next, end),
                     }
                 }
             }
@@ -176,17 +288,10 @@ pub fn open(file: &[u8], a: &mut [u8], b: &mut [u8]) -> OpenedFile
             next,
             start,
             len,
+            body,
         } => {
             let stop = start + len;
-            let chunks = &file[start..stop];
-            open_picture(
-                iff::contents(chunks, BMHD),
-                iff::contents(chunks, BODY),
-                next,
-                end,
-                a,
-                b,
-            )
+            open_picture(&file[start..stop], body, next, end, a, b)
         }
     }
 }

@@ -8,17 +8,15 @@ use mathlib.Core.Path.{_≡_, refl, sym, ap, _∙_}
 use lib.Dec.{leb, eqb}
 use lib.ListN.{length, take, drop}
 use borrow.Author.Tests.{eq-eqb, le-leb}
-use Rattle.laws.specs.Result.{Res, Res.ok, Res.fault, _>>=_, need, orKeep}
+use Rattle.laws.specs.Result.{Res, Res.ok, Res.fault, _>>=_, need}
 use Rattle.laws.specs.ResultLaws.{pick-both}
 use Rattle.refusal.specs.Number.{numberOf}
 use Rattle.refusal.specs.declared.Refusal.{Refusal}
-use Rattle.state.specs.declared.Sizes.{Sizes}
 use Rattle.state.specs.declared.State.{State}
 use Rattle.state.specs.State.{rowBytes}
-use Rattle.anhd.specs.declared.Items.{Items}
 use Rattle.anhd.specs.Anhd.{columnsOk}
-use Rattle.delta.specs.Delta.{Op, shapeOf, draw, readFrame, newFrame, opCount, Applies}
-use Rattle.delta.specs.ApplyLaws.{frame-delta}
+use Rattle.delta.specs.Delta.{newFrame, Applies}
+use Rattle.delta.specs.ApplyLaws.{frame-delta, applied-refused, applied-drawn}
 use Rattle.anhd.specs.declared.FrameHeader.{FrameHeader}
 use Rattle.frame.specs.Frame.{Frame, frameAt}
 use Rattle.record.specs.Record.{recordBytes, Measure, measure, written, Commits}
@@ -90,24 +88,6 @@ module _ (s : State) (x : Frame) (hidden f rec : List ℕ) (k : Fits s (length h
           let l = ap (λ (g : Measure). g .length) n in
           let d = ap (λ (g : Measure). g .changed) n in
           record { steps = λ work. rw q (record { answer = rw (l, d); state = rw en; picture = c .picture; drawn = refl; written = rw en at (c .bytes) }) }
-
--- what was applied
-module _ {z : Sizes} {i : Items} {d f w g : List ℕ} where
-  applied-refused : {n : ℕ} → Applies z i d f w (fault n) g → newFrame z i d f (length w) ≡ fault n
-  unfolding opCount newFrame
-  applied-refused {n} p = go (readFrame z i d (length f) (length w)) (p .counts)
-    where
-      go : (r : Res (List Op)) → fault n ≡ (r >>= λ ops. ok (length ops)) → (r >>= λ ops. ok (draw (shapeOf z i) d ops f)) ≡ fault n
-      go (ok ops) e = let q : _≡_ {A = ℕ} 0 1 = cc in absurd (omega arith)
-      go (fault m) e = let q : m ≡ n = cc in rw q
-
-  applied-drawn : {c : ℕ} → Applies z i d f w (ok c) g → newFrame z i d f (length w) ≡ ok g
-  unfolding opCount newFrame
-  applied-drawn {c} p = go (readFrame z i d (length f) (length w)) (p .counts) (p .leaves)
-    where
-      go : (r : Res (List Op)) → ok c ≡ (r >>= λ ops. ok (length ops)) → g ≡ orKeep w (r >>= λ ops. ok (draw (shapeOf z i) d ops f)) → (r >>= λ ops. ok (draw (shapeOf z i) d ops f)) ≡ ok g
-      go (ok ops) e h = rw h
-      go (fault m) e h = let q : _≡_ {A = ℕ} 0 1 = cc in absurd (omega arith)
 
 -- a frame to be built: where its chunks stand makes no difference to what it comes to
 abbrev pub frameOf : ℕ → FrameHeader → List ℕ → Frame

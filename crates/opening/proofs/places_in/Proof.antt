@@ -1,11 +1,10 @@
--- `opening::places_in`: the walk to the first FORM ILBM, then whether its two chunks are there.
+-- `opening::places_in`: the walk to the first FORM ILBM, then how it gives the picture.
 use native.Mathlib.Omega.{arith}
 use mathlib.Core.Path.{sym}
 use Rattle.laws.specs.ResultLaws.{told, each-some}
-use Rattle.iff.specs.Both.{bothOf}
 use Rattle.form.specs.Form.{formOf}
 use Rattle.form.specs.FormLaws.{Follows, frame-follows}
-use Rattle.opening.specs.OpenLaws.{anim-broken, anim-empty, form-broken, form-missing, form-whole}
+use Rattle.opening.specs.OpenLaws.{givenOf, anim-broken, anim-empty, form-broken, form-given}
 use borrow.Author.Needs.{needs}
 use Rattle.opening.proofs.places_in.Statement.{statement}
 use Rattle.opening.proofs.places_in.Tie as tie
@@ -25,26 +24,23 @@ enum-known-f-2 c = search needs
 add-stop : tie.Need-add-stop
 add-stop c = let k : Follows _ _ _ = each-some (told formOf (c .before .before .before .next-form .ensures) (c .before .f2 .given .1)) (frame-follows _ _) in omega (arith, k .holds, k .ends)
 
-sub-has-both : tie.Need-sub-has-both
-sub-has-both c = search needs
+sub-body-in : tie.Need-sub-body-in
+sub-body-in c = search needs
 
-part-has-both-start : tie.Need-part-has-both-start
-part-has-both-start c = search needs
+part-body-in-start : tie.Need-part-body-in-start
+part-body-in-start c = search needs
 
-part-has-both-end : tie.Need-part-has-both-end
-part-has-both-end c = let k : Follows _ _ _ = each-some (told formOf (c .before .before .before .next-form .ensures) (c .before .f2 .given .1)) (frame-follows _ _) in omega (arith, k .holds, k .ends)
+part-body-in-end : tie.Need-part-body-in-end
+part-body-in-end c = let k : Follows _ _ _ = each-some (told formOf (c .before .before .before .next-form .ensures) (c .before .f2 .given .1)) (frame-follows _ _) in omega (arith, k .holds, k .ends)
 
-has-both-requires : tie.Need-has-both-requires
-has-both-requires c κs = search needs
+body-in-requires : tie.Need-body-in-requires
+body-in-requires c κs = search needs
 
-enum-known-p : tie.Need-enum-known-p
-enum-known-p c = search needs
+enum-known-g : tie.Need-enum-known-g
+enum-known-g c = search needs
 
-enum-told-2 : tie.Need-enum-told-2
-enum-told-2 c = search needs
-
-enum-told-3 : tie.Need-enum-told-3
-enum-told-3 c = search needs
+enum-known-g-2 : tie.Need-enum-known-g-2
+enum-known-g-2 c = search needs
 
 returns : tie.Need-returns
 returns c = sym (anim-broken _ (told formOf (c .before .before .before .next-form .ensures) (c .before .f .given .1)))
@@ -53,13 +49,14 @@ returns-2 : tie.Need-returns-2
 returns-2 c = sym (anim-empty _ (told formOf (c .before .before .next-form .ensures) (c .enum-told .given .1)))
 
 returns-3 : tie.Need-returns-3
-returns-3 c = sym (form-broken _ _ _ _ (told formOf (c .before .before .before .before .before .before .before .before .next-form .ensures) (c .before .before .before .before .before .before .f2 .given .1)) (told bothOf (c .before .before .before .has-both .ensures) (c .before .p .given .1)))
+returns-3 c =
+    let f = c .before .before .before .before .before .before in
+    sym (form-broken _ _ _ _ (told formOf (f .before .before .next-form .ensures) (f .f2 .given .1)) (told givenOf (c .before .before .before .body-in .ensures) (c .before .g .given .1)))
 
 returns-4 : tie.Need-returns-4
-returns-4 c = sym (form-missing _ _ _ _ (told formOf (c .before .before .before .before .before .before .before .next-form .ensures) (c .before .before .before .before .before .f2 .given .1)) (told bothOf (c .before .before .has-both .ensures) (c .enum-told2 .given .1)))
-
-returns-5 : tie.Need-returns-5
-returns-5 c = sym (form-whole _ _ _ _ (told formOf (c .before .before .before .before .before .before .before .next-form .ensures) (c .before .before .before .before .before .f2 .given .1)) (told bothOf (c .before .before .has-both .ensures) (c .enum-told3 .given .1)))
+returns-4 c =
+    let f = c .before .before .before .before .before .before in
+    sym (form-given _ _ _ _ (told formOf (f .before .before .next-form .ensures) (f .f2 .given .1)) (told givenOf (c .before .before .before .body-in .ensures) (c .before .g2 .given .1)))
 
 pub places-in-spec : {M : Type 1} → statement M
 places-in-spec =
@@ -70,15 +67,13 @@ places-in-spec =
     enum-told
     enum-known-f-2
     add-stop
-    sub-has-both
-    part-has-both-start
-    part-has-both-end
-    has-both-requires
-    enum-known-p
-    enum-told-2
-    enum-told-3
+    sub-body-in
+    part-body-in-start
+    part-body-in-end
+    body-in-requires
+    enum-known-g
+    enum-known-g-2
     returns
     returns-2
     returns-3
-    returns-4
-    returns-5)
+    returns-4)
