@@ -1,9 +1,9 @@
 /*
  * anim.h: a proved reader of Amiga animations (IFF FORM ANIM files), for C and C++.
  *
- * It reads files whose first picture is an ILBM BODY, plain or packed by ByteRun1, and whose later
- * frames are deltas of method 5 (byte vertical) or 7 (short or long vertical). It plays them forward
- * and, with the records that it writes, back again, and it writes method 5 deltas.
+ * It reads files whose first picture is an ILBM BODY, plain or packed by ByteRun1, or a delta, and
+ * whose later frames are deltas, of method 5 (byte vertical) or 7 (short or long vertical). It plays
+ * them forward and, with the records that it writes, back again, and it writes method 5 deltas.
  *
  *     rt staticlib anim
  *     cc -I include examples/viewer.c target/staticlib/libanim.a -o viewer
@@ -55,7 +55,7 @@ extern "C" {
 #endif
 
 /* The version of the interface. It grows by one with every landing that changes the interface. */
-#define ANIM_VERSION 3
+#define ANIM_VERSION 4
 
 /* Limits. */
 #define ANIM_MAX_WIDTH 1024                /* pixels */
@@ -76,13 +76,13 @@ extern "C" {
 #define ANIM_NO_SUCH_ROW 14        /* no such plane or row */
 #define ANIM_CHUNK_PAST_PARENT 21  /* under 12 bytes; a chunk passes its parent; FORM ANIM or a FORM directly in it under 4 bytes */
 #define ANIM_NOT_FORM_ANIM 22      /* not a FORM ANIM */
-#define ANIM_NO_PICTURE 23         /* no FORM ILBM, or its first lacks BMHD or BODY */
+#define ANIM_NO_PICTURE 23         /* no FORM ILBM, or its first lacks BMHD, or both BODY and DLTA */
 #define ANIM_BAD_BMHD 24           /* BMHD not 20 bytes, sizes outside the limits, masking 1, compression above 1 */
 #define ANIM_BAD_BODY 25           /* BODY too short, or a run past its row */
-#define ANIM_NO_DELTA 31           /* a frame without ANHD or DLTA */
+#define ANIM_NO_DELTA 31           /* a later frame without ANHD or DLTA, or a first one without BODY and ANHD */
 #define ANIM_SHORT_ANHD 32         /* ANHD under 40 bytes */
 #define ANIM_UNKNOWN_METHOD 33     /* a method that is neither 5 nor 7 */
-#define ANIM_UNKNOWN_INTERLEAVE 34 /* an interleave other than 0, 1 and 2 */
+#define ANIM_UNKNOWN_INTERLEAVE 34 /* a later frame's interleave other than 0, 1 and 2 */
 #define ANIM_UNKNOWN_OPTIONS 35    /* option bits: any for method 5, bits 1 to 31 for method 7 */
 #define ANIM_ODD_LONG_COLUMNS 36   /* method 7 with long data, and B isn't a multiple of 4 */
 #define ANIM_BAD_POINTER 41        /* DLTA under 64 bytes, or a pointer outside 64 to its length */
@@ -171,7 +171,7 @@ static inline const char *anim_refusal_text(uint64_t answer) {
     case ANIM_NO_SUCH_ROW: return "no such plane or row";
     case ANIM_CHUNK_PAST_PARENT: return "a chunk passes its parent, or the file or a FORM is too short";
     case ANIM_NOT_FORM_ANIM: return "not a FORM ANIM";
-    case ANIM_NO_PICTURE: return "no FORM ILBM, or its first lacks BMHD or BODY";
+    case ANIM_NO_PICTURE: return "no FORM ILBM, or its first lacks BMHD, or both BODY and DLTA";
     case ANIM_BAD_BMHD: return "BMHD has a wrong length, size, masking or compression";
     case ANIM_BAD_BODY: return "BODY is too short, or a run passes its row";
     case ANIM_NO_DELTA: return "a frame lacks ANHD or DLTA";
@@ -199,7 +199,7 @@ static inline const char *anim_refusal_text(uint64_t answer) {
  *
  * Answers ANIM_OK, or the first of these refusals:
  *   11  the size isn't 8 bytes long
- *   then anim_open's refusals in its order, from 13 to 24: 12 and 25 aren't asked
+ *   then anim_open's refusals in its order, from 13 to 24: 12 and what follows it isn't asked
  *
  * Answered, the size is the bytes of a frame, 40000 for 320 x 200 in 5 planes. Refused, it is as it was.
  */
@@ -207,7 +207,9 @@ uint64_t anim_frame_size(const uint8_t *file, size_t file_length,
                          uint8_t *size, size_t size_length);
 
 /*
- * Opens a file: A and B get its first picture, and the state gets frame 1.
+ * Opens a file: A and B get its first picture, and the state gets frame 1. The first picture is the
+ * BODY of the first FORM ILBM, or without one what its DLTA makes of an all-zero picture. With a BODY
+ * neither ANHD nor DLTA is looked at.
  *
  * file       the whole file; it is read and never changed. FORM ANIM starts at its first byte, and
  *            bytes after the FORM's end aren't read.
@@ -225,11 +227,15 @@ uint64_t anim_frame_size(const uint8_t *file, size_t file_length,
  *       directly in FORM ANIM is shorter than 4
  *   23  there is no FORM ILBM
  *   21  a chunk in the first FORM ILBM passes it; that frame is walked whole
- *   23  it lacks BMHD or BODY; the first chunk of each id counts
+ *   23  it lacks BMHD, or both BODY and DLTA; the first chunk of each id counts
+ *   31  it lacks both BODY and ANHD
  *   24  BMHD isn't 20 bytes long, has a width or height outside 1 to 1024 or planes outside 1 to 8,
  *       masking 1, or a compression above 1
  *   12  A or B isn't a frame long
  *   25  BODY is too short, or a packed run passes its row
+ *   or without a BODY
+ *   32, 33, 35, 36, 41, 42, 43  as anim_step_on answers them, in its order; 34 isn't asked, since the
+ *       first frame's interleave isn't looked at
  *
  * Opened, A and B both hold frame 1. Refused, A and B are as they were and the state is six zeros,
  * which every other call refuses with 11.

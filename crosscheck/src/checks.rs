@@ -2,6 +2,7 @@
 pub mod calls;
 pub mod damaged;
 pub mod fences;
+pub mod first;
 pub mod interleaves;
 pub mod large;
 pub mod limits;
@@ -53,7 +54,7 @@ pub fn on_and_back(check: &mut Check, mut player: Player) -> Checked<()> {
     Ok(())
 }
 
-/// Small well-formed files of every kind of BODY and delta.
+/// Small well-formed files of every kind of BODY and delta, and of every kind of first picture.
 pub fn small_films(check: &mut Check) -> Vec<Vec<u8>> {
     let sizes = [(16, 2, 1), (20, 3, 2), (32, 3, 1), (33, 2, 3), (64, 5, 1)];
     let random = &mut check.random;
@@ -63,7 +64,18 @@ pub fn small_films(check: &mut Check) -> Vec<Vec<u8>> {
         films.push(files::film(random, sizes, 4, files::Harm::None));
         films.push(every_method(random, sizes));
     }
+    for (items, width) in [(1, 16), (2, 20), (4, 32)] {
+        films.push(only_deltas(random, Sizes { width, height: 2, planes: 1 }, items));
+    }
     films
+}
+
+/// A file of a first picture and a frame after it, both of them deltas of such items.
+fn only_deltas(random: &mut Random, sizes: Sizes, items: usize) -> Vec<u8> {
+    let picture = random.bytes(sizes.frame());
+    let first = files::delta_on_black(&picture, sizes, items);
+    let next = files::random_delta(random, sizes, items);
+    files::form(b"ANIM", &[files::first_delta_form(sizes, items, 3, &first), files::delta_form(items, 0, 1, &next)])
 }
 
 /// A file with a packed BODY and a frame of each kind of item, and of each interleave where the rows have long columns.

@@ -41,9 +41,15 @@ pub fn anhd(items: usize, interleave: u8, time: u32) -> Vec<u8> {
     all
 }
 
-/// The FORM of a first picture.
+/// The FORM of a first picture with a BODY.
 pub fn picture_form(sizes: Sizes, compression: u8, body: &[u8]) -> Vec<u8> {
     form(b"ILBM", &[chunk(b"BMHD", &bmhd(sizes, compression)), chunk(b"BODY", body)])
+}
+
+/// The FORM of a first picture that is given as a delta.
+pub fn first_delta_form(sizes: Sizes, items: usize, interleave: u8, delta: &[u8]) -> Vec<u8> {
+    let chunks = [chunk(b"BMHD", &bmhd(sizes, 1)), chunk(b"ANHD", &anhd(items, interleave, 2)), chunk(b"DLTA", delta)];
+    form(b"ILBM", &chunks)
 }
 
 /// The FORM of a later frame.
@@ -216,6 +222,11 @@ pub fn delta_between(old: &[u8], new: &[u8], sizes: Sizes, items: usize) -> Vec<
     out
 }
 
+/// The delta of such items that draws a picture on a black one.
+pub fn delta_on_black(picture: &[u8], sizes: Sizes, items: usize) -> Vec<u8> {
+    delta_between(&vec![0; picture.len()], picture, sizes, items)
+}
+
 /// Writes a column as Skips, Sames and Uniqs; false if it would need too many ops.
 fn method_7_column(old: &[&[u8]], new: &[&[u8]], ops: &mut Vec<u8>, data: &mut Vec<u8>) -> bool {
     let start = ops.len();
@@ -345,10 +356,31 @@ fn other_chunk(random: &mut Random) -> Option<Vec<u8>> {
     }
 }
 
+/// Whether a first frame has a BODY and a delta: half of them a BODY, a third a delta, the others both.
+const FIRSTS: [(bool, bool); 6] = [(true, false), (true, false), (true, false), (true, true), (false, true), (false, true)];
+
+/// A first frame with a BODY, with a delta, or with both, of which the BODY counts.
 fn first_frame(random: &mut Random, sizes: Sizes, harm: Harm) -> Vec<u8> {
-    let values = *random.pick(&[1, 2, 256]);
-    let frame: Vec<u8> = (0..sizes.frame()).map(|_| random.below(values) as u8).collect();
     let packed = random.once_in(2);
+    let (body, delta) = if harm == Harm::Body { (true, false) } else { *random.pick(&FIRSTS) };
+    let mut parts = vec![chunk(b"BMHD", &first_bmhd(random, sizes, packed, harm))];
+    let mut behind: Vec<&[u8; 4]> = vec![b"DLTA", b"ANHD", b"BMHD"];
+    if body {
+        parts.push(chunk(b"BODY", &first_body(random, sizes, packed, harm)));
+        behind.push(b"BODY");
+    }
+    if delta {
+        let harmed = random.once_in(2);
+        parts.extend(delta_chunks(random, sizes, if harmed { harm } else { Harm::None }, true));
+    }
+    if harm == Harm::Missing && random.once_in(3) {
+        parts.remove(random.below(parts.len()));
+    }
+    mix(random, &mut parts, &behind);
+    form(b"ILBM", &parts)
+}
+
+fn first_bmhd(random: &mut Random, sizes: Sizes, packed: bool, harm: Harm) -> Vec<u8> {
     let mut header = bmhd(sizes, u8::from(packed));
     header[9] = *random.pick(&[0, 0, 2, 3, 255]);
     if harm == Harm::PictureHeader {
@@ -359,25 +391,34 @@ fn first_frame(random: &mut Random, sizes: Sizes, harm: Harm) -> Vec<u8> {
             _ => header[9] = 1,
         }
     }
+    header
+}
+
+fn first_body(random: &mut Random, sizes: Sizes, packed: bool, harm: Harm) -> Vec<u8> {
+    let values = *random.pick(&[1, 2, 256]);
+    let frame: Vec<u8> = (0..sizes.frame()).map(|_| random.below(values) as u8).collect();
     let mut body = if packed { ragged_body(random, &frame, sizes) } else { plain_body(&frame, sizes) };
     if harm == Harm::Body {
         damage(random, &mut body);
     } else if random.once_in(4) {
         body.push(random.byte());
     }
-    let mut parts = vec![chunk(b"BMHD", &header), chunk(b"BODY", &body)];
-    if harm == Harm::Missing && random.once_in(3) {
-        parts.remove(random.below(2));
-    }
-    mix(random, &mut parts);
-    form(b"ILBM", &parts)
+    body
 }
 
 fn later_frame(random: &mut Random, sizes: Sizes, harm: Harm) -> Vec<u8> {
+    let mut parts = delta_chunks(random, sizes, harm, false);
+    mix(random, &mut parts, &[b"BODY", b"DLTA", b"ANHD", b"BMHD"]);
+    form(b"ILBM", &parts)
+}
+
+/// ANHD and DLTA, one of them left away if that is the harm; the interleave of a first frame is any byte.
+fn delta_chunks(random: &mut Random, sizes: Sizes, harm: Harm, first: bool) -> Vec<Vec<u8>> {
     let longs = sizes.row().is_multiple_of(4) || harm == Harm::AnimHeader && random.once_in(3);
     let items = *random.pick(if longs { &[1, 2, 4] } else { &[1, 2, 1] });
     let time = random.number() as u32 >> random.below(32);
-    let mut header = anhd(items, *random.pick(&[0, 1, 2]), time);
+    let interleave = if first { random.byte() } else { *random.pick(&[0, 1, 2]) };
+    let mut header = anhd(items, interleave, time);
     if harm == Harm::AnimHeader {
         match random.below(4) {
             0 => header.truncate(random.below(41)),
@@ -396,14 +437,14 @@ fn later_frame(random: &mut Random, sizes: Sizes, harm: Harm) -> Vec<u8> {
     if harm == Harm::Missing {
         parts.remove(random.below(2));
     }
-    mix(random, &mut parts);
-    form(b"ILBM", &parts)
+    parts
 }
 
-/// Puts other chunks in, a second one of an id behind all, and sometimes changes the order.
-fn mix(random: &mut Random, parts: &mut Vec<Vec<u8>>) {
+/// Sometimes changes the order, puts another chunk in, and puts a chunk of one of these ids behind all.
+fn mix(random: &mut Random, parts: &mut Vec<Vec<u8>>, behind: &[&[u8; 4]]) {
     if random.once_in(3) && parts.len() > 1 {
-        parts.swap(0, 1);
+        let by = random.from_to(1, parts.len() - 1);
+        parts.rotate_left(by);
     }
     if random.once_in(4) {
         let at = random.below(parts.len() + 1);
@@ -412,7 +453,7 @@ fn mix(random: &mut Random, parts: &mut Vec<Vec<u8>>) {
         parts.insert(at, chunk(id, &random.bytes(length)));
     }
     if random.once_in(6) {
-        let id = *random.pick(&[b"BODY", b"DLTA", b"ANHD", b"BMHD"]);
+        let id = *random.pick(behind);
         parts.push(chunk(id, &random.bytes(3)));
     }
 }

@@ -136,10 +136,8 @@ pub struct Report {
 /// Opens a file: A and B get its first picture.
 pub fn open(file: &[u8], a: &mut [u8], b: &mut [u8]) -> Answer<State> {
     let first = picture::find(file)?;
+    first.fill(a, b)?;
     let sizes = first.sizes;
-    need(a.len() == sizes.frame() && b.len() == sizes.frame(), BufferLength)?;
-    first.unpack(a)?;
-    b.copy_from_slice(a);
     Ok(State {
         width: sizes.width as u64,
         height: sizes.height as u64,
@@ -152,7 +150,9 @@ pub fn open(file: &[u8], a: &mut [u8], b: &mut [u8]) -> Answer<State> {
 
 /// The length of the frames of a file, for which opening asks.
 pub fn frame_length(file: &[u8]) -> Answer<usize> {
-    picture::find(file).map(|first| first.sizes.frame())
+    let first = picture::find(file)?;
+    first.read_early("length-asks-header")?;
+    Ok(first.sizes.frame())
 }
 
 /// Steps on to the next frame; `None` is End.
@@ -176,7 +176,7 @@ pub fn step_on(file: &[u8], state: &mut State, a: &mut [u8], b: &mut [u8], work:
     }
     let [anhd, dlta] = iff::find(form.contents, [b"ANHD", b"DLTA"])?;
     let (anhd, dlta) = anhd.zip(dlta).ok_or(NoDelta)?;
-    let header = Header::read(anhd, sizes)?;
+    let header = Header::read(anhd, sizes, false)?;
 
     let (shown, hidden) = if state.shows_a() { (a, b) } else { (b, a) };
     let black = vec![0; if broken("frame-2-on-black") { length } else { 0 }];

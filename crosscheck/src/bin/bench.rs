@@ -5,7 +5,7 @@
 //! A case is run N times (25 unless said), and for a fifth of a second at least. The table has ratios,
 //! library / plain Rust; with --times microseconds stand beside them.
 //! With --only a case is run if it has all the words: open or step or write, the width, light or heavy or noise,
-//! the items' bytes of the method (1, 2, 4) and one-back or two-back, or packed or plain for opening.
+//! the items' bytes of the method (1, 2, 4) and one-back or two-back; for opening packed or plain, or delta and the items' bytes.
 use crosscheck::files;
 use crosscheck::pair::{delta_room, record_room};
 use crosscheck::plain::{self, Sizes, State};
@@ -19,6 +19,8 @@ const SIZES: [Sizes; 3] =
 const CHANGES: [&str; 3] = ["light", "heavy", "noise"];
 /// Methods with the bytes of their items and an interleave.
 const METHODS: [(&str, usize, u8); 4] = [("method 5", 1, 0), ("7 short", 2, 0), ("7 long", 4, 0), ("5, one back", 1, 1)];
+/// Methods of a first picture with the bytes of their items.
+const FIRST_METHODS: [(&str, usize); 3] = [("delta, method 5", 1), ("delta, 7 short", 2), ("delta, 7 long", 4)];
 
 /// How long a case is run at least, so that the best times of short calls settle.
 const SETTLED: Duration = Duration::from_millis(200);
@@ -197,11 +199,19 @@ struct Tables {
 }
 
 fn bench_opening(words: &Words, tables: &mut Tables, sizes: Sizes, old: &[u8]) {
+    let width = sizes.width.to_string();
     let mut line = format!("| {} |", name(sizes));
     for (kind, compression, body) in [("packed", 1, files::packed_body(old, sizes)), ("plain", 0, files::plain_body(old, sizes))] {
         let file = file_of(sizes, compression, &body, None);
-        let wanted = words.wants(&["open", &sizes.width.to_string(), kind]);
+        let wanted = words.wants(&["open", &width, kind]);
         line += &cell(words, wanted.then(|| opening(words.turns, &file, sizes)));
+    }
+    for (_, items) in FIRST_METHODS {
+        let best = words.wants(&["open", &width, "delta", &items.to_string()]).then(|| {
+            let first = files::first_delta_form(sizes, items, 0, &files::delta_on_black(old, sizes, items));
+            opening(words.turns, &files::form(b"ANIM", &[first]), sizes)
+        });
+        line += &cell(words, best);
     }
     tables.open.push(line);
 }
@@ -249,7 +259,8 @@ fn main() {
     }
     println!("Ratios, library / plain Rust{}; below 1 the library is faster.", if words.times { " (microseconds of each)" } else { "" });
     let methods = METHODS.map(|m| m.0).join(" | ");
-    table("Opening", "| sizes | ByteRun1 | plain BODY |\n|---|---|---|", &tables.open);
+    let first = FIRST_METHODS.map(|m| m.0).join(" | ");
+    table("Opening", &format!("| sizes | ByteRun1 | plain BODY | {first} |\n|---|---|---|---|---|---|"), &tables.open);
     table("Step on, record included", &format!("| sizes | changes | {methods} |\n|---|---|---|---|---|---|"), &tables.on);
     table("Step back", &format!("| sizes | changes | {methods} |\n|---|---|---|---|---|---|"), &tables.back);
     table("Writer", "| sizes | changes | method 5 |\n|---|---|---|", &tables.write);

@@ -1,7 +1,7 @@
 //! Makes calls on both sides until they differ or the time is over.
 //!
 //!     check [--seed N] [--seconds N] [--broken NAME] [--names]
-use crosscheck::checks::{calls, damaged, fences, interleaves, large, limits, listings, none, orders, records, writer, Check};
+use crosscheck::checks::{calls, damaged, fences, first, interleaves, large, limits, listings, none, orders, records, writer, Check};
 use crosscheck::faults;
 use crosscheck::pair::{Checked, Pair};
 use crosscheck::random::Random;
@@ -14,12 +14,14 @@ type Group = (&'static str, fn(&mut Check) -> Checked<()>);
 const ONCE: &[Group] = &[
     ("ops of none", none::run),
     ("interleaves", interleaves::run),
+    ("first pictures given as deltas", first::run),
     ("the outside listings", listings::run),
     ("buffers of wrong lengths", limits::lengths),
     ("states around each limit", limits::states),
     ("every next and end place", limits::places),
     ("files too long", limits::long_file),
     ("things wrong at once: opening", orders::openings),
+    ("things wrong at once: opening by a delta", orders::delta_openings),
     ("things wrong at once: stepping on", orders::steps_on),
     ("things wrong at once: stepping back", orders::steps_back),
     ("things wrong at once: rows", orders::rows),

@@ -33,7 +33,7 @@ pub fn flipped(check: &mut Check) -> Checked<()> {
     Ok(())
 }
 
-/// BODY and DLTA cut at every byte in files that are well formed around them.
+/// BODY and DLTA, that of a first frame too, cut at every byte in files that are well formed around them.
 pub fn cut_contents(check: &mut Check) -> Checked<()> {
     let sizes = Sizes { width: 32, height: 6, planes: 2 };
     let random = &mut check.random;
@@ -49,6 +49,7 @@ pub fn cut_contents(check: &mut Check) -> Checked<()> {
     for (items, delta) in [1, 2, 4].into_iter().zip(&deltas) {
         for length in 0..=delta.len() {
             play(check, &two_frames(sizes, &bodies[0], items, &delta[..length]))?;
+            play(check, &one_frame(sizes, items, &delta[..length]))?;
         }
     }
     Ok(())
@@ -57,6 +58,11 @@ pub fn cut_contents(check: &mut Check) -> Checked<()> {
 /// A file of a plain picture and one delta.
 pub fn two_frames(sizes: Sizes, body: &[u8], items: usize, delta: &[u8]) -> Vec<u8> {
     files::form(b"ANIM", &[files::picture_form(sizes, 0, body), files::delta_form(items, 0, 1, delta)])
+}
+
+/// A file of a picture that is given as a delta.
+pub fn one_frame(sizes: Sizes, items: usize, delta: &[u8]) -> Vec<u8> {
+    files::form(b"ANIM", &[files::first_delta_form(sizes, items, 0, delta)])
 }
 
 /// One file, well formed or harmed.
@@ -69,7 +75,7 @@ pub fn any_film(check: &mut Check) -> Checked<()> {
     play(check, &film)
 }
 
-/// Many deltas for one picture, most of them damaged.
+/// Many deltas for one picture, most of them damaged, and each as a first picture too.
 pub fn any_deltas(check: &mut Check) -> Checked<()> {
     let random = &mut check.random;
     let sizes = files::any_sizes(random);
@@ -77,6 +83,7 @@ pub fn any_deltas(check: &mut Check) -> Checked<()> {
     let items = *random.pick(if sizes.row().is_multiple_of(4) { &[1, 2, 4] } else { &[1, 2, 1] });
     let delta = files::random_delta(random, sizes, items);
     play(check, &two_frames(sizes, &body, items, &delta))?;
+    play(check, &one_frame(sizes, items, &delta))?;
     for _ in 0..8 {
         let mut spoilt = delta.clone();
         for _ in 0..check.random.from_to(1, 2) {
@@ -85,6 +92,7 @@ pub fn any_deltas(check: &mut Check) -> Checked<()> {
             }
         }
         play(check, &two_frames(sizes, &body, items, &spoilt))?;
+        play(check, &one_frame(sizes, items, &spoilt))?;
     }
     Ok(())
 }

@@ -4,7 +4,7 @@ use crate::files;
 use crate::pair::{Checked, Player};
 use crate::plain::Sizes;
 
-const SIZES: Sizes = Sizes { width: 64, height: 3, planes: 2 };
+pub const SIZES: Sizes = Sizes { width: 64, height: 3, planes: 2 };
 /// Frames after the first.
 const LATER: u32 = 4;
 
@@ -13,15 +13,16 @@ pub fn run(check: &mut Check) -> Checked<()> {
     for number in 0..3u32.pow(LATER) {
         let interleaves: Vec<u8> = (0..LATER).map(|k| (number / 3u32.pow(k) % 3) as u8).collect();
         for items in [1, 2, 4] {
-            known_pictures(check, &interleaves, items)?;
+            known_pictures(check, &interleaves, items, by_body)?;
             any_deltas(check, &interleaves, items)?;
         }
     }
     Ok(())
 }
 
-/// A film of pictures that are known, each delta made from the picture that the interleave names: every frame shows its own, on and back.
-fn known_pictures(check: &mut Check, interleaves: &[u8], items: usize) -> Checked<()> {
+/// A film of pictures that are known, the first in a form of its own, each delta made from the picture that the interleave names: every frame shows its
+/// own, on and back.
+pub fn known_pictures(check: &mut Check, interleaves: &[u8], items: usize, first: impl Fn(&[u8]) -> Vec<u8>) -> Checked<()> {
     let random = &mut check.random;
     let values = *random.pick(&[2, 256]);
     let pictures: Vec<Vec<u8>> = (0..=interleaves.len()).map(|_| (0..SIZES.frame()).map(|_| random.below(values) as u8).collect()).collect();
@@ -29,9 +30,10 @@ fn known_pictures(check: &mut Check, interleaves: &[u8], items: usize) -> Checke
         let named = if *interleave == 1 { k } else { k.saturating_sub(1) };
         files::delta_between(&pictures[named], &pictures[k + 1], SIZES, items)
     });
-    let file = film(&pictures[0], interleaves, items, deltas);
+    let file = film(first(&pictures[0]), interleaves, items, deltas);
     let mut player = Player::fitting(random, &file);
     player.open(&mut check.pair)?;
+    shows(&player, &pictures, 0, interleaves)?;
     for far in 1..pictures.len() {
         let mut past = Vec::new();
         for k in 1..=far {
@@ -55,7 +57,7 @@ fn any_deltas(check: &mut Check, interleaves: &[u8], items: usize) -> Checked<()
     let random = &mut check.random;
     let first = random.bytes(SIZES.frame());
     let deltas: Vec<Vec<u8>> = interleaves.iter().map(|_| files::random_delta(random, SIZES, items)).collect();
-    let file = film(&first, interleaves, items, deltas);
+    let file = film(by_body(&first), interleaves, items, deltas);
     play(check, &file)?;
     let mut player = Player::fitting(&mut check.random, &file);
     player.open(&mut check.pair)?;
@@ -64,9 +66,14 @@ fn any_deltas(check: &mut Check, interleaves: &[u8], items: usize) -> Checked<()
     on_and_back(check, player)
 }
 
-/// A film of a first picture and deltas with these interleaves.
-fn film(first: &[u8], interleaves: &[u8], items: usize, deltas: impl IntoIterator<Item = Vec<u8>>) -> Vec<u8> {
-    let mut parts = vec![files::picture_form(SIZES, 0, &files::plain_body(first, SIZES))];
+/// The FORM of a first picture with a plain BODY.
+fn by_body(picture: &[u8]) -> Vec<u8> {
+    files::picture_form(SIZES, 0, &files::plain_body(picture, SIZES))
+}
+
+/// A film of a first frame and deltas with these interleaves.
+fn film(first: Vec<u8>, interleaves: &[u8], items: usize, deltas: impl IntoIterator<Item = Vec<u8>>) -> Vec<u8> {
+    let mut parts = vec![first];
     parts.extend(interleaves.iter().zip(deltas).map(|(interleave, delta)| files::delta_form(items, *interleave, 1, &delta)));
     files::form(b"ANIM", &parts)
 }

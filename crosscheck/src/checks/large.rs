@@ -1,5 +1,5 @@
-//! The largest pictures, of every method.
-use super::damaged::two_frames;
+//! The largest pictures, of every method, as first pictures too.
+use super::damaged::{one_frame, two_frames};
 use super::{play, Check};
 use crate::files;
 use crate::pair::Checked;
@@ -12,6 +12,8 @@ pub fn run(check: &mut Check) -> Checked<()> {
     for items in [1, 2, 4] {
         let delta = files::random_delta(&mut check.random, sizes, items);
         play(check, &two_frames(sizes, &body, items, &delta))?;
+        play(check, &one_frame(sizes, items, &delta))?;
+        play(check, &one_frame(sizes, items, &files::delta_on_black(&old, sizes, items)))?;
     }
     let few = old.iter().map(|&b| if check.random.once_in(20_000) { !b } else { b }).collect::<Vec<u8>>();
     for items in [2, 4] {

@@ -1,4 +1,5 @@
 //! States and sizes at each limit and outside by one, and buffers of wrong lengths.
+use super::orders::{delta_frames, file_around};
 use super::records::number;
 use super::Check;
 use crate::files::{self, Harm};
@@ -98,12 +99,17 @@ fn stretched(bytes: &[u8], length: usize) -> Vec<u8> {
     bytes.iter().copied().cycle().take(length).collect()
 }
 
-/// Each buffer of each call of each wrong length.
+/// Each buffer of each call of each wrong length, in a film that begins with a BODY and in one that begins with a delta.
 pub fn lengths(check: &mut Check) -> Checked<()> {
     let sizes = Sizes { width: 16, height: 2, planes: 1 };
-    let film = files::film(&mut check.random, sizes, 3, Harm::None);
-    let n = sizes.frame();
-    let mut good = Player::new(&mut check.random, &film, n);
+    for film in [super::every_method(&mut check.random, sizes), super::only_deltas(&mut check.random, sizes, 1)] {
+        lengths_in(check, &film, sizes.frame())?;
+    }
+    writer_lengths(check)
+}
+
+fn lengths_in(check: &mut Check, film: &[u8], n: usize) -> Checked<()> {
+    let mut good = Player::new(&mut check.random, film, n);
     good.open(&mut check.pair)?;
     let before = good.clone();
     good.step_on(&mut check.pair)?;
@@ -129,7 +135,7 @@ pub fn lengths(check: &mut Check) -> Checked<()> {
         before.frame_size(&mut check.pair, length)?;
     }
     for (state, report) in [(0, 32), (47, 32), (49, 32), (96, 32), (48, 0), (48, 31), (48, 33), (48, 64), (0, 0)] {
-        let mut player = Player::new(&mut check.random, &film, n + 1);
+        let mut player = Player::new(&mut check.random, film, n + 1);
         player.state.set(&vec![1; state]);
         player.report.set(&vec![1; report]);
         player.open(&mut check.pair)?;
@@ -137,7 +143,7 @@ pub fn lengths(check: &mut Check) -> Checked<()> {
         player.step_back(&mut check.pair, &[])?;
         rows(check, &mut player)?;
     }
-    writer_lengths(check)
+    Ok(())
 }
 
 /// Asks for a row that is there, and for some of a plane or with a number that no picture has.
@@ -189,16 +195,28 @@ pub fn long_file(check: &mut Check) -> Checked<()> {
     for length in [MAX_FILE as usize, MAX_FILE as usize + 1] {
         let mut file = vec![0; length];
         file[..film.len()].copy_from_slice(&film);
-        long_open(check, &file)?;
+        long_open(check, &file, 4)?;
         long_step(check, &file, &opened)?;
+    }
+    long_and_wrong(check)
+}
+
+/// Files one byte too long that begin with each first frame that may be given as a delta, and with each set of the things wrong around one.
+fn long_and_wrong(check: &mut Check) -> Checked<()> {
+    let mut file = vec![0; MAX_FILE as usize + 1];
+    let frames = delta_frames();
+    let around = (0..1 << 4).map(|set| file_around(&frames[0], set));
+    for (k, front) in frames.iter().map(|frame| file_around(frame, 0)).chain(around).enumerate() {
+        file[..front.len()].copy_from_slice(&front);
+        long_open(check, &file, 4 + k % 2)?;
     }
     Ok(())
 }
 
-/// Asks for the length of the frames, and opens the file.
-fn long_open(check: &mut Check, file: &[u8]) -> Checked<()> {
-    let ([mut a, mut b], mut state) = ([[1; 4], [2; 4]], [5; 48]);
-    let ([mut pa, mut pb], mut plain_state) = ([a, b], state);
+/// Asks for the length of the frames, and opens the file with A and B of this length.
+fn long_open(check: &mut Check, file: &[u8], length: usize) -> Checked<()> {
+    let ([mut a, mut b], mut state) = ([vec![1; length], vec![2; length]], [5; 48]);
+    let ([mut pa, mut pb], mut plain_state) = ([a.clone(), b.clone()], state);
     let [mut size, mut plain_size] = [[6; 8]; 2];
     let x = library::frame_size(file, &mut size);
     let y = cover::frame_size(file, &mut plain_size);

@@ -19,19 +19,32 @@ pub fn run(check: &mut Check) -> Checked<()> {
     large(check)
 }
 
-/// Files of 65,536 bytes and one more, and frames of 16,384 bytes and of one row more with a BODY that is too short.
+/// Files of 65,536 bytes and one more, and frames of 16,384 bytes and of one row more, with a BODY that is too short and with a delta that is bad: its
+/// ANHD empty, or missing, which is told before the length.
 fn large(check: &mut Check) -> Checked<()> {
     let sizes = Sizes { width: 1024, height: 128, planes: 1 };
-    let body = check.random.bytes(sizes.frame());
-    let whole = files::form(b"ANIM", &[files::picture_form(sizes, 0, &body)]);
-    let higher = files::form(b"ANIM", &[files::picture_form(Sizes { height: 129, ..sizes }, 0, &body)]);
-    for (file, length, wanted) in [(&whole, 65_536, "picture 1024x128x1\nend 1\n"), (&whole, 65_537, TOO_LARGE), (&higher, 65_536, TOO_LARGE)] {
-        let mut file = file.clone();
-        file.resize(length, 0);
-        for (side, listing) in [("library", list(check, &file)?), ("plain", plain::list(&file))] {
-            if listing != wanted {
-                return Err(format!("the listing of {length} bytes differs\n  wanted: {wanted}\n  {side}: {listing}"));
-            }
+    let higher = Sizes { height: 129, ..sizes };
+    let body = files::chunk(b"BODY", &check.random.bytes(sizes.frame()));
+    let [anhd, dlta, empty] = [files::chunk(b"ANHD", &files::anhd(1, 9, 0)), files::chunk(b"DLTA", &[0; 64]), files::chunk(b"ANHD", &[])];
+    listed(check, sizes, &[&body], 65_536, "picture 1024x128x1\nend 1\n")?;
+    listed(check, sizes, &[&body], 65_537, TOO_LARGE)?;
+    listed(check, higher, &[&body], 65_536, TOO_LARGE)?;
+    listed(check, sizes, &[&anhd, &dlta], 65_536, "picture 1024x128x1\nend 1\n")?;
+    listed(check, sizes, &[&empty, &dlta], 65_536, "refused 32\n")?;
+    listed(check, higher, &[&empty, &dlta], 65_536, TOO_LARGE)?;
+    listed(check, higher, &[&dlta], 65_536, "refused 31\n")?;
+    listed(check, higher, &[&dlta], 65_537, TOO_LARGE)
+}
+
+/// The listing of a first frame with BMHD and these chunks, in a file of such a length, on both sides.
+fn listed(check: &mut Check, sizes: Sizes, chunks: &[&[u8]], length: usize, wanted: &str) -> Checked<()> {
+    let mut parts = vec![files::chunk(b"BMHD", &files::bmhd(sizes, 0))];
+    parts.extend(chunks.iter().map(|chunk| chunk.to_vec()));
+    let mut file = files::form(b"ANIM", &[files::form(b"ILBM", &parts)]);
+    file.resize(length, 0);
+    for (side, listing) in [("library", list(check, &file)?), ("plain", plain::list(&file))] {
+        if listing != wanted {
+            return Err(format!("the listing of {length} bytes differs\n  wanted: {wanted}\n  {side}: {listing}"));
         }
     }
     Ok(())

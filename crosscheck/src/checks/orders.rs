@@ -32,26 +32,85 @@ fn first_frame(set: u32) -> Vec<u8> {
     files::form(b"ILBM", &parts)
 }
 
+/// A file of this frame with a set of four things wrong around it: a FORM of three bytes before it, the type, and the outer length too small and too
+/// large.
+pub fn file_around(frame: &[u8], set: u32) -> Vec<u8> {
+    let mut parts = vec![];
+    if has(set, 0) {
+        parts.push(files::chunk(b"FORM", b"ILB"));
+    }
+    parts.push(frame.to_vec());
+    let mut file = files::form(if has(set, 1) { b"ANIN" } else { b"ANIM" }, &parts);
+    if has(set, 2) {
+        file[7] = 3;
+    }
+    if has(set, 3) {
+        file[4] = 1;
+    }
+    file
+}
+
+/// Opens such a file with a set of two more things wrong: A and B too long, and a state of 47 bytes.
+fn open_around(check: &mut Check, frame: &[u8], set: u32) -> Checked<()> {
+    let file = file_around(frame, set);
+    let mut player = Player::new(&mut check.random, &file, if has(set, 4) { 5 } else { 4 });
+    if has(set, 5) {
+        player.state.set(&[4; 47]);
+    }
+    player.open(&mut check.pair).map(drop)
+}
+
 /// Opening with each set of eleven things wrong.
 pub fn openings(check: &mut Check) -> Checked<()> {
     for set in 0..1 << 11 {
-        let mut parts = vec![];
-        if has(set, 5) {
-            parts.push(files::chunk(b"FORM", b"ILB"));
+        open_around(check, &first_frame(set), set >> 5)?;
+    }
+    Ok(())
+}
+
+/// Each of these contents as a chunk, and none.
+fn each(id: &[u8; 4], contents: impl Iterator<Item = Vec<u8>>) -> Vec<Vec<u8>> {
+    contents.map(|contents| files::chunk(id, &contents)).chain([vec![]]).collect()
+}
+
+/// BMHD with this masking and compression.
+fn bmhd_of((masking, compression): (u8, u8)) -> Vec<u8> {
+    let mut header = files::bmhd(SIZES, compression);
+    header[9] = masking;
+    header
+}
+
+/// First frames that may be given as a delta: DLTA and ANHD with each set of their things wrong, BMHD with masking 1 and with compression 2, BODY too
+/// short and empty; each of the four good and missing too; with a broken chunk behind them and without.
+pub fn delta_frames() -> Vec<Vec<u8>> {
+    let parts = [
+        // Bit 6 of a step's set is left out: a Same of none is nothing wrong.
+        each(b"DLTA", (0..8).map(|set| delta((set & 1) << 5 | (set >> 1) << 7))),
+        each(b"ANHD", (0..32).map(header)),
+        each(b"BMHD", [(0, 0), (1, 0), (0, 2)].into_iter().map(bmhd_of)),
+        each(b"BODY", [4, 3, 0].into_iter().map(|length| vec![1; length])),
+        vec![vec![], b"ANNO\0\0\0\x09ab".to_vec()],
+    ];
+    let mut frames = vec![vec![]];
+    for chunks in &parts {
+        frames = frames.iter().flat_map(|frame| chunks.iter().map(|chunk| [&frame[..], chunk].concat())).collect();
+    }
+    frames.into_iter().map(|chunks| files::form(b"ILBM", &[chunks])).collect()
+}
+
+/// Opening each such frame with each set of the things wrong around it, and with A alone and B alone too long.
+pub fn delta_openings(check: &mut Check) -> Checked<()> {
+    for frame in delta_frames() {
+        let file = files::form(b"ANIM", std::slice::from_ref(&frame));
+        for (a, b) in [(5, 4), (4, 5)] {
+            let mut player = Player::new(&mut check.random, &file, 4);
+            player.a.set(&vec![1; a]);
+            player.b.set(&vec![2; b]);
+            player.open(&mut check.pair)?;
         }
-        parts.push(first_frame(set));
-        let mut file = files::form(if has(set, 6) { b"ANIN" } else { b"ANIM" }, &parts);
-        if has(set, 7) {
-            file[7] = 3;
+        for set in 0..1 << 6 {
+            open_around(check, &frame, set)?;
         }
-        if has(set, 8) {
-            file[4] = 1;
-        }
-        let mut player = Player::new(&mut check.random, &file, if has(set, 9) { 5 } else { 4 });
-        if has(set, 10) {
-            player.state.set(&[4; 47]);
-        }
-        player.open(&mut check.pair)?;
     }
     Ok(())
 }

@@ -23,24 +23,44 @@ pub struct Header {
 }
 
 impl Header {
-    pub fn read(anhd: &[u8], sizes: Sizes) -> Answer<Header> {
+    /// Reads ANHD; the interleave of a first frame isn't looked at.
+    pub fn read(anhd: &[u8], sizes: Sizes, first: bool) -> Answer<Header> {
         if broken("method-before-length") {
             need(anhd.first().is_none_or(|&method| method == 5 || method == 7), UnknownMethod)?;
         }
         need(anhd.len() >= 40, ShortAnhd)?;
         need(anhd.len() == 40 || !broken("anhd-exactly"), ShortAnhd)?;
         let (method, interleave, bits) = (anhd[0], anhd[18], be32(&anhd[20..]));
-        need(method == 5 || method == 7, UnknownMethod)?;
-        need(interleave <= 2 || interleave == 3 && broken("three-back-taken"), UnknownInterleave)?;
-        need(interleave != 1 || !broken("one-back-refused"), UnknownInterleave)?;
-        need(bits == 0 || method == 7 && bits == 1, UnknownOptions)?;
+        need(method_read(method, first), UnknownMethod)?;
+        need(interleave_read(interleave) || first && !broken("first-interleave-asked"), UnknownInterleave)?;
+        need(bits == 0 || method == 7 && bits == 1 || first && broken("first-options-free"), UnknownOptions)?;
         let items = match (method, bits) {
-            (5, _) => Items::Bytes,
-            (_, 0) => Items::Shorts,
-            _ => Items::Longs,
+            (7, 0) => Items::Shorts,
+            (7, _) => Items::Longs,
+            _ => Items::Bytes,
         };
-        need(items != Items::Longs || sizes.row().is_multiple_of(4), OddLongColumns)?;
+        let whole = sizes.row().is_multiple_of(4) || first && broken("first-odd-columns");
+        need(items != Items::Longs || whole, OddLongColumns)?;
         Ok(Header { method: u64::from(method), time: be32(&anhd[14..]), interleave, items })
+    }
+}
+
+/// Whether frames of this method are read, first ones and later ones alike.
+fn method_read(method: u8, first: bool) -> bool {
+    match method {
+        0 => first && broken("first-method-0-taken"),
+        5 => !(first && broken("first-method-5-refused")),
+        7 => !(first && broken("first-method-7-refused")),
+        _ => false,
+    }
+}
+
+/// Whether a later frame may have this interleave.
+fn interleave_read(interleave: u8) -> bool {
+    match interleave {
+        1 => !broken("one-back-refused"),
+        3 => broken("three-back-taken"),
+        _ => interleave <= 2,
     }
 }
 

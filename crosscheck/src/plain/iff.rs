@@ -46,12 +46,20 @@ pub fn next_frame(parent: &[u8], mut at: usize) -> Answer<Option<Chunk<'_>>> {
     Ok(None)
 }
 
+/// Whether the chunks found are enough: all, or of BMHD, BODY, ANHD and DLTA those of one picture.
+fn enough(found: &[Option<&[u8]>]) -> bool {
+    match found.iter().map(Option::is_some).collect::<Vec<bool>>()[..] {
+        [bmhd, body, anhd, dlta] => bmhd && (body || anhd && dlta),
+        ref all => !all.contains(&false),
+    }
+}
+
 /// The contents of the first chunk of each id, with the whole parent walked.
 pub fn find<'a, const N: usize>(parent: &'a [u8], ids: [&[u8; 4]; N]) -> Answer<[Option<&'a [u8]>; N]> {
     let mut found = [None; N];
     let mut at = 0;
     while at < parent.len() {
-        if broken("frame-not-walked") && found.iter().all(Option::is_some) {
+        if broken("frame-not-walked") && enough(&found) {
             break;
         }
         let chunk = chunk_at(parent, at)?;

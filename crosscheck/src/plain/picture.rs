@@ -1,45 +1,107 @@
-//! The first picture: BMHD and BODY.
+//! The first picture: BMHD, and BODY or else a delta on a black picture.
+use super::delta::{self, Header};
 use super::{be16, iff, need, Answer, Refusal::*, Sizes, MAX_FILE};
 use crate::faults::broken;
 
-/// A file's first picture, not yet unpacked.
+/// The contents of a chunk, if it is there.
+type Found<'a> = Option<&'a [u8]>;
+
+/// What a first picture is given by.
+enum Given<'a> {
+    Body(&'a [u8]),
+    Delta { anhd: &'a [u8], dlta: &'a [u8] },
+}
+
+/// A file's first picture, not yet drawn.
 pub struct First<'a> {
     pub sizes: Sizes,
     pub next: usize,
     pub end: usize,
     packed: bool,
-    body: &'a [u8],
+    given: Given<'a>,
 }
 
-/// Finds the first picture and reads its header.
+/// Finds the first picture and reads its BMHD.
 pub fn find(file: &[u8]) -> Answer<First<'_>> {
     need(file.len() as u64 <= MAX_FILE, FileTooLong)?;
     let end = iff::anim_end(file)?;
     let form = iff::next_frame(&file[..end], 12)?.ok_or(NoPicture)?;
-    let [bmhd, body] = iff::find(form.contents, [b"BMHD", b"BODY"])?;
-    let (bmhd, body) = bmhd.zip(body).ok_or(NoPicture)?;
-    let (sizes, packed) = read_header(bmhd)?;
-    Ok(First { sizes, next: form.next, end, packed, body })
+    let [bmhd, body, anhd, dlta] = iff::find(form.contents, [b"BMHD", b"BODY", b"ANHD", b"DLTA"])?;
+    need(body.or(anhd).is_some() || !broken("header-before-picture"), NoDelta)?;
+    let bmhd = bmhd.ok_or(NoPicture)?;
+    if broken("bmhd-before-header") && body.or(dlta).is_some() {
+        read_bmhd(bmhd, true)?;
+    }
+    let given = given(body, anhd, dlta)?;
+    let (sizes, packed) = read_bmhd(bmhd, body.is_some() || !broken("compression-free"))?;
+    if let (Some(_), Some(anhd), true) = (body, anhd, broken("body-asks-header")) {
+        Header::read(anhd, sizes, true)?;
+    }
+    Ok(First { sizes, next: form.next, end, packed, given })
+}
+
+/// BODY, or where there is none the delta with its header.
+fn given<'a>(body: Found<'a>, anhd: Found<'a>, dlta: Found<'a>) -> Answer<Given<'a>> {
+    let body = body.filter(|body| !(body.is_empty() && broken("empty-body-passed-over")));
+    match (body, dlta) {
+        (Some(_), Some(dlta)) if broken("body-passed-over") => Ok(Given::Delta { anhd: anhd.ok_or(NoDelta)?, dlta }),
+        (Some(body), _) => Ok(Given::Body(body)),
+        (None, Some(_)) if broken("first-delta-refused") => Err(NoPicture),
+        (None, Some(_)) if anhd.is_none() && broken("first-without-header-23") => Err(NoPicture),
+        (None, Some(dlta)) => Ok(Given::Delta { anhd: anhd.ok_or(NoDelta)?, dlta }),
+        (None, None) if anhd.is_some() && broken("first-without-delta-31") => Err(NoDelta),
+        (None, None) => Err(NoPicture),
+    }
 }
 
 /// The sizes in BMHD, and whether BODY is packed.
-fn read_header(bmhd: &[u8]) -> Answer<(Sizes, bool)> {
+fn read_bmhd(bmhd: &[u8], compression_asked: bool) -> Answer<(Sizes, bool)> {
     need(bmhd.len() == 20, BadBmhd)?;
     let (planes, masking, compression) = (bmhd[8], bmhd[9], bmhd[10]);
     let sizes = Sizes::new(be16(bmhd), be16(&bmhd[2..]), u64::from(planes)).ok_or(BadBmhd)?;
-    need(masking != 1 && compression <= 1, BadBmhd)?;
+    need(masking != 1 && (compression <= 1 || !compression_asked), BadBmhd)?;
     need(masking == 0 || !broken("masking-above-1"), BadBmhd)?;
     Ok((sizes, compression == 1))
 }
 
 impl First<'_> {
-    /// Draws the picture, or refuses and leaves the frame as it was.
-    pub fn unpack(&self, frame: &mut [u8]) -> Answer<()> {
-        if self.packed {
-            self.unpack_packed(frame)
-        } else {
-            self.unpack_plain(frame)
+    /// Fills A and B with the picture, or refuses and leaves both as they were.
+    pub fn fill(&self, a: &mut [u8], b: &mut [u8]) -> Answer<()> {
+        self.read_early("lengths-after-header")?;
+        let length = self.sizes.frame();
+        need(a.len() == length && b.len() == length, BufferLength)?;
+        match self.given {
+            Given::Body(body) if self.packed => self.unpack_packed(body, a)?,
+            Given::Body(body) => self.unpack_plain(body, a)?,
+            Given::Delta { anhd, dlta } => self.draw_delta(anhd, dlta, a)?,
         }
+        if !(matches!(self.given, Given::Delta { .. }) && broken("first-in-a-only")) {
+            b.copy_from_slice(a);
+        }
+        Ok(())
+    }
+
+    /// Reads a first delta's header before its turn, if this fault is chosen.
+    pub fn read_early(&self, fault: &str) -> Answer<()> {
+        match self.given {
+            Given::Delta { anhd, .. } if broken(fault) => Header::read(anhd, self.sizes, true).map(drop),
+            _ => Ok(()),
+        }
+    }
+
+    /// Draws a delta on a black picture.
+    fn draw_delta(&self, anhd: &[u8], dlta: &[u8], frame: &mut [u8]) -> Answer<()> {
+        let header = Header::read(anhd, self.sizes, true)?;
+        if broken("first-black-early") {
+            frame.fill(0);
+        }
+        if !broken("first-half-drawn") {
+            delta::check(dlta, self.sizes, header.items)?;
+        }
+        if !broken("first-on-buffer") {
+            frame.fill(if broken("first-on-ones") { 255 } else { 0 });
+        }
+        delta::draw(dlta, self.sizes, header.items, frame)
     }
 
     /// Where a row of BODY goes: each row has all its planes in turn.
@@ -56,23 +118,23 @@ impl First<'_> {
         })
     }
 
-    fn unpack_plain(&self, frame: &mut [u8]) -> Answer<()> {
-        need(self.body.len() >= self.sizes.frame(), BadBody)?;
-        need(self.body.len() == self.sizes.frame() || !broken("body-exactly"), BadBody)?;
+    fn unpack_plain(&self, body: &[u8], frame: &mut [u8]) -> Answer<()> {
+        need(body.len() >= self.sizes.frame(), BadBody)?;
+        need(body.len() == self.sizes.frame() || !broken("body-exactly"), BadBody)?;
         let row = self.sizes.row();
-        for (at, from) in self.places().zip(self.body.chunks_exact(row)) {
+        for (at, from) in self.places().zip(body.chunks_exact(row)) {
             frame[at..at + row].copy_from_slice(from);
         }
         Ok(())
     }
 
-    fn unpack_packed(&self, frame: &mut [u8]) -> Answer<()> {
+    fn unpack_packed(&self, body: &[u8], frame: &mut [u8]) -> Answer<()> {
         let row = self.sizes.row();
-        let mut rest = self.body;
+        let mut rest = body;
         for _ in 0..self.sizes.height * self.sizes.planes {
             check_row(&mut rest, row)?;
         }
-        let mut rest = self.body;
+        let mut rest = body;
         for at in self.places() {
             draw_row(&mut rest, &mut frame[at..at + row]);
         }

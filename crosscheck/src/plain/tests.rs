@@ -1,4 +1,4 @@
-//! The bench examples of document 01 that are about parts, ops of none, and the outside listings.
+//! The bench examples of document 01 that are about parts, ops of none, first pictures given as deltas, and the outside listings.
 use super::delta::{check, draw, Items};
 use super::*;
 use crate::files;
@@ -101,11 +101,39 @@ fn written_deltas() {
     assert_eq!(&out[..64], [0; 64]);
 }
 
+/// A chunk's id and contents.
+type Part<'a> = (&'a [u8; 4], &'a [u8]);
+
+/// What opening leaves in A where the first frame has BMHD and these chunks; B is the same.
+fn opened(chunks: &[Part]) -> Answer<[u8; 4]> {
+    let mut parts = vec![files::chunk(b"BMHD", &files::bmhd(SMALL, 0))];
+    parts.extend(chunks.iter().map(|(id, contents)| files::chunk(id, contents)));
+    let file = files::form(b"ANIM", &[files::form(b"ILBM", &parts)]);
+    let (mut a, mut b) = ([1; 4], [2; 4]);
+    let answer = open(&file, &mut a, &mut b);
+    assert_eq!(b, if answer.is_ok() { a } else { [2; 4] });
+    answer.map(|_| a)
+}
+
+#[test]
+fn first_pictures_given_as_deltas() {
+    let (anhd, dlta) = (files::anhd(1, 77, 0), delta_of(&[1, 0x82, 0xaa, 0xbb, 0]));
+    let [anhd, dlta]: [Part; 2] = [(b"ANHD", &anhd), (b"DLTA", &dlta)];
+    let [short, body]: [Part; 2] = [(b"ANHD", &[5; 39]), (b"BODY", &[1, 2, 3, 4])];
+    assert_eq!(opened(&[anhd, dlta]), Ok([0xaa, 0, 0xbb, 0]));
+    assert_eq!(opened(&[dlta, anhd, body]), Ok([1, 2, 3, 4]));
+    assert_eq!(opened(&[short, dlta, body]), Ok([1, 2, 3, 4]));
+    assert_eq!(opened(&[short, dlta]), Err(ShortAnhd));
+    assert_eq!(opened(&[dlta]), Err(NoDelta));
+    assert_eq!(opened(&[anhd]), Err(NoPicture));
+    assert_eq!(opened(&[anhd, (b"DLTA", &dlta.1[..68])]), Err(DeltaTooShort));
+}
+
 #[test]
 fn outside_listings() {
     let vectors = crate::vectors::all().unwrap();
     for vector in &vectors {
         assert_eq!(list(&vector.file), vector.listing, "{}", vector.name);
     }
-    assert_eq!(vectors.len(), 102);
+    assert_eq!(vectors.len(), 124);
 }
