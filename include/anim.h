@@ -76,10 +76,10 @@ extern "C" {
 #define ANIM_NO_SUCH_ROW 14        /* no such plane or row */
 #define ANIM_CHUNK_PAST_PARENT 21  /* under 12 bytes; a chunk passes its parent; FORM ANIM or a FORM directly in it under 4 bytes */
 #define ANIM_NOT_FORM_ANIM 22      /* not a FORM ANIM */
-#define ANIM_NO_PICTURE 23         /* no FORM ILBM, or its first lacks BMHD, or both BODY and DLTA */
+#define ANIM_NO_PICTURE 23         /* no FORM ILBM, or the first lacks BMHD, or has neither BODY nor DLTA */
 #define ANIM_BAD_BMHD 24           /* BMHD not 20 bytes, sizes outside the limits, masking 1, compression above 1 */
 #define ANIM_BAD_BODY 25           /* BODY too short, or a run past its row */
-#define ANIM_NO_DELTA 31           /* a later frame without ANHD or DLTA, or a first one without BODY and ANHD */
+#define ANIM_NO_DELTA 31           /* a later frame without ANHD or DLTA, or a first one with neither BODY nor ANHD */
 #define ANIM_SHORT_ANHD 32         /* ANHD under 40 bytes */
 #define ANIM_UNKNOWN_METHOD 33     /* a method that is neither 5 nor 7 */
 #define ANIM_UNKNOWN_INTERLEAVE 34 /* a later frame's interleave other than 0, 1 and 2 */
@@ -171,7 +171,7 @@ static inline const char *anim_refusal_text(uint64_t answer) {
     case ANIM_NO_SUCH_ROW: return "no such plane or row";
     case ANIM_CHUNK_PAST_PARENT: return "a chunk passes its parent, or the file or a FORM is too short";
     case ANIM_NOT_FORM_ANIM: return "not a FORM ANIM";
-    case ANIM_NO_PICTURE: return "no FORM ILBM, or its first lacks BMHD, or both BODY and DLTA";
+    case ANIM_NO_PICTURE: return "no FORM ILBM, or the first lacks BMHD, or has neither BODY nor DLTA";
     case ANIM_BAD_BMHD: return "BMHD has a wrong length, size, masking or compression";
     case ANIM_BAD_BODY: return "BODY is too short, or a run passes its row";
     case ANIM_NO_DELTA: return "a frame lacks ANHD or DLTA";
@@ -227,8 +227,8 @@ uint64_t anim_frame_size(const uint8_t *file, size_t file_length,
  *       directly in FORM ANIM is shorter than 4
  *   23  there is no FORM ILBM
  *   21  a chunk in the first FORM ILBM passes it; that frame is walked whole
- *   23  it lacks BMHD, or both BODY and DLTA; the first chunk of each id counts
- *   31  it lacks both BODY and ANHD
+ *   23  it lacks BMHD, or has neither BODY nor DLTA; the first chunk of each id counts
+ *   31  it has neither BODY nor ANHD
  *   24  BMHD isn't 20 bytes long, has a width or height outside 1 to 1024 or planes outside 1 to 8,
  *       masking 1, or a compression above 1
  *   12  A or B isn't a frame long
