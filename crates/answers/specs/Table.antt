@@ -98,9 +98,9 @@ form-table s from = runs-holds (frameStep s) (λ at. length s - at) (fault 21) (
     step (fault n) (table-refusal k) = comes-done (table-refusal k)
 
 -- the first picture's places and its frame's length
-body-table : (s : List ℕ) → InTable (bodyIn s)
+given-table : (s : List ℕ) → InTable (bodyIn s)
 unfolding bodyIn
-body-table s =
+given-table s =
     table-bind (has-table BMHD s) λ h. table-need h 23 _ refl
     (table-bind (has-table BODY s) λ b. pick-both InTable b table-value (table-bind (has-table DLTA s) λ d. table-need d 23 _ refl table-value))
 
@@ -110,7 +110,7 @@ places-table file =
     table-need (leb (length file) 2_147_483_647) 13 _ refl
     (table-bind (table-need (leb 12 (length file)) 21 _ refl (table-need (eqb (be32 file 0) FORM && eqb (be32 file 8) ANIM) 22 _ refl
     (table-need (leb 4 (be32 file 4)) 21 _ refl (table-need (leb (be32 file 4 + 8) (length file)) 21 _ refl table-value)))) λ end.
-    table-bind (form-table (take end file) 12) λ o. table-bind (table-refuse 23 o refl) λ x. table-bind (body-table (chunksOf (take end file) x)) λ b. table-value)
+    table-bind (form-table (take end file) 12) λ o. table-bind (table-refuse 23 o refl) λ x. table-bind (given-table (chunksOf (take end file) x)) λ b. table-value)
 
 length-table : (z : Sizes) → InTable (frameLength z)
 unfolding frameLength
@@ -126,13 +126,13 @@ header-table s =
     refused-table (ok a) = table-value
     refused-table (fault n) = table-refusal {n = 24} refl
 
-first-table : (s : List ℕ) (t : Bool) → InTable (firstHeader s t)
+first-header-table : (s : List ℕ) (t : Bool) → InTable (firstHeader s t)
 unfolding firstHeader
-first-table s t = table-bind (pick-both InTable t table-value (has-table ANHD s)) λ h. table-need h 31 _ refl (header-table (contents BMHD s))
+first-header-table s t = table-bind (pick-both InTable t table-value (has-table ANHD s)) λ h. table-need h 31 _ refl (header-table (contents BMHD s))
 
 pub size-table : (file : List ℕ) → InTable (firstSize file)
 unfolding firstSize
-size-table file = table-bind (places-table file) λ p. table-bind (first-table (chunksOf file (p .form)) (p .body)) λ z. table-value
+size-table file = table-bind (places-table file) λ p. table-bind (first-header-table (chunksOf file (p .form)) (p .body)) λ z. table-value
 
 -- a frame's header
 anhd-table : (first : Bool) (B : ℕ) (d : List ℕ) → InTable (frameHeader first B d)
@@ -245,7 +245,7 @@ unfolding opening firstOf
 opening-table file a b =
     table-bind (places-table file) λ p.
     table-bind
-    (table-bind (first-table (chunksOf file (p .form)) (p .body)) λ z. table-need (eqb a (z .length)) 12 _ refl (table-need (eqb b (z .length)) 12 _ refl
+    (table-bind (first-header-table (chunksOf file (p .form)) (p .body)) λ z. table-need (eqb a (z .length)) 12 _ refl (table-need (eqb b (z .length)) 12 _ refl
     (table-bind (picture-table (chunksOf file (p .form)) (p .body) z) λ f. table-value)))
     λ f. table-value
 

@@ -64,7 +64,7 @@ module _ (z : Sizes) (i : Items) (d : List ℕ) (m n : ℕ) where
   frame-delta {l} e h k w = rw (e, eq-eqb m l h, eq-eqb n l k, w)
 
 module _ {z : Sizes} {i : Items} {d f w : List ℕ} where
-  pub applies-fault : {k : ℕ} → readFrame z i d (length f) (length w) ≡ fault k → Applies z i d f w (fault k) w
+  applies-fault : {k : ℕ} → readFrame z i d (length f) (length w) ≡ fault k → Applies z i d f w (fault k) w
   unfolding opCount newFrame
   applies-fault e = record { counts = rw e; leaves = rw e }
 
@@ -123,17 +123,17 @@ module _ {z : Sizes} {i : Items} {d f w : List ℕ} {m : ℕ} (e : m ≡ length 
 
 -- what was applied
 module _ {z : Sizes} {i : Items} {d f w g : List ℕ} where
-  pub applied-refused : {n : ℕ} → Applies z i d f w (fault n) g → newFrame z i d f (length w) ≡ fault n
+  pub new-refused : {n : ℕ} → Applies z i d f w (fault n) g → newFrame z i d f (length w) ≡ fault n
   unfolding opCount newFrame
-  applied-refused {n} p = go (readFrame z i d (length f) (length w)) (p .counts)
+  new-refused {n} p = go (readFrame z i d (length f) (length w)) (p .counts)
     where
       go : (r : Res (List Op)) → fault n ≡ (r >>= λ ops. ok (length ops)) → (r >>= λ ops. ok (draw (shapeOf z i) d ops f)) ≡ fault n
       go (ok ops) e = let q : _≡_ {A = ℕ} 0 1 = cc in absurd (omega arith)
       go (fault m) e = let q : m ≡ n = cc in rw q
 
-  pub applied-drawn : {c : ℕ} → Applies z i d f w (ok c) g → newFrame z i d f (length w) ≡ ok g
+  pub new-drawn : {c : ℕ} → Applies z i d f w (ok c) g → newFrame z i d f (length w) ≡ ok g
   unfolding opCount newFrame
-  applied-drawn {c} p = go (readFrame z i d (length f) (length w)) (p .counts) (p .leaves)
+  new-drawn {c} p = go (readFrame z i d (length f) (length w)) (p .counts) (p .leaves)
     where
       go : (r : Res (List Op)) → ok c ≡ (r >>= λ ops. ok (length ops)) → g ≡ orKeep w (r >>= λ ops. ok (draw (shapeOf z i) d ops f)) → (r >>= λ ops. ok (draw (shapeOf z i) d ops f)) ≡ ok g
       go (ok ops) e h = rw h

@@ -6,7 +6,7 @@ use mathlib.Core.Bool.{false}
 use mathlib.Core.List.{List}
 use mathlib.Core.Path.{_≡_, refl, _∙_}
 use lib.ListN.{length, take, replicate}
-use Rattle.laws.specs.Result.{Res, Res.ok, Res.fault, _>>=_, answer}
+use Rattle.laws.specs.Result.{Res, Res.ok, Res.fault, _>>=_}
 use Rattle.state.specs.State.{frameBytes}
 use Rattle.state.specs.Film.{Film}
 use Rattle.form.specs.Form.{chunksOf}

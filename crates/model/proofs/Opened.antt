@@ -3,23 +3,22 @@
 use Prim.Native.Nat.{ℕ, _-_, _≤_}
 use native.Mathlib.Omega.{arith}
 use mathlib.Core.Bool.{Bool, true, false}
-use mathlib.Core.List.{List, []}
+use mathlib.Core.List.{List}
 use mathlib.Core.Option.{Option, none, some}
-use mathlib.Core.Path.{_≡_, refl, ap, _∙_}
+use mathlib.Core.Path.{_≡_, refl, _∙_}
 use lib.Dec.{leb, eqb}
 use lib.ListN.{length, take}
 use lib.Seq.{length-take-le}
 use Rattle.laws.specs.Result.{Res, Res.ok, _>>=_, need, orRefuse, pick}
 use Rattle.laws.specs.ResultLaws.{Each, Each.each, Each.no-value, each-self, each-any, each-bind, each-need, each-is}
 use Rattle.laws.specs.Store.{part-of-part}
-use Rattle.iff.specs.Ids.{BMHD, BODY, ANHD, DLTA}
+use Rattle.iff.specs.Ids.{BMHD, BODY, DLTA}
 use Rattle.iff.specs.Chunk.{contents}
 use Rattle.iff.specs.Both.{has}
 use Rattle.form.specs.Form.{Frame, chunksOf, animEnd, nextFrame}
 use Rattle.form.specs.FormLaws.{anim-closes}
 use Rattle.bmhd.specs.declared.Header.{Header}
 use Rattle.bmhd.specs.Header.{header}
-use Rattle.ilbm.specs.Body.{body}
 use Rattle.state.specs.State.{frameBytes, frameLength, opened}
 use Rattle.state.specs.StateLaws.{Sound, sizes-sound}
 use Rattle.opening.specs.Open.{Places, bodyIn, placesIn, firstPlaces, firstDelta, firstPicture, First, firstOf, filmOf, opening}
@@ -74,13 +73,10 @@ places-found file = each-need (leb (length file) 2_147_483_647) 13 _ λ _. each-
         each c
 
 -- the model's first picture is opening's
-abbrev given : List ℕ → Header → Res Bool → Res (List ℕ)
-given s z r = r >>= λ t. pick t (body (z .packed) (z .sizes) (contents BODY s)) (onZeros (z .sizes) (contents ANHD s) (contents DLTA s))
-
 picture-same : (s : List ℕ) (z : Header) (t : Bool) → has BODY s ≡ ok t → pictureOne s z ≡ firstPicture s t z
 unfolding pictureOne onZeros firstPicture firstDelta
-picture-same s z true e = ap (given s z) e
-picture-same s z false e = ap (given s z) e
+picture-same s z true e = rw e refl
+picture-same s z false e = rw e refl
 
 film-in : (file s : List ℕ) (t : Bool) (end start a b : ℕ) → has BODY s ≡ ok t
     → Each (λ (f : First). _≡_ {A = Res Film} (header (contents BMHD s) >>= λ z. pictureOne s z >>= λ p. ok (record { file = file; end = end; sizes = z .sizes; start = start; first = p })) (ok (filmOf file end start f)))

@@ -33,21 +33,21 @@ use Rattle.anhd.specs.AnhdLaws.{header-read}
 use Rattle.ilbm.specs.BodyLaws.{body-length}
 use Rattle.delta.specs.Delta.{shapeOf, readDelta, newFrame, Applies}
 use Rattle.delta.specs.DeltaLaws.{draw-length}
-use Rattle.delta.specs.ApplyLaws.{frame-delta, applied-refused, applied-drawn}
+use Rattle.delta.specs.ApplyLaws.{frame-delta, new-refused, new-drawn}
 use Rattle.state.specs.declared.Sizes.{Sizes}
 use Rattle.opening.specs.declared.Opening.the-variants.{Opened, Refused}
 use Rattle.opening.specs.declared.OpenedFile.{OpenedFile}
 use Rattle.opening.specs.declared.Filled.{Filled}
 use Rattle.opening.specs.declared.Filled.the-variants.{Done, Refused as NotFilled}
 use Rattle.opening.specs.declared.Given.{Given}
-use Rattle.opening.specs.declared.Given.the-variants.{Body, Nowhere as NotGiven}
+use Rattle.opening.specs.declared.Given.the-variants.{Picture, Nowhere as NotGiven}
 use Rattle.opening.specs.declared.Places.{Places as Found}
 use Rattle.opening.specs.declared.Places.the-variants.{At, Nowhere}
 use Rattle.opening.specs.Open.{Places, bodyIn, placesIn, firstPlaces, firstHeader, firstSize, firstDelta, firstPicture, First, firstOf, filmOf, opening, zeros, Opens}
 
 -- what the answers say in the paper's terms
 abbrev pub givenOf : Given → Res Bool
-givenOf (Body there) = ok there
+givenOf (Picture there) = ok there
 givenOf (NotGiven why) = fault (numberOf why)
 
 abbrev pub filledOf : Filled → Res (Unit {0})
@@ -263,7 +263,7 @@ module _ (h d : List ℕ) (z : Sizes) (a : List ℕ) (e : frameLength z ≡ ok (
         rw q (rw (k, n) refl)
 
     pub delta-bad : {why : Refusal} {g : List ℕ} → Applies z (x .items) d (replicate (length a) 0) a (fault (numberOf why)) g → Fills (firstDelta h d z) a (NotFilled why) g
-    delta-bad p = let k = applied-refused p in fills-refused (delta-is ∙ k) (rw k at (p .leaves))
+    delta-bad p = let k = new-refused p in fills-refused (delta-is ∙ k) (rw k at (p .leaves))
 
     pub delta-done : {n : ℕ} {g : List ℕ} → Applies z (x .items) d (replicate (length a) 0) a (ok n) g → Fills (firstDelta h d z) a Done g
-    delta-done p = fills-done (delta-is ∙ applied-drawn p)
+    delta-done p = fills-done (delta-is ∙ new-drawn p)

@@ -46,7 +46,7 @@ pub enum Size {
 
 // Whether the first picture is given as a BODY, or else as a delta; or why there is none.
 enum Given {
-    Body(bool),
+    Picture { body: bool },
     Nowhere(Refusal),
 }
 
@@ -99,14 +99,14 @@ fn body_in(chunks: &[u8]) -> Given
         Found::At { start: _, len: _ } => {
             let b = iff::find(chunks, BODY);
             match b {
-                Found::At { start: _, len: _ } => Given::Body(true),
+                Found::At { start: _, len: _ } => Given::Picture { body: true },
                 Found::Broken(why) => Given::Nowhere(why),
                 Found::Missing => {
                     let d = iff::find(chunks, DLTA);
                     match d {
                         Found::Broken(why) => Given::Nowhere(why),
                         Found::Missing => Given::Nowhere(Refusal::NoPicture),
-                        Found::At { start: _, len: _ } => Given::Body(false),
+                        Found::At { start: _, len: _ } => Given::Picture { body: false },
                     }
                 }
             }
@@ -127,7 +127,7 @@ fn places_in(anim: &[u8]) -> Places
             let g = body_in(&anim[start..stop]);
             match g {
                 Given::Nowhere(why) => Places::Nowhere(why),
-                Given::Body(body) => Places::At {
+                Given::Picture { body } => Places::At {
                     end: anim.len(),
                     next,
                     start,
@@ -157,15 +157,15 @@ fn first_places(file: &[u8]) -> Places
 fn first_header(chunks: &[u8], body: bool) -> Bmhd
     ensures { λ r. ⌜ headerOf r ≡ firstHeader (now (chunks .entry)) body ⌝ }
 {
-    if body {
-        return bmhd::read_header(iff::contents(chunks, BMHD));
+    if !body {
+        let h = iff::find(chunks, ANHD);
+        match h {
+            Found::Broken(why) => return Bmhd::Unread(why),
+            Found::Missing => return Bmhd::Unread(Refusal::NoDelta),
+            Found::At { start: _, len: _ } => {}
+        }
     }
-    let h = iff::find(chunks, ANHD);
-    match h {
-        Found::Broken(why) => Bmhd::Unread(why),
-        Found::Missing => Bmhd::Unread(Refusal::NoDelta),
-        Found::At { start: _, len: _ } => bmhd::read_header(iff::contents(chunks, BMHD)),
-    }
+    bmhd::read_header(iff::contents(chunks, BMHD))
 }
 
 // The length of the first picture's frame, or what refuses it up to and including its BMHD.

@@ -16,7 +16,7 @@ use Rattle.state.specs.declared.State.{State}
 use Rattle.state.specs.State.{rowBytes}
 use Rattle.anhd.specs.Anhd.{columnsOk}
 use Rattle.delta.specs.Delta.{newFrame, Applies}
-use Rattle.delta.specs.ApplyLaws.{frame-delta, applied-refused, applied-drawn}
+use Rattle.delta.specs.ApplyLaws.{frame-delta, new-refused, new-drawn}
 use Rattle.anhd.specs.declared.FrameHeader.{FrameHeader}
 use Rattle.frame.specs.Frame.{Frame, frameAt}
 use Rattle.record.specs.Record.{recordBytes, Measure, measure, written, Commits}
@@ -106,13 +106,13 @@ module _ (s : State) (x : Frame) (shown hidden work rec : List ℕ) (j : Fits s 
       → Builds (make s shown hidden (some x)) s hidden work rec (record { answer = Refused why; state = s }) hidden work′ rec
   unfolding settle
   builds-refused p =
-      let e = applied-refused p in
+      let e = new-refused p in
       rw (change-is, e) (record { answer = refl; state = refl; picture = refl; drawn = p .leaves ∙ rw e; written = refl })
 
   pub builds-recorded : {n : ℕ} {f p rec′ : List ℕ} {r : SteppedOn} → Applies (s .sizes) (x .header .items) (x .dlta) (basis (x .header) shown hidden) work (ok n) f
       → Records (makes s (frameOf (x .next) (x .header) []) hidden f) s hidden rec r p rec′ → Builds (make s shown hidden (some x)) s hidden work rec r p f rec′
   unfolding makes
-  builds-recorded h q = rw (change-is, applied-drawn h) (q .steps work)
+  builds-recorded h q = rw (change-is, new-drawn h) (q .steps work)
 
 -- what a step to the next frame of FORM ANIM leaves
 abbrev pub Advances : (anim : List ℕ) (w : World) (work rec : List ℕ) (r : SteppedOn) (a b work′ rec′ : List ℕ) → Type 0

@@ -47,7 +47,7 @@ module _ (z : Sizes) (old new out : List ℕ) (n : ℕ) (out′ : List ℕ) (m :
   delta-written = each-is (sym (m .answers)) (written-whole z old new (length out))
 
   -- the first n bytes of the output buffer are the delta
-  pub delta-stands : take n out′ ≡ deltaBytes z old new
+  delta-stands : take n out′ ≡ deltaBytes z old new
   delta-stands =
       let e : out′ ≡ deltaBytes z old new ++ drop (length (deltaBytes z old new)) out = m .leaves ∙ ap (bufferAfter (deltaBytes z old new) out) (sym (m .answers)) in
       rw (delta-written .size, e) (take-append-seam (deltaBytes z old new) (drop (length (deltaBytes z old new)) out))

@@ -37,7 +37,8 @@ returns-2 c =
     let l = c .before .before .before in
     let h = l .before .before .before in
     let z = h .before .before .before .before .before .before .args in
-    first-refused (first-right _ _ (length (z .a .now)) (length (z .b .now)) (told headerOf (h .before .before .first-header .ensures) (h .h2 .given .1)) (l .if1 .left) (c .before .if2 .taken)) (c .refused3 .ensures) refl
+    let m = l .if1 .left in
+    first-refused (first-right _ _ (length (z .a .now)) (length (z .b .now)) (told headerOf (h .before .before .first-header .ensures) (h .h2 .given .1)) m (λ e. c .before .if2 .taken cc)) (c .refused3 .ensures) refl
 
 first-picture-requires : tie.Need-first-picture-requires
 first-picture-requires c κs =
@@ -71,8 +72,9 @@ returns-4 c =
     let u = c .before .before .before .before .before .before in
     let l = u .before .before in
     let h = l .before .before .before .before .before in
+    let z = h .before .before .before .before .before .before .args in
     let e = told filledOf (u .first-picture .ensures .answer) (c .before .before .f .given .1) in
-    first-refused (first-bad _ _ _ _ (told headerOf (h .before .before .first-header .ensures) (h .h2 .given .1)) (l .before .before .if1 .left) (l .if2 .left) e) (c .refused4 .ensures) (fills-kept (u .first-picture .ensures) (c .before .before .f .given .1))
+    first-refused (first-bad _ _ (length (z .a .now)) (length (z .b .now)) (told headerOf (h .before .before .first-header .ensures) (h .h2 .given .1)) (l .before .before .if1 .left) (l .if2 .left) e) (c .refused4 .ensures) (fills-kept (u .first-picture .ensures) (c .before .before .f .given .1))
 
 same-length-2 : tie.Need-same-length-2
 same-length-2 c = search needs
