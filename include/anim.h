@@ -199,7 +199,7 @@ static inline const char *anim_refusal_text(uint64_t answer) {
  *
  * Answers ANIM_OK, or the first of these refusals:
  *   11  the size isn't 8 bytes long
- *   then anim_open's refusals in its order, from 13 to 24: 12 and what follows it isn't asked
+ *   then 13, 21, 22, 23, 31 and 24, in anim_open's order; 12 and what follows it aren't asked
  *
  * Answered, the size is the bytes of a frame, 40000 for 320 x 200 in 5 planes. Refused, it is as it was.
  */
