@@ -359,7 +359,7 @@ fn other_chunk(random: &mut Random) -> Option<Vec<u8>> {
 /// Whether a first frame has a BODY and a delta: half of them a BODY, a third a delta, the others both.
 const FIRSTS: [(bool, bool); 6] = [(true, false), (true, false), (true, false), (true, true), (false, true), (false, true)];
 
-/// A first frame with a BODY, with a delta, or with both, of which the BODY counts.
+/// A first frame with a BODY, with a delta, or with both, of which the BODY counts; one whose BODY is harmed has no delta.
 fn first_frame(random: &mut Random, sizes: Sizes, harm: Harm) -> Vec<u8> {
     let packed = random.once_in(2);
     let (body, delta) = if harm == Harm::Body { (true, false) } else { *random.pick(&FIRSTS) };

@@ -165,6 +165,11 @@ impl Player {
         for length in [8, 7] {
             self.frame_size(pair, length)?;
         }
+        self.open_only(pair)
+    }
+
+    /// Opens the file.
+    pub fn open_only(&mut self, pair: &mut Pair) -> Checked<u64> {
         let x = library::open(self.file.bytes(), self.state.library(), self.a.library(), self.b.library());
         let y = cover::open(self.file.plain_bytes(), self.state.plain(), self.a.plain(), self.b.plain());
         pair.compare("anim_open", x, y, &[&self.file, &self.state, &self.a, &self.b])

@@ -12,7 +12,6 @@ pub use list::list;
 pub use writer::write_delta;
 
 use crate::faults::broken;
-use delta::Header;
 use Refusal::*;
 
 pub const MAX_SIDE: u64 = 1_024;
@@ -174,9 +173,7 @@ pub fn step_on(file: &[u8], state: &mut State, a: &mut [u8], b: &mut [u8], work:
     if broken("last-frame-after-end") {
         need(state.frame < MAX_FRAME, LastFrame)?;
     }
-    let [anhd, dlta] = iff::find(form.contents, [b"ANHD", b"DLTA"])?;
-    let (anhd, dlta) = anhd.zip(dlta).ok_or(NoDelta)?;
-    let header = Header::read(anhd, sizes, false)?;
+    let (header, dlta) = delta::find(form.contents, sizes)?;
 
     let (shown, hidden) = if state.shows_a() { (a, b) } else { (b, a) };
     let black = vec![0; if broken("frame-2-on-black") { length } else { 0 }];

@@ -10,7 +10,7 @@ use std::time::{Instant, SystemTime};
 
 type Group = (&'static str, fn(&mut Check) -> Checked<()>);
 
-/// Made once, in this order.
+/// Made once, in this order; the one with the most calls is the last.
 const ONCE: &[Group] = &[
     ("ops of none", none::run),
     ("interleaves", interleaves::run),
@@ -21,7 +21,6 @@ const ONCE: &[Group] = &[
     ("every next and end place", limits::places),
     ("files too long", limits::long_file),
     ("things wrong at once: opening", orders::openings),
-    ("things wrong at once: opening by a delta", orders::delta_openings),
     ("things wrong at once: stepping on", orders::steps_on),
     ("things wrong at once: stepping back", orders::steps_back),
     ("things wrong at once: rows", orders::rows),
@@ -35,6 +34,7 @@ const ONCE: &[Group] = &[
     ("one long list of calls", calls::long_list),
     ("the largest pictures", large::run),
     ("buffers between fences", fences::run),
+    ("things wrong at once: opening by a delta", orders::delta_openings),
 ];
 
 /// Made in turn until the time is over.

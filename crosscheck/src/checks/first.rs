@@ -123,7 +123,7 @@ fn missing(check: &mut Check, first: &First) -> Checked<()> {
     Ok(())
 }
 
-/// A second chunk of an id, good behind a bad one and bad behind a good one, and a BODY that is bad beside a delta that is good.
+/// Each chunk twice, good behind bad and bad behind good, and one BODY that is bad beside a delta that is good.
 fn twice(check: &mut Check, first: &First) -> Checked<()> {
     let parts = [(b"BMHD", 24), (b"ANHD", 32), (b"DLTA", 41)];
     for (k, (id, refusal)) in parts.into_iter().enumerate() {
@@ -136,11 +136,11 @@ fn twice(check: &mut Check, first: &First) -> Checked<()> {
         }
     }
     for length in [0, 1, first.body.len() - 1] {
-        let bodies = [&first.body[..length], &first.body].map(|body| chunk(b"BODY", body));
-        let chunks = [first.delta_chunks(), bodies.to_vec()].concat();
-        first.open(check, &chunks, Err(25))?;
-        let chunks = [bodies[..1].to_vec(), first.delta_chunks()].concat();
-        first.open(check, &chunks, Err(25))?;
+        let [short, whole] = [&first.body[..length], &first.body].map(|body| vec![chunk(b"BODY", body)]);
+        let delta = first.delta_chunks();
+        first.open(check, &[&delta[..], &short, &whole].concat(), Err(25))?;
+        first.open(check, &[&delta[..], &whole, &short].concat(), Ok(&first.other))?;
+        first.open(check, &[&short[..], &delta].concat(), Err(25))?;
     }
     Ok(())
 }

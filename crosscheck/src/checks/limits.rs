@@ -201,14 +201,17 @@ pub fn long_file(check: &mut Check) -> Checked<()> {
     long_and_wrong(check)
 }
 
-/// Files one byte too long that begin with each first frame that may be given as a delta, and with each set of the things wrong around one.
+/// Files one byte too long that begin with each first frame that may be given as a delta, and with each set of the things wrong around a good one, with
+/// A and B of the right length and too long.
 fn long_and_wrong(check: &mut Check) -> Checked<()> {
     let mut file = vec![0; MAX_FILE as usize + 1];
     let frames = delta_frames();
     let around = (0..1 << 4).map(|set| file_around(&frames[0], set));
-    for (k, front) in frames.iter().map(|frame| file_around(frame, 0)).chain(around).enumerate() {
+    for front in frames.iter().map(|frame| file_around(frame, 0)).chain(around) {
         file[..front.len()].copy_from_slice(&front);
-        long_open(check, &file, 4 + k % 2)?;
+        for length in [4, 5] {
+            long_open(check, &file, length)?;
+        }
     }
     Ok(())
 }

@@ -1,6 +1,5 @@
 //! Every set of things that are wrong at once, so that the order of refusals shows.
 use super::Check;
-use crate::cover::state_bytes;
 use crate::files;
 use crate::pair::{Checked, Player, Twin};
 use crate::plain::{Sizes, State};
@@ -11,6 +10,9 @@ fn has(set: u32, thing: u32) -> bool {
 }
 
 const SIZES: Sizes = Sizes { width: 16, height: 2, planes: 1 };
+
+/// A chunk that passes its parent.
+const BROKEN: &[u8] = b"ANNO\0\0\0\x09ab";
 
 /// BMHD and BODY, each as it should be, missing or bad, and a broken chunk behind them.
 fn first_frame(set: u32) -> Vec<u8> {
@@ -27,7 +29,7 @@ fn first_frame(set: u32) -> Vec<u8> {
         parts.push(files::chunk(b"BODY", &body));
     }
     if has(set, 4) {
-        parts.push(b"ANNO\0\0\0\x09ab".to_vec());
+        parts.push(BROKEN.to_vec());
     }
     files::form(b"ILBM", &parts)
 }
@@ -50,20 +52,36 @@ pub fn file_around(frame: &[u8], set: u32) -> Vec<u8> {
     file
 }
 
-/// Opens such a file with a set of two more things wrong: A and B too long, and a state of 47 bytes.
-fn open_around(check: &mut Check, frame: &[u8], set: u32) -> Checked<()> {
-    let file = file_around(frame, set);
-    let mut player = Player::new(&mut check.random, &file, if has(set, 4) { 5 } else { 4 });
-    if has(set, 5) {
-        player.state.set(&[4; 47]);
+/// Lengths of A, B and the state: each set of A and B too long and a state of 47 bytes.
+const LENGTHS: [[usize; 3]; 4] = [[4, 4, 48], [5, 5, 48], [4, 4, 47], [5, 5, 47]];
+/// A alone and B alone too long.
+const ALONE: [[usize; 3]; 2] = [[5, 4, 48], [4, 5, 48]];
+
+/// Opens a frame with each set of six things wrong around it, and with A alone and B alone too long.
+fn open_around(check: &mut Check, frame: &[u8]) -> Checked<()> {
+    open_each(check, &file_around(frame, 0), &ALONE)?;
+    (0..1 << 4).try_for_each(|set| open_each(check, &file_around(frame, set), &LENGTHS))
+}
+
+/// Asks for the length of a file's frames, and opens it with A, B and the state of each of these lengths.
+fn open_each(check: &mut Check, file: &[u8], lengths: &[[usize; 3]]) -> Checked<()> {
+    let mut player = Player::new(&mut check.random, file, 4);
+    for length in [8, 7] {
+        player.frame_size(&mut check.pair, length)?;
     }
-    player.open(&mut check.pair).map(drop)
+    for &[a, b, state] in lengths {
+        player.a.set(&check.random.bytes(a));
+        player.b.set(&check.random.bytes(b));
+        player.state.set(&check.random.bytes(state));
+        player.open_only(&mut check.pair)?;
+    }
+    Ok(())
 }
 
 /// Opening with each set of eleven things wrong.
 pub fn openings(check: &mut Check) -> Checked<()> {
-    for set in 0..1 << 11 {
-        open_around(check, &first_frame(set), set >> 5)?;
+    for set in 0..1 << 5 {
+        open_around(check, &first_frame(set))?;
     }
     Ok(())
 }
@@ -73,46 +91,47 @@ fn each(id: &[u8; 4], contents: impl Iterator<Item = Vec<u8>>) -> Vec<Vec<u8>> {
     contents.map(|contents| files::chunk(id, &contents)).chain([vec![]]).collect()
 }
 
-/// BMHD with this masking and compression.
-fn bmhd_of((masking, compression): (u8, u8)) -> Vec<u8> {
-    let mut header = files::bmhd(SIZES, compression);
-    header[9] = masking;
-    header
+/// DLTA with each of so many sets of its things wrong, of 63 bytes, empty, and missing.
+fn delta_chunks(sets: u32) -> Vec<Vec<u8>> {
+    let short = [63, 0].map(|length| delta(0)[..length].to_vec());
+    each(b"DLTA", (0..sets).map(delta).chain(short))
 }
 
-/// First frames that may be given as a delta: DLTA and ANHD with each set of their things wrong, BMHD with masking 1 and with compression 2, BODY too
-/// short and empty; each of the four good and missing too; with a broken chunk behind them and without.
-pub fn delta_frames() -> Vec<Vec<u8>> {
-    let parts = [
-        // Bit 6 of a step's set is left out: a Same of none is nothing wrong.
-        each(b"DLTA", (0..8).map(|set| delta((set & 1) << 5 | (set >> 1) << 7))),
-        each(b"ANHD", (0..32).map(header)),
-        each(b"BMHD", [(0, 0), (1, 0), (0, 2)].into_iter().map(bmhd_of)),
-        each(b"BODY", [4, 3, 0].into_iter().map(|length| vec![1; length])),
-        vec![vec![], b"ANNO\0\0\0\x09ab".to_vec()],
-    ];
-    let mut frames = vec![vec![]];
-    for chunks in &parts {
-        frames = frames.iter().flat_map(|frame| chunks.iter().map(|chunk| [&frame[..], chunk].concat())).collect();
+/// ANHD with each set of its things wrong, and missing.
+fn header_chunks() -> Vec<Vec<u8>> {
+    each(b"ANHD", (0..32).map(header))
+}
+
+/// BMHD good, with masking 1, with compression 2, of width 0, of 19 bytes, and missing.
+fn bmhd_chunks() -> Vec<Vec<u8>> {
+    let good = files::bmhd(SIZES, 0);
+    let with = |at: usize, byte: u8| {
+        let mut header = good.clone();
+        header[at] = byte;
+        header
+    };
+    each(b"BMHD", [good.clone(), with(9, 1), with(10, 2), with(1, 0), good[..19].to_vec()].into_iter())
+}
+
+/// FORMs of each choice of one chunk from every list: ILBM and of another type, with a broken chunk behind the others and without.
+fn forms(lists: &[Vec<Vec<u8>>]) -> Vec<Vec<u8>> {
+    let mut choices = vec![vec![]];
+    for chunks in lists.iter().chain([&vec![vec![], BROKEN.to_vec()]]) {
+        choices = choices.iter().flat_map(|front| chunks.iter().map(|chunk| [&front[..], chunk].concat())).collect();
     }
-    frames.into_iter().map(|chunks| files::form(b"ILBM", &[chunks])).collect()
+    choices.into_iter().flat_map(|chunks| [b"ILBM", b"ILBN"].map(|kind| files::form(kind, std::slice::from_ref(&chunks)))).collect()
+}
+
+/// First frames that may be given as a delta: each choice of a DLTA, ANHD, BMHD and BODY that is good, bad or missing. The first of them is good.
+pub fn delta_frames() -> Vec<Vec<u8>> {
+    let bodies = each(b"BODY", [4, 3, 0].into_iter().map(|length| vec![1; length]));
+    // A Same of none is left out: nothing is wrong with it.
+    forms(&[delta_chunks(8), header_chunks(), bmhd_chunks(), bodies])
 }
 
 /// Opening each such frame with each set of the things wrong around it, and with A alone and B alone too long.
 pub fn delta_openings(check: &mut Check) -> Checked<()> {
-    for frame in delta_frames() {
-        let file = files::form(b"ANIM", std::slice::from_ref(&frame));
-        for (a, b) in [(5, 4), (4, 5)] {
-            let mut player = Player::new(&mut check.random, &file, 4);
-            player.a.set(&vec![1; a]);
-            player.b.set(&vec![2; b]);
-            player.open(&mut check.pair)?;
-        }
-        for set in 0..1 << 6 {
-            open_around(check, &frame, set)?;
-        }
-    }
-    Ok(())
+    delta_frames().iter().try_for_each(|frame| open_around(check, frame))
 }
 
 /// ANHD with each of its things wrong.
@@ -137,49 +156,46 @@ fn header(set: u32) -> Vec<u8> {
 /// the things though nothing is wrong with it; where no op passes the last row it comes last, and the missing item is its own.
 fn delta(set: u32) -> Vec<u8> {
     let mut delta = vec![0; 64];
-    delta[3] = if has(set, 8) { 63 } else { 64 };
+    delta[3] = if has(set, 2) { 63 } else { 64 };
     delta.extend([1, 0x82, 1, 2]);
-    let column: &[u8] = match (has(set, 6), has(set, 7)) {
+    let column: &[u8] = match (has(set, 3), has(set, 1)) {
         (false, false) => &[1, 0x82, 3, 4],
         (true, false) => &[2, 0x82, 3, 4, 0, 0, 5],
         (false, true) => &[2, 1, 0x82, 3, 4],
         (true, true) => &[3, 0, 0, 5, 1, 0x82, 3, 4],
     };
     delta.extend(column);
-    if has(set, 5) {
+    if has(set, 0) {
         delta.pop();
     }
     delta
 }
 
-/// Stepping on with each set of fifteen things wrong, with and without a Same of none.
+/// Stepping on to each choice of a DLTA and ANHD that is good, bad or missing, with each set of five things wrong around it.
 pub fn steps_on(check: &mut Check) -> Checked<()> {
-    for set in 0..1 << 16 {
-        let mut parts = vec![files::chunk(b"DLTA", &delta(set))];
-        if !has(set, 9) {
-            parts.push(files::chunk(b"ANHD", &header(set)));
+    for frame in forms(&[delta_chunks(16), header_chunks()]) {
+        let file = files::form(b"ANIM", &[first_frame(0), frame]);
+        for set in 0..1 << 5 {
+            step_around(check, &file, set)?;
         }
-        if has(set, 10) {
-            parts.push(b"ANNO\0\0\0\x09ab".to_vec());
-        }
-        let next = first_frame(0).len() as u64 + 12;
-        let file = files::form(b"ANIM", &[first_frame(0), files::form(b"ILBM", &parts)]);
-        let frame = if has(set, 11) { 1_000_000 } else { 2 };
-        let mut state = State { width: 16, height: 2, planes: 1, frame, next, end: file.len() as u64 };
-        if has(set, 12) {
-            state.end += 1;
-        }
-        let mut player = Player::new(&mut check.random, &file, if has(set, 13) { 6 } else { 4 });
-        player.state.set(&state_bytes(state));
-        if has(set, 14) {
-            player.record.set(&[8; 2]);
-        }
-        if has(set, 15) {
-            player.report.set(&[6; 31]);
-        }
-        player.step_on(&mut check.pair)?;
     }
     Ok(())
+}
+
+/// Steps on to a file's second frame with a set of things wrong: the frame number, the end place, the frames' lengths, the record's and the report's.
+fn step_around(check: &mut Check, file: &[u8], set: u32) -> Checked<()> {
+    let frame = if has(set, 0) { 1_000_000 } else { 2 };
+    let next = first_frame(0).len() as u64 + 12;
+    let end = file.len() as u64 + u64::from(has(set, 1));
+    let mut player = Player::new(&mut check.random, file, if has(set, 2) { 6 } else { 4 });
+    player.set_state(State { width: 16, height: 2, planes: 1, frame, next, end });
+    if has(set, 3) {
+        player.record.set(&[8; 2]);
+    }
+    if has(set, 4) {
+        player.report.set(&[6; 31]);
+    }
+    player.step_on(&mut check.pair).map(drop)
 }
 
 /// Stepping back with each set of ten things wrong.

@@ -1,5 +1,5 @@
 //! ANHD and the deltas of methods 5 and 7.
-use super::{be32, need, Answer, Refusal::*, Sizes};
+use super::{be32, iff, need, Answer, Refusal, Refusal::*, Sizes};
 use crate::faults::broken;
 
 /// What the items of a delta are.
@@ -61,6 +61,27 @@ fn interleave_read(interleave: u8) -> bool {
         1 => !broken("one-back-refused"),
         3 => broken("three-back-taken"),
         _ => interleave <= 2,
+    }
+}
+
+/// The header and the DLTA of a later frame.
+pub fn find(frame: &[u8], sizes: Sizes) -> Answer<(Header, &[u8])> {
+    let [anhd, dlta] = iff::find(frame, [b"ANHD", b"DLTA"])?;
+    if let (Some(anhd), None, true) = (anhd, dlta, broken("header-before-missing-delta")) {
+        Header::read(anhd, sizes, false)?;
+    }
+    let dlta = dlta.ok_or(NoDelta)?;
+    let anhd = anhd.ok_or(length_first(dlta, NoDelta, "delta-length-before-31"))?;
+    let header = Header::read(anhd, sizes, false).map_err(|refusal| length_first(dlta, refusal, "delta-length-before-32"))?;
+    Ok((header, dlta))
+}
+
+/// The refusal, or 41 if this fault is chosen and DLTA is under 64 bytes, as if its length were asked for before.
+pub fn length_first(dlta: &[u8], refusal: Refusal, fault: &str) -> Refusal {
+    if dlta.len() < 64 && broken(fault) {
+        BadPointer
+    } else {
+        refusal
     }
 }
 

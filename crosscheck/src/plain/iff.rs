@@ -31,13 +31,23 @@ pub fn anim_end(file: &[u8]) -> Answer<usize> {
 }
 
 /// The first FORM ILBM from a place on, its type left away.
-pub fn next_frame(parent: &[u8], mut at: usize) -> Answer<Option<Chunk<'_>>> {
+pub fn next_frame(parent: &[u8], at: usize) -> Answer<Option<Chunk<'_>>> {
+    let frame = next_form(parent, at, |kind| kind == b"ILBM")?;
+    if frame.is_none() && broken("other-form-walked") {
+        let other = next_form(parent, at, |_| true)?;
+        other.map(|other| find(other.contents, [])).transpose()?;
+    }
+    Ok(frame)
+}
+
+/// The first FORM of such a type from a place on, its type left away.
+pub fn next_form(parent: &[u8], mut at: usize, wanted: impl Fn(&[u8]) -> bool) -> Answer<Option<Chunk<'_>>> {
     while at < parent.len() {
         let chunk = chunk_at(parent, at)?;
         if chunk.id == b"FORM" && !(broken("short-form-passed") && chunk.contents.len() < 4) {
             need(chunk.contents.len() >= 4, ChunkPastParent)?;
             let (kind, contents) = chunk.contents.split_at(4);
-            if kind == b"ILBM" {
+            if wanted(kind) {
                 return Ok(Some(Chunk { contents, ..chunk }));
             }
         }
@@ -54,6 +64,12 @@ fn enough(found: &[Option<&[u8]>]) -> bool {
     }
 }
 
+/// Whether a chunk counts, where one of its id may have been found before: only the first does.
+fn counts(found: Option<&[u8]>, chunk: &Chunk) -> bool {
+    let shorter = chunk.id == b"BODY" && found.is_some_and(|found| chunk.contents.len() < found.len());
+    found.is_none() || broken("last-chunk-counts") || shorter && broken("shorter-body-counts")
+}
+
 /// The contents of the first chunk of each id, with the whole parent walked.
 pub fn find<'a, const N: usize>(parent: &'a [u8], ids: [&[u8; 4]; N]) -> Answer<[Option<&'a [u8]>; N]> {
     let mut found = [None; N];
@@ -64,7 +80,7 @@ pub fn find<'a, const N: usize>(parent: &'a [u8], ids: [&[u8; 4]; N]) -> Answer<
         }
         let chunk = chunk_at(parent, at)?;
         for (slot, id) in found.iter_mut().zip(ids) {
-            if chunk.id == id && (slot.is_none() || broken("last-chunk-counts")) {
+            if chunk.id == id && counts(*slot, &chunk) {
                 *slot = Some(chunk.contents);
             }
         }

@@ -1,6 +1,6 @@
 //! The first picture: BMHD, and BODY or else a delta on a black picture.
 use super::delta::{self, Header};
-use super::{be16, iff, need, Answer, Refusal::*, Sizes, MAX_FILE};
+use super::{be16, iff, need, Answer, Refusal, Refusal::*, Sizes, MAX_FILE};
 use crate::faults::broken;
 
 /// The contents of a chunk, if it is there.
@@ -10,6 +10,16 @@ type Found<'a> = Option<&'a [u8]>;
 enum Given<'a> {
     Body(&'a [u8]),
     Delta { anhd: &'a [u8], dlta: &'a [u8] },
+}
+
+impl Given<'_> {
+    /// The refusal, or 41 if this fault is chosen and there is a delta under 64 bytes.
+    fn length_first(&self, refusal: Refusal, fault: &str) -> Refusal {
+        match self {
+            Given::Body(_) => refusal,
+            Given::Delta { dlta, .. } => delta::length_first(dlta, refusal, fault),
+        }
+    }
 }
 
 /// A file's first picture, not yet drawn.
@@ -25,19 +35,29 @@ pub struct First<'a> {
 pub fn find(file: &[u8]) -> Answer<First<'_>> {
     need(file.len() as u64 <= MAX_FILE, FileTooLong)?;
     let end = iff::anim_end(file)?;
-    let form = iff::next_frame(&file[..end], 12)?.ok_or(NoPicture)?;
-    let [bmhd, body, anhd, dlta] = iff::find(form.contents, [b"BMHD", b"BODY", b"ANHD", b"DLTA"])?;
+    let frame = iff::next_frame(&file[..end], 12)?;
+    if frame.is_none() && broken("type-asked-last") {
+        let other = iff::next_form(&file[..end], 12, |_| true)?;
+        other.map(|other| read(&other, end)).transpose()?;
+    }
+    read(&frame.ok_or(NoPicture)?, end)
+}
+
+/// Walks the frame and reads its BMHD.
+fn read<'a>(frame: &iff::Chunk<'a>, end: usize) -> Answer<First<'a>> {
+    let [bmhd, body, anhd, dlta] = iff::find(frame.contents, [b"BMHD", b"BODY", b"ANHD", b"DLTA"])?;
     need(body.or(anhd).is_some() || !broken("header-before-picture"), NoDelta)?;
     let bmhd = bmhd.ok_or(NoPicture)?;
-    if broken("bmhd-before-header") && body.or(dlta).is_some() {
-        read_bmhd(bmhd, true)?;
+    if body.or(dlta).is_some() {
+        bmhd_early(bmhd)?;
     }
     let given = given(body, anhd, dlta)?;
-    let (sizes, packed) = read_bmhd(bmhd, body.is_some() || !broken("compression-free"))?;
+    let asked = read_bmhd(bmhd, body.is_some() || !broken("compression-free"));
+    let (sizes, packed) = asked.map_err(|refusal| given.length_first(refusal, "first-delta-length-before-24"))?;
     if let (Some(_), Some(anhd), true) = (body, anhd, broken("body-asks-header")) {
         Header::read(anhd, sizes, true)?;
     }
-    Ok(First { sizes, next: form.next, end, packed, given })
+    Ok(First { sizes, next: frame.next, end, packed, given })
 }
 
 /// BODY, or where there is none the delta with its header.
@@ -48,17 +68,32 @@ fn given<'a>(body: Found<'a>, anhd: Found<'a>, dlta: Found<'a>) -> Answer<Given<
         (Some(body), _) => Ok(Given::Body(body)),
         (None, Some(_)) if broken("first-delta-refused") => Err(NoPicture),
         (None, Some(_)) if anhd.is_none() && broken("first-without-header-23") => Err(NoPicture),
-        (None, Some(dlta)) => Ok(Given::Delta { anhd: anhd.ok_or(NoDelta)?, dlta }),
+        (None, Some(dlta)) => {
+            let anhd = anhd.ok_or(delta::length_first(dlta, NoDelta, "first-delta-length-before-31"))?;
+            Ok(Given::Delta { anhd, dlta })
+        }
         (None, None) if anhd.is_some() && broken("first-without-delta-31") => Err(NoDelta),
         (None, None) => Err(NoPicture),
     }
 }
 
+/// Asks for 24, or for a part of it, before a first frame's 31, if such a fault is chosen.
+fn bmhd_early(bmhd: &[u8]) -> Answer<()> {
+    need(bmhd.len() == 20 || !broken("bmhd-length-before-31"), BadBmhd)?;
+    need(bmhd.len() != 20 || sizes_in(bmhd).is_ok() || !broken("bmhd-sizes-before-31"), BadBmhd)?;
+    need(read_bmhd(bmhd, true).is_ok() || !broken("bmhd-before-header"), BadBmhd)
+}
+
+/// The sizes in a BMHD of 20 bytes.
+fn sizes_in(bmhd: &[u8]) -> Answer<Sizes> {
+    Sizes::new(be16(bmhd), be16(&bmhd[2..]), u64::from(bmhd[8])).ok_or(BadBmhd)
+}
+
 /// The sizes in BMHD, and whether BODY is packed.
 fn read_bmhd(bmhd: &[u8], compression_asked: bool) -> Answer<(Sizes, bool)> {
     need(bmhd.len() == 20, BadBmhd)?;
-    let (planes, masking, compression) = (bmhd[8], bmhd[9], bmhd[10]);
-    let sizes = Sizes::new(be16(bmhd), be16(&bmhd[2..]), u64::from(planes)).ok_or(BadBmhd)?;
+    let (masking, compression) = (bmhd[9], bmhd[10]);
+    let sizes = sizes_in(bmhd)?;
     need(masking != 1 && (compression <= 1 || !compression_asked), BadBmhd)?;
     need(masking == 0 || !broken("masking-above-1"), BadBmhd)?;
     Ok((sizes, compression == 1))
@@ -69,7 +104,7 @@ impl First<'_> {
     pub fn fill(&self, a: &mut [u8], b: &mut [u8]) -> Answer<()> {
         self.read_early("lengths-after-header")?;
         let length = self.sizes.frame();
-        need(a.len() == length && b.len() == length, BufferLength)?;
+        need(a.len() == length && b.len() == length, self.given.length_first(BufferLength, "first-delta-length-before-12"))?;
         match self.given {
             Given::Body(body) if self.packed => self.unpack_packed(body, a)?,
             Given::Body(body) => self.unpack_plain(body, a)?,
@@ -91,7 +126,8 @@ impl First<'_> {
 
     /// Draws a delta on a black picture.
     fn draw_delta(&self, anhd: &[u8], dlta: &[u8], frame: &mut [u8]) -> Answer<()> {
-        let header = Header::read(anhd, self.sizes, true)?;
+        let asked = Header::read(anhd, self.sizes, true);
+        let header = asked.map_err(|refusal| self.given.length_first(refusal, "first-delta-length-before-32"))?;
         if broken("first-black-early") {
             frame.fill(0);
         }
