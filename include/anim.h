@@ -2,8 +2,9 @@
  * anim.h: a proved reader of Amiga animations (IFF FORM ANIM files), for C and C++.
  *
  * It reads files whose first picture is an ILBM BODY, plain or packed by ByteRun1, or a delta, and
- * whose later frames are deltas, of method 5 (byte vertical) or 7 (short or long vertical). It plays
- * them forward and, with the records that it writes, back again, and it writes method 5 deltas.
+ * whose later frames are deltas, of method 2 (long delta), 3 (short delta), 5 (byte vertical) or 7
+ * (short or long vertical). It plays them forward and, with the records that it writes, back again,
+ * and it writes method 5 deltas.
  *
  *     rt staticlib anim
  *     cc -I include examples/viewer.c target/staticlib/libanim.a -o viewer
@@ -55,7 +56,7 @@ extern "C" {
 #endif
 
 /* The version of the interface. It grows by one with every landing that changes the interface. */
-#define ANIM_VERSION 4
+#define ANIM_VERSION 5
 
 /* Limits. */
 #define ANIM_MAX_WIDTH 1024                /* pixels */
@@ -81,13 +82,14 @@ extern "C" {
 #define ANIM_BAD_BODY 25           /* BODY too short, or a run past its row */
 #define ANIM_NO_DELTA 31           /* a later frame without ANHD or DLTA, or a first one with neither BODY nor ANHD */
 #define ANIM_SHORT_ANHD 32         /* ANHD under 40 bytes */
-#define ANIM_UNKNOWN_METHOD 33     /* a method that is neither 5 nor 7 */
+#define ANIM_UNKNOWN_METHOD 33     /* a method that is none of 2, 3, 5 and 7 */
 #define ANIM_UNKNOWN_INTERLEAVE 34 /* a later frame's interleave other than 0, 1 and 2 */
-#define ANIM_UNKNOWN_OPTIONS 35    /* option bits: any for method 5, bits 1 to 31 for method 7 */
+#define ANIM_UNKNOWN_OPTIONS 35    /* option bits: any for methods 2, 3 and 5, bits 1 to 31 for method 7 */
 #define ANIM_ODD_LONG_COLUMNS 36   /* method 7 with long data, and B isn't a multiple of 4 */
-#define ANIM_BAD_POINTER 41        /* DLTA under 64 bytes, or a pointer outside 64 to its length */
-#define ANIM_DELTA_TOO_SHORT 42    /* an op count, op, count byte or item past DLTA's end */
+#define ANIM_BAD_POINTER 41        /* DLTA under 64 bytes (methods 2 and 3: 32), or a pointer outside that to its length */
+#define ANIM_DELTA_TOO_SHORT 42    /* an op count, op, offset, count, item or word past DLTA's end */
 #define ANIM_OP_PAST_LAST_ROW 43   /* an op past the last row */
+#define ANIM_WORD_PAST_PLANE 45    /* methods 2 and 3: a move or a word beyond the plane */
 #define ANIM_NO_ROOM 51            /* a record or delta longer than its buffer */
 #define ANIM_LAST_FRAME 53         /* stepping on from frame 1000000 */
 #define ANIM_BAD_RECORD 61         /* a malformed record, bytes left over, or an old byte equal to the one it replaces */
@@ -112,7 +114,7 @@ typedef struct anim_state {
 
 /* What a step on tells of the frame it reached; it crosses as its 32 bytes, lent likewise. */
 typedef struct anim_report {
-    uint64_t method;        /* 5 or 7 */
+    uint64_t method;        /* 2, 3, 5 or 7 */
     uint64_t time;          /* ANHD's relative time, in sixtieths of a second */
     uint64_t changed;       /* how many bytes of the hidden buffer changed */
     uint64_t record_length; /* how many bytes of the record buffer are this step's record */
@@ -176,13 +178,14 @@ static inline const char *anim_refusal_text(uint64_t answer) {
     case ANIM_BAD_BODY: return "BODY is too short, or a run passes its row";
     case ANIM_NO_DELTA: return "a frame lacks ANHD or DLTA";
     case ANIM_SHORT_ANHD: return "ANHD is too short";
-    case ANIM_UNKNOWN_METHOD: return "the method is neither 5 nor 7";
+    case ANIM_UNKNOWN_METHOD: return "the method is none of 2, 3, 5 and 7";
     case ANIM_UNKNOWN_INTERLEAVE: return "the interleave is none of 0, 1 and 2";
     case ANIM_UNKNOWN_OPTIONS: return "option bits that the method doesn't have";
-    case ANIM_ODD_LONG_COLUMNS: return "long data, and a row isn't a multiple of 4 bytes";
+    case ANIM_ODD_LONG_COLUMNS: return "method 7's long data, and a row isn't a multiple of 4 bytes";
     case ANIM_BAD_POINTER: return "DLTA is too short for its pointers, or a pointer is bad";
     case ANIM_DELTA_TOO_SHORT: return "an op or its data passes DLTA's end";
     case ANIM_OP_PAST_LAST_ROW: return "an op passes the last row";
+    case ANIM_WORD_PAST_PLANE: return "a move or a word goes beyond its plane";
     case ANIM_NO_ROOM: return "the record or delta is longer than its buffer";
     case ANIM_LAST_FRAME: return "no step goes on from frame 1000000";
     case ANIM_BAD_RECORD: return "the record is malformed, or doesn't fit the shown picture";
@@ -234,8 +237,8 @@ uint64_t anim_frame_size(const uint8_t *file, size_t file_length,
  *   12  A or B isn't a frame long
  *   25  BODY is too short, or a packed run passes its row
  *   or without a BODY
- *   32, 33, 35, 36, 41, 42, 43  as anim_step_on answers them, in its order; 34 isn't asked, since the
- *       first frame's interleave isn't looked at
+ *   32, 33, 35, 36, 41, 42, 43, 45  as anim_step_on answers them, in its order; 34 isn't asked, since
+ *       the first frame's interleave isn't looked at
  *
  * Opened, A and B both hold frame 1. Refused, A and B are as they were and the state is six zeros,
  * which every other call refuses with 11.
@@ -268,17 +271,20 @@ uint64_t anim_open(const uint8_t *file, size_t file_length,
  *   21  a chunk in the frame passes it; the frame is walked whole
  *   31  the frame lacks ANHD or DLTA; the first chunk of each id counts
  *   32  ANHD is shorter than 40 bytes
- *   33  the method is neither 5 nor 7
+ *   33  the method is none of 2, 3, 5 and 7
  *   34  the interleave is none of 0, 1 and 2
  *   35  option bits that the method doesn't have
  *   36  method 7 with long data, and B isn't a multiple of 4
- *   41  DLTA is shorter than 64 bytes
+ *   41  DLTA is shorter than 64 bytes (methods 2 and 3: 32)
  *   then plane by plane
- *   41  a pointer that is read doesn't lead to 64 .. DLTA's length
- *   42, 43  the first fault of the plane's list: for each column its op count past DLTA's end (42),
- *       and for each op its first byte past DLTA's end (42), the count byte of a Same likewise (42),
- *       an end past the last row (43), items past DLTA's end (42). A Uniq or Same of none (count 0)
- *       isn't refused: it moves nothing, and the Same still takes its item
+ *   41  a pointer that is read doesn't lead to 64 (methods 2 and 3: 32) .. DLTA's length
+ *   42, 43  the first fault of a list of methods 5 and 7: for each column its op count past DLTA's
+ *       end (42), and for each op its first byte past DLTA's end (42), the count byte of a Same likewise
+ *       (42), an end past the last row (43), items past DLTA's end (42). A Uniq or Same of none (count
+ *       0) isn't refused: it moves nothing, and the Same still takes its item
+ *   42, 45  the first fault of a list of methods 2 and 3: for each op its offset past DLTA's end (42), a
+ *       move beyond the plane (45), the count of a run past DLTA's end (42), the end of the run beyond
+ *       the plane (45), words past DLTA's end (42). A run of none in the plane isn't refused
  *   51  the record is longer than its buffer
  *
  * The new frame is what its delta makes of the hidden picture (interleave 0 or 2: two frames back, for

@@ -1,17 +1,18 @@
 // The header of a frame, ANHD.
 ghost use mathlib.Core.Path.{_≡_};
-ghost use mathlib.Core.Bool.{_||_};
-ghost use lib.Dec.{eqb};
-ghost use Rattle.anhd.specs.Anhd.{interleaveOk, bitsOk, itemsOf, columnsOk, frameHeader, anhdOf};
+ghost use Rattle.anhd.specs.Anhd.{methodOk, interleaveOk, bitsOk, itemsOf, columnsOk, frameHeader, anhdOf};
 use buffer::byte;
 use buffer::number32;
 use refusal::Refusal;
 
-// The items of a delta: bytes in the op list (method 5), or words of two or four bytes in a data list (method 7).
+// The items of a delta: bytes in an op list (method 5), shorts or longs in a data list (method 7), or the words of two bytes (method 3) or
+// four (method 2) of a list of words.
 pub enum Items {
     Bytes,
     Shorts,
     Longs,
+    ShortWords,
+    LongWords,
 }
 
 // What ANHD says of a frame: the method, the time after the frame before, the interleave, and the items of its delta.
@@ -28,13 +29,16 @@ pub enum Anhd {
     Unread(Refusal),
 }
 
-fn either(x: usize, a: usize, b: usize) -> bool
-    ensures { λ r. ⌜ r ≡ (eqb x a || eqb x b) ⌝ }
+// Whether a method is read.
+fn method_ok(method: usize) -> bool
+    ensures { λ r. ⌜ r ≡ methodOk method ⌝ }
 {
-    if x == a {
-        return true;
+    match method {
+        2 => true,
+        3 => true,
+        5 => true,
+        _ => method == 7,
     }
-    x == b
 }
 
 // Whether an interleave is taken, in the first frame or a later one.
@@ -50,25 +54,29 @@ fn interleave_ok(first: bool, interleave: usize) -> bool
 fn bits_ok(method: usize, bits: usize) -> bool
     ensures { λ r. ⌜ r ≡ bitsOk method bits ⌝ }
 {
-    if method == 5 {
-        return bits == 0;
+    if method == 7 {
+        return bits / 2 == 0;
     }
-    bits / 2 == 0
+    bits == 0
 }
 
 fn items_of(method: usize, bits: usize) -> Items
     ensures { λ r. ⌜ r ≡ itemsOf method bits ⌝ }
 {
-    if method == 5 {
-        return Items::Bytes;
+    match method {
+        2 => Items::LongWords,
+        3 => Items::ShortWords,
+        5 => Items::Bytes,
+        _ => {
+            if bits % 2 == 1 {
+                return Items::Longs;
+            }
+            Items::Shorts
+        }
     }
-    if bits % 2 == 1 {
-        return Items::Longs;
-    }
-    Items::Shorts
 }
 
-// Whether rows of so many bytes, an even number, are made of whole columns of such items.
+// Whether rows of so many bytes, an even number, are made of whole columns of such items; lists of words have no columns.
 pub fn columns_ok(items: Items, row: usize) -> bool
     ensures { λ r. ⌜ r ≡ columnsOk items row ⌝ }
 {
@@ -76,6 +84,8 @@ pub fn columns_ok(items: Items, row: usize) -> bool
         Items::Bytes => true,
         Items::Shorts => true,
         Items::Longs => row % 4 == 0,
+        Items::ShortWords => true,
+        Items::LongWords => true,
     }
 }
 
@@ -87,7 +97,7 @@ pub fn read_header(first: bool, row: usize, s: &[u8]) -> Anhd
         return Anhd::Unread(Refusal::ShortAnhd);
     }
     let method = byte(s, 0);
-    if !either(method, 5, 7) {
+    if !method_ok(method) {
         return Anhd::Unread(Refusal::UnknownMethod);
     }
     let interleave = byte(s, 18);

@@ -17,7 +17,8 @@ use Rattle.player.specs.Step.{Made, settle, onHidden, stepOn}
 use Rattle.back.specs.Back.{settleBack, onShown, stepBack}
 use Rattle.words.specs.Words.{stateIn}
 use Rattle.anim.specs.Export.{SizesC, OpensC, StepsOnC, StepsBackC, rowC, WritesC, numberOr, answerNumber, sized, sizedStep, worldIn, sizesIn}
-use Rattle.answers.specs.Table.{InTable, InTable.table-value, InTable.table-refusal, size-table, opening-table, on-table, back-table, place-table, written-table}
+use Rattle.answers.specs.InTable.{InTable, InTable.table-value, InTable.table-refusal}
+use Rattle.answers.specs.Table.{size-table, opening-table, on-table, back-table, place-table, written-table}
 
 -- the answer of a call that met its contract: a case for each exported function but `anim_row_place`, which answers a place
 pub data Answers : ℕ → Type 0 where

@@ -1,2 +1,4 @@
+pub mod InTable
+pub mod DeltaTable
 pub mod Table
 pub mod Answers

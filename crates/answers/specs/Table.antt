@@ -1,16 +1,15 @@
 -- Every refusal of a definition has a number of the table.
-use Prim.Native.Nat.{ℕ, zero, suc, _+_, _-_, _*_, _/_}
-use mathlib.Core.Bool.{Bool, true, false, _&&_, _||_, not}
+use Prim.Native.Nat.{ℕ, zero, suc, _+_, _-_, _*_}
+use mathlib.Core.Bool.{Bool, true, false, _&&_, not}
 use mathlib.Core.List.{List, []}
 use mathlib.Core.Option.{Option, none, some}
-use mathlib.Core.Path.{_≡_, refl}
+use mathlib.Core.Path.{refl}
 use lib.Dec.{leb, ltb, eqb}
 use lib.ListN.{length, getD, take}
 use Rattle.laws.specs.Bytes.{be32}
-use Rattle.laws.specs.Result.{Res, Res.ok, Res.fault, _>>=_, need, orRefuse, pick}
+use Rattle.laws.specs.Result.{Res, Res.ok, Res.fault, _>>=_}
 use Rattle.laws.specs.ResultLaws.{pick-both}
 use Rattle.laws.specs.LoopLaws.{Comes, Comes.comes-next, Comes.comes-done, comes-pick, runs-holds}
-use Rattle.refusal.specs.Number.{isNumber}
 use Rattle.state.specs.declared.Sizes.{Sizes}
 use Rattle.state.specs.declared.State.{State}
 use Rattle.state.specs.State.{within, rowBytes, frameLength, stateLength}
@@ -21,11 +20,10 @@ use Rattle.form.specs.Form.{animEnd, Frame as Form, chunksOf, passOn, frameStep
 use Rattle.iff.specs.Both.{has, andHas, hasBoth}
 use Rattle.bmhd.specs.Header.{sizesAt, refusedAs, header}
 use Rattle.bmhd.specs.declared.Header.{Header}
-use Rattle.anhd.specs.Anhd.{interleaveOk, bitsOk, columnsOk, itemsOf, frameHeader}
-use Rattle.anhd.specs.declared.Items.{Items}
+use Rattle.anhd.specs.Anhd.{methodOk, interleaveOk, bitsOk, columnsOk, itemsOf, frameHeader}
 use Rattle.ilbm.specs.ByteRun.{Row, Kind, Kind.copies, Kind.nothing, Kind.repeats, kindOf, packetAs, packetAt, withPacket, unpackOn, unpackRow}
 use Rattle.ilbm.specs.Body.{rowAt, rowsFrom, body}
-use Rattle.delta.specs.Delta.{shapeOf, Reading, byteAt, skip, fill, Kind as OpKind, Kind.same, Kind.skips, Kind.uniq, kindOf as opKindOf, opAs, readOp, readOps, readColumn, readColumns, pointer, readPlane, readPlanes, readPicture, readDelta}
+use Rattle.delta.specs.Reading.{shapeOf}
 use Rattle.frame.specs.Frame.{Frame, frameIn, frameOr, frameAt}
 use Rattle.opening.specs.Open.{bodyIn, placesIn, firstPlaces, firstHeader, firstSize, firstDelta, firstPicture, firstOf, opening}
 use Rattle.record.specs.Record.{pastOf, restored}
@@ -33,27 +31,8 @@ use Rattle.player.specs.Step.{ready, change, make, advance}
 use Rattle.back.specs.Back.{retreat}
 use Rattle.shown.specs.Row.{rowPlace}
 use Rattle.writer.specs.Write.{deltaBytes, written}
-
--- a value, or a refusal with a number of the table
-pub data InTable {A : Type 0} : Res A → Type 0 where
-  table-value : {a : A} → InTable (ok a)
-  table-refusal : {n : ℕ} → isNumber n ≡ true → InTable (fault n)
-
-table-bind : {A B : Type 0} {r : Res A} {f : A → Res B} → InTable r → ((a : A) → InTable (f a)) → InTable (r >>= f)
-table-bind (table-value {a = a}) k = k a
-table-bind (table-refusal h) k = table-refusal h
-
-table-need : {B : Type 0} (t : Bool) (n : ℕ) (f : Unit {0} → Res B) → isNumber n ≡ true → InTable (f tt) → InTable (need t n >>= f)
-table-need true n f h k = k
-table-need false n f h k = table-refusal h
-
-table-test : (t : Bool) (n : ℕ) → isNumber n ≡ true → InTable (need t n)
-table-test true n h = table-value
-table-test false n h = table-refusal h
-
-table-refuse : {A : Type 0} (n : ℕ) (o : Option A) → isNumber n ≡ true → InTable (orRefuse n o)
-table-refuse n (some a) h = table-value
-table-refuse n none h = table-refusal h
+use Rattle.answers.specs.InTable.{InTable, InTable.table-value, InTable.table-refusal, table-bind, table-need, table-test, table-refuse}
+use Rattle.answers.specs.DeltaTable.{delta-table}
 
 -- chunks
 chunk-table : (s : List ℕ) (at : ℕ) → InTable (chunkAt s at)
@@ -138,7 +117,7 @@ size-table file = table-bind (places-table file) λ p. table-bind (first-header-
 anhd-table : (first : Bool) (B : ℕ) (d : List ℕ) → InTable (frameHeader first B d)
 unfolding frameHeader
 anhd-table first B d =
-    table-need (leb 40 (length d)) 32 _ refl (table-need (eqb (getD d 0 0) 5 || eqb (getD d 0 0) 7) 33 _ refl (table-need (interleaveOk first (getD d 18 0)) 34 _ refl
+    table-need (leb 40 (length d)) 32 _ refl (table-need (methodOk (getD d 0 0)) 33 _ refl (table-need (interleaveOk first (getD d 18 0)) 34 _ refl
     (table-need (bitsOk (getD d 0 0) (be32 d 20)) 35 _ refl (table-need (columnsOk (itemsOf (getD d 0 0) (be32 d 20)) B) 36 _ refl table-value))))
 
 -- a later frame
@@ -185,60 +164,12 @@ unfolding rowsFrom
 rows-table packed s B zero at = table-value
 rows-table packed s B (suc k) at = table-bind (row-table packed s B at) λ r. table-bind (rows-table packed s B k (r .next)) λ rs. table-value
 
--- a delta
-module _ (z : Sizes) (i : Items) (d : List ℕ) where
-  byte-table : (p : ℕ) → InTable (byteAt d p)
-  unfolding byteAt
-  byte-table p = table-need (ltb p (length d)) 42 _ refl table-value
-
-  fill-table : (base : ℕ) (c : Reading) (p n size step : ℕ) → InTable (fill (shapeOf z i) d base c p n size step)
-  unfolding fill
-  fill-table base c p n size step =
-      table-need (leb (c .line + n) (shapeOf z i .height)) 43 _ refl
-      (table-need (leb (pick (shapeOf z i .inline) p (c .itemAt) + size) (length d)) 42 _ refl table-value)
-
-  op-table : (base : ℕ) (c : Reading) → InTable (readOp (shapeOf z i) d base c)
-  unfolding readOp skip
-  op-table base c = table-bind (byte-table (c .opAt)) λ b. go (opKindOf b)
-    where
-      go : (k : OpKind) → InTable (opAs (shapeOf z i) d base c k)
-      go same = table-bind (byte-table (c .opAt + 1)) λ n. fill-table base c (c .opAt + 2) n (shapeOf z i .item) 0
-      go (skips n) = table-need (leb (c .line + n) (shapeOf z i .height)) 43 _ refl table-value
-      go (uniq n) = fill-table base c (c .opAt + 1) n (n * shapeOf z i .item) (shapeOf z i .item)
-
-  ops-table : (base k : ℕ) (c : Reading) → InTable (readOps (shapeOf z i) d base k c)
-  unfolding readOps
-  ops-table base zero c = table-value
-  ops-table base (suc k) c = table-bind (op-table base c) λ e. ops-table base k e
-
-  columns-table : (k base : ℕ) (c : Reading) → InTable (readColumns (shapeOf z i) d k base c)
-  unfolding readColumns readColumn
-  columns-table zero base c = table-value
-  columns-table (suc k) base c = table-bind (table-bind (byte-table (c .opAt)) λ n. ops-table base n _) λ e. columns-table k (base + shapeOf z i .item) e
-
-  pointer-table : (p : ℕ) → InTable (pointer d p)
-  unfolding pointer
-  pointer-table p = table-need (leb 64 (be32 d (4 * p))) 41 _ refl (table-need (leb (be32 d (4 * p)) (length d)) 41 _ refl table-value)
-
-  planes-table : (k p : ℕ) (c : Reading) → InTable (readPlanes (shapeOf z i) d k p c)
-  unfolding readPlanes readPlane
-  planes-table zero p c = table-value
-  planes-table (suc k) p c =
-      table-bind
-      (pick-both InTable (eqb (be32 d (4 * p)) 0) table-value
-      (table-bind (pointer-table p) λ a. table-bind (pick-both InTable (shapeOf z i .inline) table-value (pointer-table (p + 8))) λ b. columns-table (shapeOf z i .row / shapeOf z i .item) (p * (shapeOf z i .height * shapeOf z i .row)) _))
-      λ e. planes-table k (p + 1) e
-
-  delta-table : InTable (readDelta (shapeOf z i) d)
-  unfolding readDelta readPicture
-  delta-table = table-bind (table-need (leb 64 (length d)) 41 _ refl (planes-table (shapeOf z i .planes) 0 _)) λ c. table-value
-
 -- opening
 picture-table : (s : List ℕ) (t : Bool) (z : Header) → InTable (firstPicture s t z)
 unfolding firstPicture firstDelta body
 picture-table s true z = table-bind (rows-table (z .packed) (contents BODY s) (rowBytes (z .sizes .width)) (z .sizes .height * z .sizes .planes) 0) λ rs. table-value
 picture-table s false z =
-    table-bind (anhd-table true (rowBytes (z .sizes .width)) (contents ANHD s)) λ h. table-bind (delta-table (z .sizes) (h .items) (contents DLTA s)) λ ops. table-value
+    table-bind (anhd-table true (rowBytes (z .sizes .width)) (contents ANHD s)) λ h. table-bind (delta-table (shapeOf (z .sizes) (h .items)) (contents DLTA s)) λ ops. table-value
 
 pub opening-table : (file : List ℕ) (a b : ℕ) → InTable (opening file a b)
 unfolding opening firstOf
@@ -265,7 +196,7 @@ on-table file anim s shown hidden a b work =
   where
     made : (o : Option Frame) → InTable (make s shown hidden o)
     made none = table-value
-    made (some x) = table-bind (table-bind (delta-table (s .sizes) (x .header .items) (x .dlta)) λ ops. table-value) λ f. table-value
+    made (some x) = table-bind (table-bind (delta-table (shapeOf (s .sizes) (x .header .items)) (x .dlta)) λ ops. table-value) λ f. table-value
 
 -- stepping back
 pub back-table : (w : World) (bytes : List ℕ) → InTable (retreat w bytes)

@@ -14,7 +14,9 @@ use Rattle.bmhd.specs.Header.{header}
 use Rattle.ilbm.specs.ByteRun.{unpackRow, packetAt}
 use Rattle.ilbm.specs.Body.{body, rowsFrom, rowAt, place, draw as drawRows}
 use Rattle.anhd.specs.Anhd.{frameHeader}
-use Rattle.delta.specs.Delta.{byteAt, skip, fill, readOp, readOps, readColumn, readColumns, pointer, readPlane, readPlanes, readPicture, readDelta, put, draw, readFrame, newFrame}
+use Rattle.delta.specs.Reading.{byteAt}
+use Rattle.delta.specs.Column.{skip, fill, readOp, readOps, readColumn, readColumns}
+use Rattle.delta.specs.Delta.{pointer, readPlane, readPlanes, readPicture, readDelta, put, draw, readFrame, newFrame}
 use Rattle.column.specs.Column.{join, groupsOf, loose, stretch, restOf, uniqs, cut, cutAll, opsOf, columnOps, opBytes, opsBytes, columnBytes}
 use Rattle.writer.specs.Write.{columnAt, columnIn, columnsBytes, equal, planeBytes, be32Bytes, pointerOf, pointersBytes, listsBytes, deltaBytes, written}
 use Rattle.iff.specs.Both.{hasBoth}

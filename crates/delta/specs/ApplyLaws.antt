@@ -1,45 +1,85 @@
 -- Laws of applying a delta: the order of its checks, and what the two walks come to.
-use Prim.Native.Nat.{ℕ}
+use Prim.Native.Nat.{ℕ, _*_, _≤_}
+use native.Mathlib.Nat.{div-add-mod'}
 use native.Mathlib.Omega.{arith}
-use mathlib.Core.Bool.{true, false}
-use mathlib.Core.Path.{_≡_, refl, _∙_}
+use mathlib.Core.Bool.{Bool, true, false}
+use mathlib.Core.Path.{_≡_, refl, sym, _∙_}
 use mathlib.Core.List.{List, []}
 use lib.ListN.{length}
 use borrow.Author.Tests.{eq-eqb, ne-eqb}
 use Rattle.laws.specs.Result.{Res, Res.ok, Res.fault, _>>=_, orKeep}
+use Rattle.laws.specs.ResultLaws.{false-true}
 use Rattle.refusal.specs.Number.{numberOf}
 use Rattle.refusal.specs.declared.Refusal.{Refusal}
 use Rattle.state.specs.declared.Sizes.{Sizes}
 use Rattle.state.specs.State.{rowBytes, frameBytes, frameLength}
 use Rattle.state.specs.StateLaws.{Sound}
 use Rattle.anhd.specs.declared.Items.{Items}
-use Rattle.anhd.specs.declared.Items.the-variants.{Bytes, Shorts, Longs}
+use Rattle.anhd.specs.declared.Items.the-variants.{Bytes, Shorts, Longs, ShortWords, LongWords}
 use Rattle.anhd.specs.Anhd.{columnsOk}
 use Rattle.delta.specs.declared.Shape.{Shape}
 use Rattle.delta.specs.declared.Cursor.{Cursor}
 use Rattle.delta.specs.declared.Step.{Step}
 use Rattle.delta.specs.declared.Step.the-variants.{Next, Faulty}
-use Rattle.delta.specs.Delta.{Op, width, shapeOf, readPicture, readDelta, draw, readFrame, newFrame, opCount, Applies}
+use Rattle.delta.specs.Reading.{bytesInPlane, columnShape, wordShape, shapeOf, Op, opsIn}
+use Rattle.delta.specs.Delta.{readPicture, readDelta, draw, readFrame, newFrame, opCount, Applies}
 use Rattle.delta.specs.Walk.{Width, Planes, top, Took, Took.took, Took.refused, Passes, Checked, Checked.passes, Checked.stops}
 
-widths : (i : Items) → Width (width i)
-widths Bytes = record { least = omega arith; most = omega arith; not-three = λ e. omega arith }
-widths Shorts = record { least = omega arith; most = omega arith; not-three = λ e. omega arith }
-widths Longs = record { least = omega arith; most = omega arith; not-three = λ e. omega arith }
+one : Width 1
+one = record { least = omega arith; most = omega arith; not-three = λ e. omega arith }
 
--- the planes of a picture whose sizes are within the limits
+two : Width 2
+two = record { least = omega arith; most = omega arith; not-three = λ e. omega arith }
+
+four : Width 4
+four = record { least = omega arith; most = omega arith; not-three = λ e. omega arith }
+
+-- the planes of a picture whose sizes are within the limits: columns, and words
+module _ {z : Sizes} {n m : ℕ} (s : Sound z m) (h : n ≡ m) where
+  columns-sound : {w : ℕ} {inline : Bool} → Width w → Planes (columnShape z w inline) n
+  unfolding frameBytes
+  columns-sound v =
+      record {
+        width = v;
+        row-most = s .row-most;
+        height-least = λ _. s .height-least;
+        beside = λ e. false-true e;
+        fits = omega arith;
+        plane-most = s .plane-most;
+        planes-most = s .planes-most;
+        length = h ∙ s .length;
+      }
+
+  words-sound : {w : ℕ} → Width w → Planes (wordShape z w) n
+  unfolding frameBytes
+  words-sound {w} v =
+      record {
+        width = v;
+        row-most = omega (arith, v .most);
+        height-least = λ e. false-true (sym e);
+        beside = λ _. refl;
+        fits = omega (arith, div-add-mod' (z .height * rowBytes (z .width)) w);
+        plane-most = s .plane-most;
+        planes-most = s .planes-most;
+        length = h ∙ s .length;
+      }
+
+  shape-sound : (i : Items) → Planes (shapeOf z i) n
+  shape-sound Bytes = columns-sound one
+  shape-sound Shorts = columns-sound two
+  shape-sound Longs = columns-sound four
+  shape-sound ShortWords = words-sound two
+  shape-sound LongWords = words-sound four
+
+plane-bytes : (z : Sizes) (i : Items) → shapeOf z i .plane ≡ bytesInPlane z
+plane-bytes z Bytes = refl
+plane-bytes z Shorts = refl
+plane-bytes z Longs = refl
+plane-bytes z ShortWords = refl
+plane-bytes z LongWords = refl
+
 pub planes-sound : {S : Shape} {z : Sizes} {n m : ℕ} (i : Items) → S ≡ shapeOf z i → Sound z m → n ≡ m → Planes S n
-unfolding frameBytes
-planes-sound {S} {z} {n} {m} i e s h =
-    rw e
-    (record {
-      width = widths i;
-      row-most = s .row-most;
-      height-least = s .height-least;
-      plane-most = s .plane-most;
-      planes-most = s .planes-most;
-      length = h ∙ s .length;
-    })
+planes-sound i e s h = rw e (shape-sound s h i)
 
 -- the checks of the sizes and the two buffers
 module _ (z : Sizes) (i : Items) (d : List ℕ) (m n : ℕ) where
@@ -68,7 +108,7 @@ module _ {z : Sizes} {i : Items} {d f w : List ℕ} where
   unfolding opCount newFrame
   applies-fault e = record { counts = rw e; leaves = rw e }
 
-  applies-ok : {ops : List Op} → readFrame z i d (length f) (length w) ≡ ok ops → Applies z i d f w (ok (length ops)) (draw (shapeOf z i) d ops f)
+  applies-ok : {ops : List Op} → readFrame z i d (length f) (length w) ≡ ok ops → Applies z i d f w (ok (opsIn (shapeOf z i) ops)) (draw (shapeOf z i) d ops f)
   unfolding opCount newFrame
   applies-ok e = record { counts = rw e; leaves = rw e }
 
@@ -82,7 +122,7 @@ module _ {z : Sizes} {i : Items} {d w : List ℕ} {m : ℕ} where
   unfolding readDelta
   check-walked e r s p (took {c = c} t) =
       let q : readDelta (shapeOf z i) d ≡ ok (t .new) = rw (← e) (rw (t .same []) refl) in
-      passes {c = c} (record { ops = t .new; read = q; frame = r ∙ q; counted = omega (arith, t .counted); same = s; planes = p; kept = t .drawn })
+      passes {c = c} (record { ops = t .new; read = q; frame = r ∙ q; counted = rw (← e) (omega (arith, t .counted)); same = s; planes = p; kept = t .drawn })
   check-walked e r s p (refused {why = why} u) = stops {why = why} (r ∙ rw (← e) (rw (u .same []) refl)) (u .kept refl)
 
   check-next : {g : List ℕ} {b : Step} {c : Cursor} → Checked z i d m w g b → b ≡ Next c → Passes z i d m w g c
@@ -92,6 +132,10 @@ module _ {z : Sizes} {i : Items} {d w : List ℕ} {m : ℕ} where
   check-faulty : {g : List ℕ} {b : Step} {why : Refusal} → Checked z i d m w g b → b ≡ Faulty why → (readFrame z i d m (length w) ≡ fault (numberOf why)) × (g ≡ w)
   check-faulty (passes p) e = let z : _≡_ {A = ℕ} 0 1 = cc in absurd (omega arith)
   check-faulty {why = why} (stops {why = x} r q) e = let u : x ≡ why = cc in (rw u at r, q)
+
+-- a plane is small enough for its shape to be told
+pub plane-for : {z : Sizes} {i : Items} {d w g : List ℕ} {m : ℕ} {b : Step} {c : Cursor} → Checked z i d m w g b → b ≡ Next c → bytesInPlane z ≤ 131072
+plane-for {z} {i} t h = rw (← plane-bytes z i) (check-next t h .planes .plane-most)
 
 -- the frame that is then drawn into has the work buffer's length
 pub planes-for : {S : Shape} {z : Sizes} {i : Items} {d w g : List ℕ} {m n : ℕ} {b : Step} {c : Cursor} → Checked z i d m w g b → b ≡ Next c → S ≡ shapeOf z i → n ≡ length g → Planes S n
@@ -127,7 +171,7 @@ module _ {z : Sizes} {i : Items} {d f w g : List ℕ} where
   unfolding opCount newFrame
   new-refused {n} p = go (readFrame z i d (length f) (length w)) (p .counts)
     where
-      go : (r : Res (List Op)) → fault n ≡ (r >>= λ ops. ok (length ops)) → (r >>= λ ops. ok (draw (shapeOf z i) d ops f)) ≡ fault n
+      go : (r : Res (List Op)) → fault n ≡ (r >>= λ ops. ok (opsIn (shapeOf z i) ops)) → (r >>= λ ops. ok (draw (shapeOf z i) d ops f)) ≡ fault n
       go (ok ops) e = let q : _≡_ {A = ℕ} 0 1 = cc in absurd (omega arith)
       go (fault m) e = let q : m ≡ n = cc in rw q
 
@@ -135,6 +179,6 @@ module _ {z : Sizes} {i : Items} {d f w g : List ℕ} where
   unfolding opCount newFrame
   new-drawn {c} p = go (readFrame z i d (length f) (length w)) (p .counts) (p .leaves)
     where
-      go : (r : Res (List Op)) → ok c ≡ (r >>= λ ops. ok (length ops)) → g ≡ orKeep w (r >>= λ ops. ok (draw (shapeOf z i) d ops f)) → (r >>= λ ops. ok (draw (shapeOf z i) d ops f)) ≡ ok g
+      go : (r : Res (List Op)) → ok c ≡ (r >>= λ ops. ok (opsIn (shapeOf z i) ops)) → g ≡ orKeep w (r >>= λ ops. ok (draw (shapeOf z i) d ops f)) → (r >>= λ ops. ok (draw (shapeOf z i) d ops f)) ≡ ok g
       go (ok ops) e h = rw h
       go (fault m) e h = let q : _≡_ {A = ℕ} 0 1 = cc in absurd (omega arith)

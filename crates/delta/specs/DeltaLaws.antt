@@ -2,21 +2,24 @@
 use Prim.Native.Nat.{ℕ, zero, suc, _+_, _-_, _*_, _/_, _<_, _≤_}
 use native.Mathlib.Numerals.{add-one}
 use native.Mathlib.Omega.{arith}
-use mathlib.Core.Bool.{Bool, true, false}
+use mathlib.Core.Bool.{true, false}
 use mathlib.Core.Path.{_≡_, refl, sym, ap, _∙_}
 use mathlib.Core.List.{List, [], _∷_, _++_}
 use lib.Dec.{leb}
 use lib.ListN.{length, getD, set, take, drop, length-drop}
 use lib.Seq.{drop-cons, drop-drop, take-add, length-take-le, sets, length-sets}
 use Rattle.laws.specs.Result.{Res, Res.ok, Res.fault, _>>=_, answer}
-use Rattle.laws.specs.ResultLaws.{Each, Each.each, Each.no-value, each-need}
+use Rattle.laws.specs.ResultLaws.{Each, Each.each, Each.no-value, each-need, each-pick}
 use Rattle.laws.specs.Bytes.{be32}
 use Rattle.laws.specs.Store.{sets-append}
 use borrow.Author.Tests.{lt-ltb, le-ltb, le-leb, lt-leb, ne-eqb, leb-true}
 use Rattle.state.specs.declared.Sizes.{Sizes}
 use Rattle.anhd.specs.declared.Items.{Items}
 use Rattle.delta.specs.declared.Shape.{Shape}
-use Rattle.delta.specs.Delta.{Op, Reading, byteAt, fill, Kind, Kind.same, Kind.skips, Kind.uniq, kindOf, opAs, pointer, dataPointer, readPicture, readOp, readOps, readColumn, readColumns, readPlane, readPlanes, put, draw, readFrame, newFrame, opCount, shapeOf}
+use Rattle.delta.specs.Reading.{shapeOf, Op, opsIn, Reading, byteAt}
+use Rattle.delta.specs.Column.{fill, Kind, Kind.same, Kind.skips, Kind.uniq, kindOf, opAs, readOp, readOps, readColumn, readColumns}
+use Rattle.delta.specs.Words.{readWords}
+use Rattle.delta.specs.Delta.{pointer, dataPointer, planeList, readPlane, readPlanes, readPicture, put, draw, readFrame, newFrame, opCount}
 
 -- an item of one byte more
 store : (w : ℕ) (f : List ℕ) (at : ℕ) (d : List ℕ) (from : ℕ) → from < length d → sets f at (take (suc w) (drop from d)) ≡ sets (set f at (getD d from 0)) (suc at) (take w (drop (suc from) d))
@@ -34,36 +37,45 @@ item-four f at d from w e h =
     let l : length (take 2 (drop from d)) ≡ 2 = length-take-le 2 (drop from d) (omega (arith, length-drop from d)) in
     rw (e, take-add 2 2 (drop from d), drop-drop 2 from d) (rw l at (sets-append f at (take 2 (drop from d)) (take 2 (drop (from + 2) d))))
 
--- rows that are being given items: what is left makes of the frame f what all of it makes of f₀
-pub record Putting (w stride step : ℕ) (d : List ℕ) (count from place : ℕ) (f₀ f : List ℕ) (i : ℕ) : Type 0 where
-  pub bound : i ≤ count
+-- rows that are being given items, the next one at a place: what is left makes of the frame f what all of it makes of f₀
+pub record Putting (w stride step : ℕ) (d : List ℕ) (count from place : ℕ) (f₀ f : List ℕ) (at item left : ℕ) : Type 0 where
+  pub bound : left ≤ count
+  pub there : at ≡ place + (count - left) * stride
+  pub stands : item ≡ from + (count - left) * step
   pub long : length f ≡ length f₀
-  pub same : put w stride step d (count - i) (from + i * step) (place + i * stride) f ≡ put w stride step d count from place f₀
+  pub same : put w stride step d left item at f ≡ put w stride step d count from place f₀
 
 module _ {w stride step : ℕ} {d : List ℕ} {count from place : ℕ} {f₀ : List ℕ} where
-  pub putting-starts : Putting w stride step d count from place f₀ f₀ 0
-  putting-starts =
-      let a : count - 0 ≡ count = omega arith in
-      let b : from + 0 * step ≡ from = omega arith in
-      let p : place + 0 * stride ≡ place = omega arith in
-      record { bound = omega arith; long = refl; same = simp (a, b, p) }
+  pub putting-starts : Putting w stride step d count from place f₀ f₀ place from count
+  putting-starts = let z : count - count ≡ 0 = omega arith in record { bound = omega arith; there = rw z (omega arith); stands = rw z (omega arith); long = refl; same = refl }
 
-  pub putting-more : {f : List ℕ} {i : ℕ} → Putting w stride step d count from place f₀ f i → i < count → {g : List ℕ} → g ≡ sets f (place + i * stride) (take w (drop (from + i * step) d))
-      → Putting w stride step d count from place f₀ g (i + 1)
+  pub putting-more : {f : List ℕ} {at item left : ℕ} → Putting w stride step d count from place f₀ f at item left → 0 < left → {g : List ℕ} → g ≡ sets f at (take w (drop item d))
+      → Putting w stride step d count from place f₀ g (at + stride) (item + step) (left - 1)
   unfolding put
-  putting-more {f} {i} v h {g} e =
-      let a : count - i ≡ suc (count - (i + 1)) = omega arith in
-      let b : from + (i + 1) * step ≡ from + i * step + step = omega arith in
-      let p : place + (i + 1) * stride ≡ place + i * stride + stride = omega arith in
+  putting-more {f} {at} {item} {left} v h {g} e =
+      let a : left ≡ suc (left - 1) = omega arith in
+      let b : count - (left - 1) ≡ count - left + 1 = omega (arith, v .bound) in
       record {
-        bound = omega arith;
-        long = ap length e ∙ length-sets f (place + i * stride) (take w (drop (from + i * step) d)) ∙ v .long;
-        same = rw (b, p, e) (rw a at (v .same));
+        bound = omega (arith, v .bound);
+        there = rw b (omega (arith, v .there));
+        stands = rw b (omega (arith, v .stands));
+        long = ap length e ∙ length-sets f at (take w (drop item d)) ∙ v .long;
+        same = rw e (rw a at (v .same));
       }
 
-  pub putting-ends : {f : List ℕ} {i : ℕ} → Putting w stride step d count from place f₀ f i → count ≤ i → f ≡ put w stride step d count from place f₀
+  pub putting-ends : {f : List ℕ} {at item left : ℕ} → Putting w stride step d count from place f₀ f at item left → left ≤ 0 → f ≡ put w stride step d count from place f₀
   unfolding put
-  putting-ends {f} {i} v h = let a : count - i ≡ 0 = omega arith in rw a at (v .same)
+  putting-ends {f} {at} {item} {left} v h = let a : left ≡ 0 = omega arith in rw a at (v .same)
+
+-- items that lie one after the other in the delta and in the frame
+pub put-beside : (w : ℕ) (d : List ℕ) (n from at : ℕ) (f : List ℕ) → from + n * w ≤ length d → put w w w d n from at f ≡ sets f at (take (n * w) (drop from d))
+unfolding put
+put-beside w d zero from at f h = let z : zero * w ≡ 0 = omega arith in rw z refl
+put-beside w d (suc n) from at f h =
+    let l : length (take w (drop from d)) ≡ w = length-take-le w (drop from d) (omega (arith, length-drop from d)) in
+    let z : suc n * w ≡ w + n * w = omega arith in
+    put-beside w d n (from + w) (at + w) (sets f at (take w (drop from d))) (omega arith)
+    ∙ rw (z, take-add w (n * w) (drop from d), drop-drop w from d) (rw l at (sets-append f at (take w (drop from d)) (take (n * w) (drop (from + w) d))))
 
 -- ops drawn one after another
 pub draw-append : (S : Shape) (d : List ℕ) (xs ys : List Op) (f : List ℕ) → draw S d (xs ++ ys) f ≡ draw S d ys (draw S d xs f)
@@ -97,7 +109,7 @@ pub same-answer : (z : Sizes) (i : Items) (d f : List ℕ) (n : ℕ) → answer 
 unfolding opCount newFrame
 same-answer z i d f n = go (readFrame z i d (length f) n)
   where
-    go : (r : Res (List Op)) → answer (r >>= λ ops. ok (length ops)) ≡ answer (r >>= λ ops. ok (draw (shapeOf z i) d ops f))
+    go : (r : Res (List Op)) → answer (r >>= λ ops. ok (opsIn (shapeOf z i) ops)) ≡ answer (r >>= λ ops. ok (draw (shapeOf z i) d ops f))
     go (ok ops) = refl
     go (fault m) = refl
 
@@ -145,27 +157,34 @@ module _ (S : Shape) (d : List ℕ) (p : ℕ) (c : Reading) where
   unfolding readPlane
   plane-same e = simp e
 
-  pub plane-bad : (be32 d (4 * p) ≡ 0 → ⊥) → {n : ℕ} → pointer d p ≡ fault n → readPlane S d p c ≡ fault n
-  unfolding readPlane
-  plane-bad h e = simp (ne-eqb (be32 d (4 * p)) 0 h, e)
+  module _ (h : be32 d (4 * p) ≡ 0 → ⊥) where
+    pub plane-bad : {n : ℕ} → pointer d (S .pointers) p ≡ fault n → readPlane S d p c ≡ fault n
+    unfolding readPlane
+    plane-bad e = simp (ne-eqb (be32 d (4 * p)) 0 h, e)
 
-  pub plane-bad-data : (be32 d (4 * p) ≡ 0 → ⊥) → {a n : ℕ} → pointer d p ≡ ok a → dataPointer (S .inline) d p ≡ fault n → readPlane S d p c ≡ fault n
-  unfolding readPlane
-  plane-bad-data h e k = simp (ne-eqb (be32 d (4 * p)) 0 h, e, k)
+    pub plane-bad-data : {a n : ℕ} → pointer d (S .pointers) p ≡ ok a → dataPointer d S p ≡ fault n → readPlane S d p c ≡ fault n
+    unfolding readPlane
+    plane-bad-data e k = simp (ne-eqb (be32 d (4 * p)) 0 h, e, k)
 
-  pub plane-columns : (be32 d (4 * p) ≡ 0 → ⊥) → {a b : ℕ} → pointer d p ≡ ok a → dataPointer (S .inline) d p ≡ ok b
-      → readPlane S d p c ≡ readColumns S d (S .row / S .item) (p * (S .height * S .row)) (record { opAt = a; itemAt = b; line = 0; ops = c .ops })
-  unfolding readPlane
-  plane-columns h e k = simp (ne-eqb (be32 d (4 * p)) 0 h, e, k)
+    plane-list : {a b : ℕ} → pointer d (S .pointers) p ≡ ok a → dataPointer d S p ≡ ok b → readPlane S d p c ≡ planeList S d (p * S .plane) (record { opAt = a; itemAt = b; line = 0; ops = c .ops })
+    unfolding readPlane
+    plane-list e k = rw (ne-eqb (be32 d (4 * p)) 0 h, e, k) refl
+
+    pub plane-columns : {a b : ℕ} → pointer d (S .pointers) p ≡ ok a → dataPointer d S p ≡ ok b → S .words ≡ false
+        → readPlane S d p c ≡ readColumns S d (S .row / S .item) (p * S .plane) (record { opAt = a; itemAt = b; line = 0; ops = c .ops })
+    plane-columns e k w = plane-list e k ∙ rw w
+
+    pub plane-words : {a b : ℕ} → pointer d (S .pointers) p ≡ ok a → dataPointer d S p ≡ ok b → S .words ≡ true
+        → readPlane S d p c ≡ readWords S d (p * S .plane) (record { opAt = a; itemAt = b; line = 0; ops = c .ops })
+    plane-words e k w = plane-list e k ∙ rw w
 
 -- a pointer leads into the delta
-pub pointer-most : (d : List ℕ) (i : ℕ) → Each (λ (a : ℕ). a ≤ length d) (pointer d i)
+pub pointer-most : (d : List ℕ) (pointers i : ℕ) → Each (λ (a : ℕ). a ≤ length d) (pointer d pointers i)
 unfolding pointer
-pointer-most d i = each-need (leb 64 (be32 d (4 * i))) 41 _ λ _. each-need (leb (be32 d (4 * i)) (length d)) 41 _ λ h. each (leb-true (be32 d (4 * i)) (length d) h)
+pointer-most d pointers i = each-need (leb pointers (be32 d (4 * i))) 41 _ λ _. each-need (leb (be32 d (4 * i)) (length d)) 41 _ λ h. each (leb-true (be32 d (4 * i)) (length d) h)
 
-pub data-pointer-most : (t : Bool) (d : List ℕ) (p : ℕ) → Each (λ (a : ℕ). a ≤ length d) (dataPointer t d p)
-data-pointer-most true d p = each {a = 0} (omega arith)
-data-pointer-most false d p = pointer-most d (p + 8)
+pub data-pointer-most : (d : List ℕ) (S : Shape) (p : ℕ) → Each (λ (a : ℕ). a ≤ length d) (dataPointer d S p)
+data-pointer-most d S p = each-pick (S .inline) (λ _. each {a = 0} (omega arith)) (λ _. pointer-most d (S .pointers) (p + 8))
 
 -- one op, column or plane more, and none
 pub ops-more : (S : Shape) (d : List ℕ) (base k : ℕ) → 0 < k → (c : Reading) → readOps S d base k c ≡ readOp S d base c >>= readOps S d base (k - 1)
@@ -193,10 +212,10 @@ unfolding readPlanes
 planes-none S d m p h c = let e : m - p ≡ 0 = omega arith in ap (λ (n : ℕ). readPlanes S d n p c) e
 
 -- the whole delta
-pub picture-short : (S : Shape) (d : List ℕ) (c : Reading) → length d < 64 → readPicture S d c ≡ fault 41
+pub picture-short : (S : Shape) (d : List ℕ) (c : Reading) → length d < S .pointers → readPicture S d c ≡ fault 41
 unfolding readPicture
 picture-short S d c h = simp (lt-leb _ _ h)
 
-pub picture-planes : (S : Shape) (d : List ℕ) (c : Reading) → 64 ≤ length d → readPicture S d c ≡ readPlanes S d (S .planes - 0) 0 c
+pub picture-planes : (S : Shape) (d : List ℕ) (c : Reading) → S .pointers ≤ length d → readPicture S d c ≡ readPlanes S d (S .planes - 0) 0 c
 unfolding readPicture
 picture-planes S d c h = let e : S .planes ≡ S .planes - 0 = omega arith in simp (le-leb _ _ h) (ap (λ (n : ℕ). readPlanes S d n 0 c) e)

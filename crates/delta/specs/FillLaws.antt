@@ -12,25 +12,35 @@ use Rattle.delta.specs.declared.Shape.{Shape}
 use Rattle.delta.specs.declared.Cursor.{Cursor}
 use Rattle.delta.specs.declared.Taken.{Taken}
 use Rattle.delta.specs.declared.Taken.the-variants.{Rows, Passed, Faulty as NotTaken}
-use Rattle.delta.specs.Delta.{Op, Reading, noRows, skip, fill, put, draw}
-use Rattle.delta.specs.Walk.{Inside, Column, Columns, Planes, filled, Skipped, Skipped.skipped, Skipped.past-last, reading, RowsRead, PassRead, OpRead, Walked}
+use Rattle.delta.specs.Reading.{Op, Reading}
+use Rattle.delta.specs.Column.{noRows, skip, fill}
+use Rattle.delta.specs.Delta.{put, draw}
+use Rattle.delta.specs.declared.Step.{Step}
+use Rattle.delta.specs.Walk.{Inside, ItemsIn, Down, Column, Columns, Planes, filled, Skipped, Skipped.skipped, Skipped.past-last, reading, RowsRead, OpRead, Lies, Drawn, Took, Took.took, Took.refused}
 use Rattle.delta.specs.WalkLaws.{pick-same}
 
 -- rows from a line on
-pub rows-inside : {n base row w height : ℕ} → Inside n base row w height → (line count : ℕ) → line + count ≤ height → Inside n (base + line * row) row w count
-rows-inside {n} {base} {row} {w} {height} v line count h = record { lies = λ k l. omega (arith, v .lies (line + k) (omega arith)) }
+pub rows-inside : {S : Shape} {n base : ℕ} → Column S n base → (line count : ℕ) → line + count ≤ S .height → Down S n (base + line * S .row) count
+rows-inside {S} v line count h = record { rows = record { lies = λ k l. omega (arith, v .rows .lies (line + k) (omega arith)) }; below = omega (arith, v .below, mul-le-mul-right (S .row) h) }
 
 -- the place of a row, and of the one below the last, fits into a usize
 pub place-fits : {S : Shape} {n base line : ℕ} → Column S n base → line ≤ S .height → base + line * S .row ≤ 18446744073709551615
 place-fits {S} v h = omega (arith, v .below, mul-le-mul-right (S .row) h)
 
 -- items from a place on
-items-inside : {size step w count : ℕ} → Inside size 0 step w count → (n from : ℕ) → from + size ≤ n → Inside n from step w count
-items-inside v n from h = record { lies = λ k l. omega (arith, v .lies k l) }
+pub items-inside : {size step w count : ℕ} → ItemsIn size 0 step w count → (n from : ℕ) → from + size ≤ n → ItemsIn n from step w count
+items-inside v n from h = record { inside = record { lies = λ k l. omega (arith, v .inside .lies k l) }; step-most = v .step-most }
 
 -- one item for each row
-pub uniq-inside : (w count : ℕ) → Inside (count * w) 0 w w count
-uniq-inside w count = record { lies = λ k l. omega (arith, mul-le-mul-right w l) }
+pub uniq-inside : (w count : ℕ) → ItemsIn (count * w) 0 w w count
+uniq-inside w count = record { inside = record { lies = λ k l. omega (arith, mul-le-mul-right w l) }; step-most = omega arith }
+
+-- items one after the other
+pub run-inside : {n start step w count : ℕ} → Inside n start step w count → step ≡ w → 1 < count → start + count * w ≤ n
+run-inside {n} {start} {step} {w} {count} v e h =
+    let k : count ≡ count - 1 + 1 = omega arith in
+    let l = v .lies (count - 1) (omega arith) in
+    rw k (omega (arith, rw e at l))
 
 -- columns one after another
 pub columns-first : {S : Shape} {n base k : ℕ} → Columns S n base k → 0 < k → Column S n base
@@ -42,27 +52,28 @@ columns-next v h = record {
 }
 
 -- the columns of a plane
-pub plane-inside : {S : Shape} {n : ℕ} → Planes S n → (p : ℕ) → p < S .planes → Columns S n (p * (S .height * S .row)) (S .row / S .item)
+pub plane-inside : {S : Shape} {n : ℕ} → Planes S n → (p : ℕ) → p < S .planes → Columns S n (p * S .plane) (S .row / S .item)
 plane-inside {S} {n} v p h =
     record {
       column = λ j b. record {
         rows = record {
           lies = λ i l.
-              omega (arith, v .length, mul-le-mul-right (S .item) b, div-add-mod' (S .row) (S .item), mul-le-mul-right (S .row) l, mul-le-mul-right (S .height * S .row) h);
+              omega (arith, v .length, v .fits, mul-le-mul-right (S .item) b, div-add-mod' (S .row) (S .item), mul-le-mul-right (S .row) l, mul-le-mul-right (S .plane) h);
         };
-        below = omega (arith, v .row-most, v .plane-most, mul-le-mul-right (S .item) b, div-add-mod' (S .row) (S .item), mul-le-mul-right (S .height * S .row) h, mul-le-mul-right (S .height * S .row) (v .planes-most));
+        below = omega (arith, v .row-most, v .plane-most, v .fits, mul-le-mul-right (S .item) b, div-add-mod' (S .row) (S .item), mul-le-mul-right (S .plane) h, mul-le-mul-right (S .plane) (v .planes-most));
       };
+    }
+
+-- the words of a plane
+pub words-inside : {S : Shape} {n : ℕ} → Planes S n → S .words ≡ true → (p : ℕ) → p < S .planes → Column S n (p * S .plane)
+words-inside {S} {n} v e p h =
+    record {
+      rows = record { lies = λ i l. omega (arith, v .length, v .beside e, v .fits, mul-le-mul-right (S .row) l, mul-le-mul-right (S .plane) h) };
+      below = omega (arith, v .plane-most, v .fits, mul-le-mul-right (S .plane) h, mul-le-mul-right (S .plane) (v .planes-most));
     }
 
 pub columns-most : {S : Shape} {n : ℕ} → Planes S n → S .row / S .item ≤ 128
 columns-most {S} v = omega (arith, v .row-most, div-add-mod' (S .row) (S .item), mul-le-mul-left (S .row / S .item) (v .width .least))
-
--- the same op by another name of its definition
-pub read-as : (S : Shape) (d : List ℕ) (whole whole′ : ℕ → Reading → Res Reading) (c : Cursor) (r : Taken) → OpRead S d whole′ c r
-    → ((base : ℕ) (ops : List Op) → whole base (reading c ops) ≡ whole′ base (reading c ops)) → OpRead S d whole c r
-read-as S d whole whole′ c (Rows from step n next) w e = record { same = λ base ops. e base ops ∙ w .same base ops; rows = w .rows; items = w .items; moved = w .moved }
-read-as S d whole whole′ c (Passed next) w e = record { same = λ base ops. e base ops ∙ w .same base ops; moved = w .moved }
-read-as S d whole whole′ c (NotTaken why) w e = λ base ops. e base ops ∙ w base ops
 
 -- a Skip
 skip-past : (S : Shape) (c : Reading) (n : ℕ) → S .height < c .line + n → skip S c n ≡ fault 43
@@ -73,7 +84,7 @@ skip-down : (S : Shape) (c : Reading) (n : ℕ) → c .line + n ≤ S .height �
 unfolding skip
 skip-down S c n h = simp (le-leb _ _ h)
 
-pub skip-read : {S : Shape} {c : Cursor} {n : ℕ} {r : Taken} → Skipped S c n r → (d : List ℕ) → c .item ≤ length d → OpRead S d (λ base x. skip S x n) c r
+pub skip-read : {S : Shape} {c : Cursor} {n : ℕ} {r : Taken} → Skipped S c n r → (d : List ℕ) → c .item ≤ length d → OpRead S d 1 (λ base x. skip S x n) c r
 skip-read {S} {c} {n} (skipped h) d i = record { same = λ base ops. skip-down S (reading c ops) n h; moved = record { counted = refl; line = h; item = i } }
 skip-read {S} {c} {n} (past-last h) d i = λ base ops. skip-past S (reading c ops) n h
 
@@ -96,8 +107,8 @@ module _ (S : Shape) (d : List ℕ) (c : Cursor) (p n size step : ℕ) where
     unfolding fill
     fill-short k base ops = simp (le-leb _ _ l, lt-leb _ _ (rw e at k))
 
-    pub fill-read : c .item ≤ length d → from + size ≤ length d → Inside size 0 step (S .item) n → {c′ : Cursor} → c′ ≡ filled S c p n size
-        → RowsRead S d (λ base x. fill S d base x p n size step) c from step n c′
+    pub fill-read : c .item ≤ length d → from + size ≤ length d → ItemsIn size 0 step (S .item) n → {c′ : Cursor} → c′ ≡ filled S c p n size
+        → RowsRead S d 1 (λ base x. fill S d base x p n size step) c (c .line) from step n c′
     unfolding fill
     fill-read i k v q =
         rw (q, e)
@@ -108,21 +119,44 @@ module _ (S : Shape) (d : List ℕ) (c : Cursor) (p n size step : ℕ) where
           moved = record { counted = refl; line = l; item = item-most (S .inline) p (c .item) size (length d) i (rw e at k) };
         })
 
--- an op that was read, drawn where that is asked for
-module _ {S : Shape} {d : List ℕ} {whole : ℕ → Reading → Res Reading} {c next : Cursor} (drawing : Bool) (f : List ℕ) (base : ℕ) where
-  pub rows-walked : {from step n : ℕ} {g : List ℕ} → RowsRead S d whole c from step n next → g ≡ pick drawing (put (S .item) (S .row) step d n from (base + c .line * S .row) f) f
-      → Walked S d drawing f (whole base) c ok g 1 next
-  unfolding draw
-  rows-walked w e = record {
-    new = record { place = base + c .line * S .row; count = _; from = _; step = _ } ∷ [];
-    same = w .same base;
-    drawn = e;
-    counted = w .moved .counted;
-    few = omega arith;
-    line = w .moved .line;
-    item = w .moved .item;
-  }
+-- an op that was read, which counts as k
+module _ (S : Shape) (d : List ℕ) (k : ℕ) (whole : ℕ → Reading → Res Reading) (c : Cursor) where
+  -- the same op by another name of its definition
+  pub read-as : (whole′ : ℕ → Reading → Res Reading) (t : Taken) → OpRead S d k whole′ c t → ((base : ℕ) (ops : List Op) → whole base (reading c ops) ≡ whole′ base (reading c ops)) → OpRead S d k whole c t
+  read-as whole′ (Rows line from step n next) w e = record { same = λ base ops. e base ops ∙ w .same base ops; rows = w .rows; items = w .items; moved = w .moved }
+  read-as whole′ (Passed next) w e = record { same = λ base ops. e base ops ∙ w .same base ops; moved = w .moved }
+  read-as whole′ (NotTaken why) w e = λ base ops. e base ops ∙ w base ops
 
-  pub pass-walked : PassRead S d whole c next → Walked S d drawing f (whole base) c ok f 1 next
+  -- its rows lie in its column, and its items in the delta
+  pub op-lies : (t : Taken) → OpRead S d k whole c t → Lies S d t
+  op-lies (Rows line from step n next) w = (w .rows, w .items)
+  op-lies (Passed next) w = tt
+  op-lies (NotTaken why) w = tt
+
+  -- drawn where that is asked for
+  pub op-walked : k ≡ pick (S .words) 0 1 → (drawing : Bool) (f : List ℕ) (base : ℕ) {g : List ℕ} (t : Taken) {r : Step} → OpRead S d k whole c t → Drawn S d drawing f base t g r
+      → Took S d drawing f (whole base) c g k r
   unfolding draw put
-  pass-walked w = record { new = noRows ∷ []; same = w .same base; drawn = pick-same drawing f; counted = w .moved .counted; few = omega arith; line = w .moved .line; item = w .moved .item }
+  op-walked e drawing f base (Rows line from step n next) w (p, q) =
+      rw p
+      (took {c = next} (record {
+        new = record { place = base + line * S .row; count = n; from = from; step = step } ∷ [];
+        same = w .same base;
+        drawn = q;
+        counted = omega (arith, w .moved .counted, e);
+        few = omega (arith, e);
+        line = w .moved .line;
+        item = w .moved .item;
+      }))
+  op-walked e drawing f base (Passed next) w (p, q) =
+      rw p
+      (took {c = next} (record {
+        new = noRows ∷ [];
+        same = w .same base;
+        drawn = q ∙ pick-same drawing f;
+        counted = omega (arith, w .moved .counted, e);
+        few = omega (arith, e);
+        line = w .moved .line;
+        item = w .moved .item;
+      }))
+  op-walked e drawing f base (NotTaken why) w (p, q) = rw p (refused {why = why} (record { same = w base; kept = λ _. q }))

@@ -1,7 +1,11 @@
+pub mod Reading
+pub mod Column
+pub mod Words
 pub mod Delta
 pub mod DeltaLaws
 pub mod Walk
 pub mod WalkLaws
 pub mod FillLaws
+pub mod WordLaws
 pub mod ApplyLaws
 pub mod NoneLaws

@@ -10,7 +10,9 @@ use lib.ListN.{length}
 use borrow.Author.Tests.{le-leb, lt-leb}
 use Rattle.laws.specs.Result.{Res.ok, Res.fault, pick}
 use Rattle.laws.specs.ResultLaws.{Each, Each.each, each-any, each-map, each-need}
-use Rattle.delta.specs.Delta.{Op, noRows, Reading, byteAt, skip, fill, Kind, Kind.same, Kind.skips, Kind.uniq, opAs, put, draw}
+use Rattle.delta.specs.Reading.{Op, Reading, byteAt}
+use Rattle.delta.specs.Column.{noRows, skip, fill, Kind, Kind.same, Kind.skips, Kind.uniq, opAs}
+use Rattle.delta.specs.Delta.{put, draw}
 use Rattle.delta.specs.declared.Shape.{Shape}
 
 -- an op with size bytes of items for n rows was read; its own bytes end at p

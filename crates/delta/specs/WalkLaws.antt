@@ -12,13 +12,23 @@ use Rattle.delta.specs.declared.Shape.{Shape}
 use Rattle.delta.specs.declared.Cursor.{Cursor}
 use Rattle.delta.specs.declared.Step.{Step}
 use Rattle.delta.specs.declared.Step.the-variants.{Next, Faulty}
-use Rattle.delta.specs.Delta.{Op, Reading, draw}
+use Rattle.delta.specs.Reading.{Op, Reading}
+use Rattle.delta.specs.Delta.{draw}
 use Rattle.delta.specs.DeltaLaws.{draw-append}
 use Rattle.delta.specs.Walk.{reading, Walked, Refused, Took, Took.took, Took.refused}
 
 pub pick-same : (t : Bool) (f : List ℕ) → f ≡ pick t f f
 pick-same true f = refl
 pick-same false f = refl
+
+-- how many ops there are
+in-none : (t : Bool) → pick t 0 (length {A = Op} []) ≡ 0
+in-none true = refl
+in-none false = refl
+
+in-more : (t : Bool) (xs ys : List Op) → pick t 0 (length (xs ++ ys)) ≡ pick t 0 (length xs) + pick t 0 (length ys)
+in-more true xs ys = refl
+in-more false xs ys = length-append xs ys
 
 -- what is drawn after what was drawn
 pick-more : (S : Shape) (d : List ℕ) (t : Bool) (xs ys : List Op) (f g h : List ℕ) → g ≡ pick t (draw S d xs f) f → h ≡ pick t (draw S d ys g) g → h ≡ pick t (draw S d (xs ++ ys) f) f
@@ -34,8 +44,8 @@ module _ {S : Shape} {d : List ℕ} {drawing : Bool} {f : List ℕ} {whole : Rea
     new = [];
     same = λ ops. e ops ∙ rw (append-nil ops);
     drawn = pick-same drawing f;
-    counted = omega (arith, o);
-    few = omega arith;
+    counted = omega (arith, o, in-none (S .words));
+    few = omega (arith, in-none (S .words));
     line = l;
     item = i;
   }
@@ -43,13 +53,13 @@ module _ {S : Shape} {d : List ℕ} {drawing : Bool} {f : List ℕ} {whole : Rea
   -- a step more
   pub walked-more : {rest : Reading → Res Reading} {g : List ℕ} {m : ℕ} {c : Cursor} → Walked S d drawing f whole c₀ rest g m c
       → {step rest′ : Reading → Res Reading} {h : List ℕ} {k : ℕ} {c′ : Cursor} → Walked S d drawing g step c ok h k c′
-      → ((x : Reading) → rest x ≡ step x >>= rest′) → {m′ : ℕ} → m + k ≤ m′ → Walked S d drawing f whole c₀ rest′ h m′ c′
+      → ((ops : List Op) → rest (reading c ops) ≡ step (reading c ops) >>= rest′) → {m′ : ℕ} → m + k ≤ m′ → Walked S d drawing f whole c₀ rest′ h m′ c′
   walked-more {rest} {g} {m} {c} w {step} {rest′} {h} {k} {c′} t e {m′} b = record {
     new = w .new ++ t .new;
-    same = λ ops. w .same ops ∙ e (reading c (ops ++ w .new)) ∙ rw (t .same (ops ++ w .new), append-assoc ops (w .new) (t .new));
+    same = λ ops. w .same ops ∙ e (ops ++ w .new) ∙ rw (t .same (ops ++ w .new), append-assoc ops (w .new) (t .new));
     drawn = pick-more S d drawing (w .new) (t .new) f g h (w .drawn) (t .drawn);
-    counted = omega (arith, w .counted, t .counted, length-append (w .new) (t .new));
-    few = omega (arith, w .few, t .few, length-append (w .new) (t .new));
+    counted = omega (arith, w .counted, t .counted, in-more (S .words) (w .new) (t .new));
+    few = omega (arith, w .few, t .few, in-more (S .words) (w .new) (t .new));
     line = t .line;
     item = t .item;
   }
@@ -57,16 +67,21 @@ module _ {S : Shape} {d : List ℕ} {drawing : Bool} {f : List ℕ} {whole : Rea
   -- a step that is refused
   pub walked-refused : {rest : Reading → Res Reading} {g : List ℕ} {m : ℕ} {c : Cursor} → Walked S d drawing f whole c₀ rest g m c
       → {step : Reading → Res Reading} {h : List ℕ} {n : ℕ} → Refused drawing g step c h n
-      → (rest′ : Reading → Res Reading) → ((x : Reading) → rest x ≡ step x >>= rest′) → Refused drawing f whole c₀ h n
+      → (rest′ : Reading → Res Reading) → ((ops : List Op) → rest (reading c ops) ≡ step (reading c ops) >>= rest′) → Refused drawing f whole c₀ h n
   walked-refused {rest} {g} {m} {c} w {step} {h} {n} t rest′ e = record {
-    same = λ ops. w .same ops ∙ e (reading c (ops ++ w .new)) ∙ rw (t .same (ops ++ w .new));
+    same = λ ops. w .same ops ∙ e (ops ++ w .new) ∙ rw (t .same (ops ++ w .new));
     kept = λ b. t .kept b ∙ w .drawn ∙ rw b;
   }
 
+  -- what is left is refused
+  pub walked-fault : {rest : Reading → Res Reading} {g : List ℕ} {m : ℕ} {c : Cursor} → Walked S d drawing f whole c₀ rest g m c → {n : ℕ} → ((ops : List Op) → rest (reading c ops) ≡ fault n)
+      → Refused drawing f whole c₀ g n
+  walked-fault w e = record { same = λ ops. w .same ops ∙ e (ops ++ w .new); kept = λ b. w .drawn ∙ rw b }
+
   -- nothing is left
-  pub walked-all : {rest : Reading → Res Reading} {g : List ℕ} {m : ℕ} {c : Cursor} → Walked S d drawing f whole c₀ rest g m c → ((x : Reading) → rest x ≡ ok x) → {m′ : ℕ} → m ≤ m′
+  pub walked-all : {rest : Reading → Res Reading} {g : List ℕ} {m : ℕ} {c : Cursor} → Walked S d drawing f whole c₀ rest g m c → ((ops : List Op) → rest (reading c ops) ≡ ok (reading c ops)) → {m′ : ℕ} → m ≤ m′
       → Walked S d drawing f whole c₀ ok g m′ c
-  walked-all {c = c} w e b = record { new = w .new; same = λ ops. w .same ops ∙ e (reading c (ops ++ w .new)); drawn = w .drawn; counted = w .counted; few = omega (arith, w .few); line = w .line; item = w .item }
+  walked-all {c = c} w e b = record { new = w .new; same = λ ops. w .same ops ∙ e (ops ++ w .new); drawn = w .drawn; counted = w .counted; few = omega (arith, w .few); line = w .line; item = w .item }
 
   -- what an answer says, by its case
   pub took-next : {g : List ℕ} {m : ℕ} {r : Step} {c : Cursor} → Took S d drawing f whole c₀ g m r → r ≡ Next c → Walked S d drawing f whole c₀ ok g m c

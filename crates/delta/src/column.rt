@@ -1,69 +1,16 @@
 // One column of a delta: an op count byte and that many ops, read and, where that is asked for, drawn.
 ghost use mathlib.Core.Path.{_≡_};
 ghost use Prim.Native.Nat.{_+_, _<_, _≤_};
-ghost use lib.ListN.{length, take, drop};
-ghost use lib.Seq.{sets};
+ghost use lib.ListN.{length};
 ghost use Rattle.laws.specs.Result.{pick};
-ghost use Rattle.delta.specs.Delta.{fill, Kind.same, Kind.uniq, opAs, readOp, readOps, readColumn, put};
-ghost use Rattle.delta.specs.Walk.{Width, Inside, Column, Stands, Fits, filled, Skipped, OpRead, Took};
+ghost use Rattle.delta.specs.Column.{fill, Kind.same, Kind.uniq, opAs, readOp, readOps, readColumn};
+ghost use Rattle.delta.specs.Walk.{Vertical, Width, Column, Stands, Fits, filled, ItemsIn, Skipped, OpRead, Took};
 use crate::Cursor;
 use crate::Shape;
 use crate::Step;
 use crate::Taken;
+use crate::rows::draw_taken;
 use refusal::Refusal;
-
-// Puts two bytes at a place of the frame.
-fn put_pair(frame: &mut [u8], at: usize, d: &[u8], from: usize)
-    requires { ⌜ (at + 2 ≤ length (now frame)) × (from + 2 ≤ length (now d)) ⌝ }
-    ensures { λ _. ⌜ now (frame .exit) ≡ sets (now (frame .entry)) at (take 2 (drop from (now (d .entry)))) ⌝ }
-{
-    let a = d[from];
-    let b = d[from + 1];
-    frame[at] = a;
-    frame[at + 1] = b;
-}
-
-// Puts one item of one, two or four bytes at a place of the frame.
-fn put_item(frame: &mut [u8], at: usize, d: &[u8], from: usize, item: usize)
-    requires { ⌜ (at + item ≤ length (now frame)) × (from + item ≤ length (now d)) × Width item ⌝ }
-    ensures { λ _. ⌜ now (frame .exit) ≡ sets (now (frame .entry)) at (take item (drop from (now (d .entry)))) ⌝ }
-{
-    if item == 1 {
-        frame[at] = d[from];
-        return;
-    }
-    put_pair(frame, at, d, from);
-    if item == 2 {
-        return;
-    }
-    put_pair(frame, at + 2, d, from + 2);
-}
-
-// Puts items, step bytes apart in the delta, into count rows from a place of the frame on, where that is asked for.
-fn draw_rows(
-    frame: &mut [u8],
-    place: usize,
-    d: &[u8],
-    from: usize,
-    step: usize,
-    count: usize,
-    shape: Shape,
-    drawing: bool,
-)
-    requires { ⌜ Width (shape .item) × Inside (length (now frame)) place (shape .row) (shape .item) count × Inside (length (now d)) from step (shape .item) count ⌝ }
-    ensures { λ _. ⌜ now (frame .exit) ≡ pick drawing (put (shape .item) (shape .row) step (now (d .entry)) count from place (now (frame .entry))) (now (frame .entry)) ⌝ }
-{
-    if !drawing {
-        return;
-    }
-    let item = shape.item;
-    let row = shape.row;
-    let mut i = 0;
-    while i < count {
-        put_item(frame, place + i * row, d, from + i * step, item);
-        i += 1;
-    }
-}
 
 fn pick(test: bool, a: usize, b: usize) -> usize
     ensures { λ r. ⌜ r ≡ pick test a b ⌝ }
@@ -104,8 +51,8 @@ fn take_fill(
     size: usize,
     step: usize,
 ) -> Taken
-    requires { ⌜ Stands shape (now d) c 1 × (next ≤ length (now d)) × Inside size 0 step (shape .item) count ⌝ }
-    ensures { λ r. ⌜ OpRead shape (now (d .entry)) (λ base x. fill shape (now (d .entry)) base x next count size step) c r ⌝ }
+    requires { ⌜ Stands shape (now d) c 1 × (next ≤ length (now d)) × ItemsIn size 0 step (shape .item) count ⌝ }
+    ensures { λ r. ⌜ OpRead shape (now (d .entry)) 1 (λ base x. fill shape (now (d .entry)) base x next count size step) c r ⌝ }
 {
     if shape.height - c.line < count {
         return Taken::Faulty(Refusal::OpPastLastRow);
@@ -116,6 +63,7 @@ fn take_fill(
     }
     let next = after_fill(shape, c, next, count, size);
     Taken::Rows {
+        line: c.line,
         from,
         step,
         count,
@@ -142,7 +90,7 @@ fn take_skip(shape: Shape, c: Cursor, rows: usize) -> Taken
 // Reads the Same at the cursor: a count byte, then one item.
 fn take_same(d: &[u8], shape: Shape, c: Cursor) -> Taken
     requires { ⌜ Stands shape (now d) c 1 × (c .op < length (now d)) ⌝ }
-    ensures { λ r. ⌜ OpRead shape (now (d .entry)) (λ base x. opAs shape (now (d .entry)) base x same) c r ⌝ }
+    ensures { λ r. ⌜ OpRead shape (now (d .entry)) 1 (λ base x. opAs shape (now (d .entry)) base x same) c r ⌝ }
 {
     let op = c.op;
     if d.len() - op < 2 {
@@ -155,7 +103,7 @@ fn take_same(d: &[u8], shape: Shape, c: Cursor) -> Taken
 // Reads the Uniq of count rows at the cursor.
 fn take_uniq(d: &[u8], shape: Shape, c: Cursor, count: usize) -> Taken
     requires { ⌜ Width (shape .item) × Stands shape (now d) c 1 × (c .op < length (now d)) × (count ≤ 127) ⌝ }
-    ensures { λ r. ⌜ OpRead shape (now (d .entry)) (λ base x. opAs shape (now (d .entry)) base x (uniq count)) c r ⌝ }
+    ensures { λ r. ⌜ OpRead shape (now (d .entry)) 1 (λ base x. opAs shape (now (d .entry)) base x (uniq count)) c r ⌝ }
 {
     let item = shape.item;
     take_fill(d, shape, c, c.op + 1, count, count * item, item)
@@ -164,7 +112,7 @@ fn take_uniq(d: &[u8], shape: Shape, c: Cursor, count: usize) -> Taken
 // Reads the op at the cursor.
 fn take_op(d: &[u8], shape: Shape, c: Cursor) -> Taken
     requires { ⌜ Width (shape .item) × Stands shape (now d) c 1 ⌝ }
-    ensures { λ r. ⌜ OpRead shape (now (d .entry)) (readOp shape (now (d .entry))) c r ⌝ }
+    ensures { λ r. ⌜ OpRead shape (now (d .entry)) 1 (readOp shape (now (d .entry))) c r ⌝ }
 {
     let op = c.op;
     if d.len() <= op {
@@ -178,28 +126,6 @@ fn take_op(d: &[u8], shape: Shape, c: Cursor) -> Taken
     }
 }
 
-// Takes the op at the cursor, in the column that starts at base, and draws it where that is asked for.
-fn draw_op(frame: &mut [u8], d: &[u8], shape: Shape, base: usize, c: Cursor, drawing: bool) -> Step
-    requires { ⌜ Width (shape .item) × Column shape (length (now frame)) base × Stands shape (now d) c 1 ⌝ }
-    ensures { λ r. ⌜ Took shape (now (d .entry)) drawing (now (frame .entry)) (readOp shape (now (d .entry)) base) c (now (frame .exit)) 1 r ⌝ }
-{
-    let t = take_op(d, shape, c);
-    match t {
-        Taken::Faulty(why) => Step::Faulty(why),
-        Taken::Passed(next) => Step::Next(next),
-        Taken::Rows {
-            from,
-            step,
-            count,
-            next,
-        } => {
-            let place = base + c.line * shape.row;
-            draw_rows(frame, place, d, from, step, count, shape, drawing);
-            Step::Next(next)
-        }
-    }
-}
-
 // Takes count ops of the column that starts at base.
 fn take_ops(
     frame: &mut [u8],
@@ -210,13 +136,14 @@ fn take_ops(
     c: Cursor,
     drawing: bool,
 ) -> Step
-    requires { ⌜ Width (shape .item) × Column shape (length (now frame)) base × Stands shape (now d) c count ⌝ }
+    requires { ⌜ Vertical shape × Column shape (length (now frame)) base × Stands shape (now d) c count ⌝ }
     ensures { λ r. ⌜ Took shape (now (d .entry)) drawing (now (frame .entry)) (readOps shape (now (d .entry)) base count) c (now (frame .exit)) count r ⌝ }
 {
     let mut at = c;
     let mut left = count;
     while 0 < left {
-        let t = draw_op(frame, d, shape, base, at, drawing);
+        let op = take_op(d, shape, at);
+        let t = draw_taken(frame, d, shape, base, op, drawing);
         match t {
             Step::Faulty(why) => return Step::Faulty(why),
             Step::Next(next) => at = next,
@@ -235,7 +162,7 @@ pub(crate) fn take_column(
     c: Cursor,
     drawing: bool,
 ) -> Step
-    requires { ⌜ Width (shape .item) × Column shape (length (now frame)) base × Stands shape (now d) c 255 ⌝ }
+    requires { ⌜ Vertical shape × Column shape (length (now frame)) base × Stands shape (now d) c 255 ⌝ }
     ensures { λ r. ⌜ Took shape (now (d .entry)) drawing (now (frame .entry)) (readColumn shape (now (d .entry)) base) c (now (frame .exit)) 255 r ⌝ }
 {
     let op = c.op;

@@ -1,11 +1,15 @@
-// The delta of a frame, DLTA of method 5 or 7: checked whole, then drawn.
+// The delta of a frame, DLTA of method 2, 3, 5 or 7: checked whole, then drawn.
 ghost use mathlib.Core.Path.{_≡_};
 ghost use Prim.Native.Nat.{_*_, _<_, _≤_};
 ghost use lib.ListN.{length, replicate};
-ghost use Rattle.delta.specs.Delta.{shapeOf, readColumns, pointer, dataPointer, readPlane, readPicture, Applies, appliedOf};
-ghost use Rattle.delta.specs.Walk.{pointerOf, Width, Columns, Planes, Stands, top, Took, Checked};
+ghost use Rattle.delta.specs.Reading.{bytesInPlane, columnShape, wordShape, shapeOf};
+ghost use Rattle.delta.specs.Column.{readColumns};
+ghost use Rattle.delta.specs.Delta.{pointer, dataPointer, readPlane, readPicture, Applies, appliedOf};
+ghost use Rattle.delta.specs.Walk.{pointerOf, Vertical, Columns, Planes, Stands, top, Took, Checked};
 
 mod column;
+mod rows;
+mod words;
 
 use anhd::Items;
 use buffer::copy;
@@ -15,23 +19,28 @@ use column::take_column;
 use refusal::Refusal;
 use state::Length;
 use state::Sizes;
+use words::take_words;
 
-// Whether a delta was drawn, and how many ops it has.
+// Whether a delta was drawn, and how many ops its columns have; of lists of words none are counted.
 pub enum Applied {
     Drawn { ops: usize },
     Refused(Refusal),
 }
 
-// What a delta is read by: the item's bytes, whether items stand in the op list, bytes per row, height and planes.
+// What a delta is read by: the bytes of an item or word, whether items stand in the op list, whether the lists are lists of words, bytes
+// per row, height, planes, bytes per plane, and the bytes of the pointers before the lists. For words a row is one word.
 pub struct Shape {
     pub item: usize,
     pub inline: bool,
+    pub words: bool,
     pub row: usize,
     pub height: usize,
     pub planes: usize,
+    pub plane: usize,
+    pub pointers: usize,
 }
 
-// Where reading stands: the place in the op list, the place in the data list, the row, and the number of ops so far.
+// Where reading stands: the place in the list, the place in the data list, the row, and the number of ops counted so far.
 struct Cursor {
     op: usize,
     item: usize,
@@ -45,9 +54,10 @@ enum Step {
     Faulty(Refusal),
 }
 
-// What an op does: count rows get items from a place of the delta on, step bytes apart; or it only goes down.
+// What an op does: count rows, the first of which is line, get items from a place of the delta on, step bytes apart; or it only goes down.
 enum Taken {
     Rows {
+        line: usize,
         from: usize,
         step: usize,
         count: usize,
@@ -63,34 +73,54 @@ enum Pointer {
     Bad,
 }
 
-fn shape_of(sizes: Sizes, items: Items) -> Shape
-    ensures { λ r. ⌜ r ≡ shapeOf sizes items ⌝ }
+// The shape of columns of items.
+fn column_shape(sizes: Sizes, item: usize, inline: bool) -> Shape
+    requires { ⌜ bytesInPlane sizes ≤ 131072 ⌝ }
+    ensures { λ r. ⌜ r ≡ columnShape sizes item inline ⌝ }
 {
     let row = sizes.row_bytes();
     let height = sizes.height;
-    let planes = sizes.planes;
+    Shape {
+        item,
+        inline,
+        words: false,
+        row,
+        height,
+        planes: sizes.planes,
+        plane: height * row,
+        pointers: 64,
+    }
+}
+
+// The shape of lists of words.
+fn word_shape(sizes: Sizes, word: usize) -> Shape
+    requires { ⌜ (bytesInPlane sizes ≤ 131072) × (0 < word) ⌝ }
+    ensures { λ r. ⌜ r ≡ wordShape sizes word ⌝ }
+{
+    let plane = sizes.height * sizes.row_bytes();
+    let height = plane / word;
+    Shape {
+        item: word,
+        inline: true,
+        words: true,
+        row: word,
+        height,
+        planes: sizes.planes,
+        plane,
+        pointers: 32,
+    }
+}
+
+fn shape_of(sizes: Sizes, items: Items) -> Shape
+    requires { ⌜ bytesInPlane sizes ≤ 131072 ⌝ }
+    ensures { λ r. ⌜ r ≡ shapeOf sizes items ⌝ }
+{
     match items {
-        Items::Bytes => Shape {
-            item: 1,
-            inline: true,
-            row,
-            height,
-            planes,
-        },
-        Items::Shorts => Shape {
-            item: 2,
-            inline: false,
-            row,
-            height,
-            planes,
-        },
-        Items::Longs => Shape {
-            item: 4,
-            inline: false,
-            row,
-            height,
-            planes,
-        },
+        Items::Bytes => column_shape(sizes, 1, true),
+        Items::Shorts => column_shape(sizes, 2, false),
+        Items::Longs => column_shape(sizes, 4, false),
+        Items::ShortWords => word_shape(sizes, 2),
+        Items::LongWords => word_shape(sizes, 4),
     }
 }
 
@@ -104,7 +134,7 @@ fn take_columns(
     c: Cursor,
     drawing: bool,
 ) -> Step
-    requires { ⌜ Width (shape .item) × (1 ≤ shape .height) × Columns shape (length (now frame)) base count × Stands shape (now d) c (255 * count) ⌝ }
+    requires { ⌜ Vertical shape × (1 ≤ shape .height) × Columns shape (length (now frame)) base count × Stands shape (now d) c (255 * count) ⌝ }
     ensures { λ r. ⌜ Took shape (now (d .entry)) drawing (now (frame .entry)) (readColumns shape (now (d .entry)) count base) c (now (frame .exit)) (255 * count) r ⌝ }
 {
     let item = shape.item;
@@ -123,13 +153,13 @@ fn take_columns(
     Step::Next(at)
 }
 
-// The place that pointer i leads to.
-fn list_pointer(d: &[u8], i: usize) -> Pointer
+// The place that pointer i leads to, behind so many bytes of pointers.
+fn list_pointer(d: &[u8], pointers: usize, i: usize) -> Pointer
     requires { ⌜ i < 16 ⌝ }
-    ensures { λ r. ⌜ pointerOf r ≡ pointer (now (d .entry)) i ⌝ }
+    ensures { λ r. ⌜ pointerOf r ≡ pointer (now (d .entry)) pointers i ⌝ }
 {
     let at = number32(d, 4 * i);
-    if at < 64 {
+    if at < pointers {
         return Pointer::Bad;
     }
     if d.len() < at {
@@ -139,17 +169,17 @@ fn list_pointer(d: &[u8], i: usize) -> Pointer
 }
 
 // The place where the items of a plane start.
-fn data_pointer(d: &[u8], inline: bool, plane: usize) -> Pointer
+fn data_pointer(d: &[u8], shape: Shape, plane: usize) -> Pointer
     requires { ⌜ plane < 8 ⌝ }
-    ensures { λ r. ⌜ pointerOf r ≡ dataPointer inline (now (d .entry)) plane ⌝ }
+    ensures { λ r. ⌜ pointerOf r ≡ dataPointer (now (d .entry)) shape plane ⌝ }
 {
-    if inline {
+    if shape.inline {
         return Pointer::At(0);
     }
-    list_pointer(d, plane + 8)
+    list_pointer(d, shape.pointers, plane + 8)
 }
 
-// Takes a plane: its pointers, then its columns.
+// Takes a plane: its pointers, then its list of words or its columns.
 fn take_plane(
     frame: &mut [u8],
     d: &[u8],
@@ -164,11 +194,11 @@ fn take_plane(
     if number32(d, 4 * plane) == 0 {
         return Step::Next(c);
     }
-    let list = list_pointer(d, plane);
+    let list = list_pointer(d, shape.pointers, plane);
     match list {
         Pointer::Bad => Step::Faulty(Refusal::BadPointer),
         Pointer::At(op) => {
-            let items = data_pointer(d, shape.inline, plane);
+            let items = data_pointer(d, shape, plane);
             match items {
                 Pointer::Bad => Step::Faulty(Refusal::BadPointer),
                 Pointer::At(item) => {
@@ -178,7 +208,10 @@ fn take_plane(
                         line: 0,
                         ops: c.ops,
                     };
-                    let base = plane * (shape.height * shape.row);
+                    let base = plane * shape.plane;
+                    if shape.words {
+                        return take_words(frame, d, shape, base, top, drawing);
+                    }
                     take_columns(frame, d, shape, shape.row / shape.item, base, top, drawing)
                 }
             }
@@ -197,7 +230,7 @@ fn take_delta(frame: &mut [u8], d: &[u8], shape: Shape, drawing: bool) -> Step
         line: 0,
         ops: 0,
     };
-    if d.len() < 64 {
+    if d.len() < shape.pointers {
         return Step::Faulty(Refusal::BadPointer);
     }
     let mut plane = 0;

@@ -9,7 +9,7 @@ use buffer::number16;
 use delta::Applied;
 use state::Sizes;
 
-// B and the contents of an ANHD: the method, the time, the interleave, and the bytes of an item.
+// B and the contents of an ANHD: the method, the time, the interleave, and the bytes of an item, 16 more for a word.
 fn header(d: &[u8], first: bool) {
     let h = anhd::read_header(first, byte(d, 0), part(d, 1, d.len()));
     match h {
@@ -22,6 +22,8 @@ fn header(d: &[u8], first: bool) {
                 Items::Bytes => show::number(1),
                 Items::Shorts => show::number(2),
                 Items::Longs => show::number(4),
+                Items::ShortWords => show::number(18),
+                Items::LongWords => show::number(20),
             }
         }
         Anhd::Unread(why) => show::refused(why),
@@ -38,10 +40,13 @@ pub(crate) fn head(d: &[u8]) {
     header(d, true);
 }
 
+// The items of so many bytes, or words where it is 16 more.
 fn items_of(width: usize) -> Items {
     match width {
         1 => Items::Bytes,
         2 => Items::Shorts,
+        18 => Items::ShortWords,
+        20 => Items::LongWords,
         _ => Items::Longs,
     }
 }
@@ -63,7 +68,8 @@ fn sizes_of(d: &[u8]) -> Sizes {
     }
 }
 
-// The bytes of an item, the width, the height and a DLTA of one plane: what it makes of four zeros, in a work buffer of bytes 07.
+// The bytes of an item, 16 more for a word, the width, the height and a DLTA of one plane: what it makes of four zeros, in a work buffer of
+// bytes 07.
 pub(crate) fn delta(d: &[u8], out: &mut [u8]) {
     let work = front(out, 4);
     let dlta = part(d, 5, d.len());

@@ -1,16 +1,17 @@
--- Laws of chunks: a whole chunk lies within its parent, and so does what a search finds.
+-- Laws of chunks: a whole chunk lies within its parent, and so does what a search finds; chunks of two ids don't overlap.
 use Prim.Native.Nat.{ℕ, _+_, _-_, _<_, _≤_}
 use native.Mathlib.Omega.{arith}
-use mathlib.Core.Path.{_≡_}
+use mathlib.Core.Bool.{Bool, true, false}
+use mathlib.Core.Path.{_≡_, refl, sym, _∙_}
 use mathlib.Core.List.{List}
 use mathlib.Core.Option.{Option, none, some}
 use lib.Dec.{leb, eqb}
 use lib.ListN.{length, length-take, length-drop}
-use borrow.Author.Tests.{leb-true}
-use Rattle.laws.specs.Result.{Res, Res.ok, Res.fault}
+use borrow.Author.Tests.{leb-true, eqb-true}
+use Rattle.laws.specs.Result.{Res, Res.ok, Res.fault, pick}
 use Rattle.laws.specs.ResultLaws.{Each, Each.each, Each.no-value, each-need, each-ok, each-pick, All, All.all-some, All.all-none, all-value, each-some}
 use Rattle.laws.specs.Loop.{Step.next}
-use Rattle.laws.specs.LoopLaws.{Comes, Comes.comes-next, Comes.comes-done, runs-holds}
+use Rattle.laws.specs.LoopLaws.{Going, starts, turns, stops, Comes, Comes.comes-next, Comes.comes-done, runs-holds}
 use Rattle.laws.specs.Bytes.{be32}
 use Rattle.iff.specs.Chunk.{Chunk, padded, chunkAt, Part, partOf, Walk, orPart, walkOn, walkStep, find, bytesOf, contents}
 
@@ -60,6 +61,65 @@ contents-found id s p e = rw e
 pub contents-length : (id : ℕ) (s : List ℕ) (p : Part) → find id s ≡ ok (some p) → length (contents id s) ≡ p .size
 contents-length id s p e = let l : Lies s p = each-some e (find-lies id s) in rw (contents-found id s p e) (simp (length-take, length-drop) (omega arith))
 
--- and a chunk that a parent has leaves room for its header
-pub contents-room : (id : ℕ) (s : List ℕ) (p : Part) → find id s ≡ ok (some p) → length (contents id s) + 8 ≤ length s
-contents-room id s p e = let l : Lies s p = each-some e (find-lies id s) in omega (arith, contents-length id s p e, l .starts, l .ends)
+-- the bytes of a chunk that was found, with its header
+abbrev taken : Res (Option Part) → ℕ
+taken (ok (some p)) = p .size + 8
+taken (ok none) = 0
+taken (fault n) = 0
+
+taken-most : {s : List ℕ} (r : Res (Option Part)) → Each (All (Lies s)) r → taken r ≤ length s
+taken-most (ok (some p)) (each (all-some l)) = omega (arith, l .starts, l .ends)
+taken-most (ok none) h = omega arith
+taken-most (fault n) h = omega arith
+
+taken-or : (r : Res (Option Part)) (p : Part) → taken (orPart r p) ≤ taken r + (p .size + 8)
+taken-or (ok (some q)) p = omega arith
+taken-or (ok none) p = omega arith
+taken-or (fault n) p = omega arith
+
+-- two searches of a parent for different ids, side by side: what they have found doesn't overlap
+module _ (x y : ℕ) (differ : x ≡ y → ⊥) (s : List ℕ) where
+  record Beside (w : Walk) : Type 0 where
+    other : Walk
+    going : Going (walkStep y s) (λ (v : Walk). length s - v .at) (fault 21) (find y s) other
+    same : other .at ≡ w .at
+    inside : w .at ≤ length s
+    room : taken (w .answer) + taken (other .answer) ≤ w .at
+
+  abbrev Fits : Res (Option Part) → Type 0
+  Fits r = taken r + taken (find y s) ≤ length s
+
+  beside-on : (w : Walk) → Beside w → (r : Res (Option Chunk)) → chunkAt s (w .at) ≡ r → Each (All (Within s (w .at))) r → Comes Beside Fits (walkOn x w r)
+  beside-on w b (ok none) e h =
+      let q : b .other .answer ≡ find y s = stops (b .going) (rw (b .same, e) refl) in
+      comes-done {o = w .answer} (rw (← q) (omega (arith, b .room, b .inside)))
+  beside-on w b (fault n) e h =
+      let q : fault n ≡ find y s = stops (b .going) (rw (b .same, e) refl) in
+      comes-done {o = fault n} (rw (← q) (omega arith))
+  beside-on w b (ok (some c)) e h =
+      let k : Within s (w .at) c = all-value (each-ok h) in
+      comes-next (record {
+        other = record { at = c .next; answer = pick (eqb (c .id) y) (orPart (b .other .answer) (partOf c)) (b .other .answer) };
+        going = turns (b .going) (rw (b .same, e) refl) (omega (arith, b .same, k .rises, k .ends));
+        same = refl;
+        inside = k .ends;
+        room = go (eqb (c .id) x) refl (eqb (c .id) y) refl k;
+      })
+    where
+      go : (t : Bool) → eqb (c .id) x ≡ t → (u : Bool) → eqb (c .id) y ≡ u → Within s (w .at) c
+          → taken (pick t (orPart (w .answer) (partOf c)) (w .answer)) + taken (pick u (orPart (b .other .answer) (partOf c)) (b .other .answer)) ≤ c .next
+      go true p true q k = absurd (differ (sym (eqb-true (c .id) x p) ∙ eqb-true (c .id) y q))
+      go true p false q k = omega (arith, taken-or (w .answer) (partOf c), b .room, k .starts, k .holds)
+      go false p true q k = omega (arith, taken-or (b .other .answer) (partOf c), b .room, k .starts, k .holds)
+      go false p false q k = omega (arith, b .room, k .rises)
+
+  both-fit : Fits (find x s)
+  unfolding find
+  both-fit =
+      runs-holds (walkStep x s) (λ w. length s - w .at) (fault 21) Beside Fits (omega (arith, taken-most (find y s) (find-lies y s)))
+      (λ w b. beside-on w b (chunkAt s (w .at)) refl (chunk-within s (w .at))) (record { at = 0; answer = ok none })
+      (record { other = record { at = 0; answer = ok none }; going = starts refl; same = refl; inside = omega arith; room = omega arith })
+
+  -- so two chunks that a parent has leave room for their headers
+  pub contents-room : (p q : Part) → find x s ≡ ok (some p) → find y s ≡ ok (some q) → length (contents x s) + 8 + (length (contents y s) + 8) ≤ length s
+  contents-room p q e f = omega (arith, contents-length x s p e, contents-length y s q f, rw (e, f) at both-fit)

@@ -1,6 +1,7 @@
 -- Laws of `runs`: what a loop's proof cites where it begins, at each turn and where it returns; and what a theorem cites.
 use Prim.Native.Nat.{ℕ, zero, suc, _<_}
 use native.Mathlib.Nat.{not-suc-le-zero, le-of-suc-le-suc, le-trans, le-refl}
+use native.Mathlib.Omega.{arith}
 use mathlib.Core.Path.{_≡_, refl, sym, _∙_}
 use mathlib.Core.Bool.{Bool, true, false}
 use Rattle.laws.specs.Result.{pick}
@@ -60,3 +61,24 @@ module _ {S O : Type 0} (f : S → Step S O) (left : S → ℕ) (late : O) (P : 
   pub runs-holds : (s : S) → P s → Q (runs f left late s)
   unfolding runs
   runs-holds s p = run-holds (suc (left s)) s p
+
+-- what a step that goes on comes to
+comes-at : {S O : Type 0} {P : S → Type 0} {Q : O → Type 0} {x : Step S O} {t : S} → Comes P Q x → x ≡ next t → P t
+comes-at {P = P} {t = t} (comes-next {t = u} p) e = let q : u ≡ t = cc in rw q at p
+comes-at (comes-done q) e = let z : _≡_ {A = ℕ} 0 1 = cc in absurd (omega arith)
+
+-- where `left` falls with each turn, turns to spare change nothing: the answer is that from the next state on
+module _ {S O : Type 0} (f : S → Step S O) (left : S → ℕ) (late : O) (falls : (s : S) → Comes (λ (t : S). left t < left s) (λ (o : O). Unit {0}) (f s)) where
+  to-spare : (n m : ℕ) (s : S) → left s < n → left s < m → run f late n s ≡ run f late m s
+  to-spare zero m s h k = absurd (not-suc-le-zero h)
+  to-spare (suc n) zero s h k = absurd (not-suc-le-zero k)
+  to-spare (suc n) (suc m) s h k = go (f s) refl (falls s) (λ t l u. to-spare n m t l u)
+    where
+      go : (x : Step S O) → f s ≡ x → Comes (λ (t : S). left t < left s) (λ (o : O). Unit {0}) x → ((t : S) → left t < n → left t < m → run f late n t ≡ run f late m t)
+          → run f late (suc n) s ≡ run f late (suc m) s
+      go (next t) e (comes-next q) ih = run-next f late n s t e ∙ ih t (le-trans q (le-of-suc-le-suc h)) (le-trans q (le-of-suc-le-suc k)) ∙ sym (run-next f late m s t e)
+      go (done o) e q ih = run-done f late n s o e ∙ sym (run-done f late m s o e)
+
+  pub runs-next : {s t : S} → f s ≡ next t → runs f left late s ≡ runs f left late t
+  unfolding runs
+  runs-next {s} {t} e = run-next f late (left s) s t e ∙ to-spare (left s) (suc (left t)) t (comes-at (falls s) e) (le-refl (suc (left t)))

@@ -1,4 +1,4 @@
-// Lists the outside vectors, data/001.anim to data/124.anim, each under its name.
+// Lists the outside vectors, data/001.anim to data/146.anim, each under its name.
 use listing::list;
 
 // Lists one file.
@@ -39,7 +39,7 @@ fn open(number: u8) {
 
 fn main() {
     let mut number = 1;
-    while number < 125 {
+    while number < 147 {
         open(number);
         number += 1;
     }

@@ -27,7 +27,9 @@ use Rattle.anhd.specs.Anhd.{frameHeader}
 use Rattle.anhd.specs.AnhdLaws.{header-read}
 use Rattle.anhd.specs.declared.FrameHeader.{FrameHeader}
 use Rattle.anhd.specs.declared.Items.{Items}
-use Rattle.delta.specs.Delta.{shapeOf, readPicture, readDelta}
+use Rattle.anhd.specs.declared.Items.the-variants.{Bytes as ItemBytes, Shorts, Longs, ShortWords, LongWords}
+use Rattle.delta.specs.Reading.{shapeOf}
+use Rattle.delta.specs.Delta.{readPicture, readDelta}
 use Rattle.frame.specs.Frame.{Frame, frameIn, frameOr, frameAt}
 use Rattle.state.specs.Outcome.{Report}
 use Rattle.lines.specs.Lines.{decimal, frameLine, refusedLine, endLine, pictureLine}
@@ -45,12 +47,20 @@ decimal-length (suc k) n h = go (decLt n 10) (decimal-length k (n / 10) (tenth k
     go (yes l) i = omega (arith, ap length (decimal-digit n l))
     go (no l) i = let m : 10 ≤ n = omega arith in omega (arith, ap length (decimal-more n m) ∙ length-append (decimal (n / 10)) ((48 + n % 10) ∷ []))
 
--- the delta of a frame that is taken has its 16 pointers
-pub delta-long : (z : Sizes) (i : Items) (d : List ℕ) → Each (λ _. 64 ≤ length d) (readDelta (shapeOf z i) d)
+-- a delta has eight pointers at least, and that of a frame that is taken has all of its own
+pub pointers-least : (z : Sizes) (i : Items) → 32 ≤ shapeOf z i .pointers
+pointers-least z ItemBytes = omega arith
+pointers-least z Shorts = omega arith
+pointers-least z Longs = omega arith
+pointers-least z ShortWords = omega arith
+pointers-least z LongWords = omega arith
+
+pub delta-long : (z : Sizes) (i : Items) (d : List ℕ) → Each (λ _. shapeOf z i .pointers ≤ length d) (readDelta (shapeOf z i) d)
 unfolding readDelta readPicture
-delta-long z i d = each-bind (each-need (leb 64 (length d)) 41 _ λ h. all-long _ (leb-true 64 (length d) h)) λ c k. each k
+delta-long z i d =
+    each-bind (each-need (leb (shapeOf z i .pointers) (length d)) 41 _ λ h. all-long _ (leb-true (shapeOf z i .pointers) (length d) h)) λ c k. each k
   where
-    all-long : {A : Type 0} (r : Res A) → 64 ≤ length d → Each (λ _. 64 ≤ length d) r
+    all-long : {A : Type 0} (r : Res A) → shapeOf z i .pointers ≤ length d → Each (λ _. shapeOf z i .pointers ≤ length d) r
     all-long (ok a) h = each h
     all-long (fault n) h = no-value
 
@@ -58,12 +68,12 @@ delta-long z i d = each-bind (each-need (leb 64 (length d)) 41 _ λ h. all-long 
 pub record Holds (at : ℕ) (x : Frame) : Type 0 where
   pub method : x .header .method < 256
   pub time : x .header .time < 4_294_967_296
-  pub takes : at + 20 + length (x .dlta) ≤ x .next
+  pub takes : at + 68 + length (x .dlta) ≤ x .next
 
-header-holds : (B : ℕ) (s : List ℕ) → Bytes s → Each (λ (h : FrameHeader). (h .method < 256) × (h .time < 4_294_967_296)) (frameHeader false B s)
-header-holds B s h = each-map (λ y r. (rw (r .method) (h 0), rw (r .time) (be32-bound s 14 h))) (header-read false B s)
+header-holds : (B : ℕ) (s : List ℕ) → Bytes s → Each (λ (h : FrameHeader). (h .method < 256) × (h .time < 4_294_967_296) × (40 ≤ length s)) (frameHeader false B s)
+header-holds B s h = each-map (λ y r. (rw (r .method) (h 0), rw (r .time) (be32-bound s 14 h), r .long)) (header-read false B s)
 
--- the contents of a chunk are bytes, and the second of two that are there has room for its header
+-- the contents of a chunk are bytes
 contents-bytes : (id : ℕ) (s : List ℕ) → Bytes s → Bytes (contents id s)
 unfolding contents
 contents-bytes id s h = go (find id s)
@@ -73,19 +83,20 @@ contents-bytes id s h = go (find id s)
     go (ok none) = bytes-take 0 s h
     go (fault n) = bytes-take 0 s h
 
-second-room : (x y : ℕ) (s : List ℕ) → hasBoth x y s ≡ ok true → length (contents y s) + 8 ≤ length s
+-- ANHD and DLTA, where both are there, have room for their headers
+both-room : (s : List ℕ) → hasBoth ANHD DLTA s ≡ ok true → length (contents ANHD s) + 8 + (length (contents DLTA s) + 8) ≤ length s
 unfolding hasBoth
-second-room x y s e = go (find x s) e
+both-room s e = go (find ANHD s) refl e
   where
-    last : (q : Res (Option Part)) → find y s ≡ q → (q >>= λ k. ok (isThere k)) ≡ ok true → length (contents y s) + 8 ≤ length s
-    last (ok (some q)) f e = contents-room y s q f
-    last (ok none) f e = let z : _≡_ {A = ℕ} 0 1 = cc in absurd (omega arith)
-    last (fault n) f e = let z : _≡_ {A = ℕ} 0 1 = cc in absurd (omega arith)
+    last : (p : Part) → find ANHD s ≡ ok (some p) → (q : Res (Option Part)) → find DLTA s ≡ q → (q >>= λ k. ok (isThere k)) ≡ ok true → length (contents ANHD s) + 8 + (length (contents DLTA s) + 8) ≤ length s
+    last p g (ok (some q)) f e = contents-room ANHD DLTA (λ k. omega arith) s p q g f
+    last p g (ok none) f e = let z : _≡_ {A = ℕ} 0 1 = cc in absurd (omega arith)
+    last p g (fault n) f e = let z : _≡_ {A = ℕ} 0 1 = cc in absurd (omega arith)
 
-    go : (p : Res (Option Part)) → (p >>= andHas y s) ≡ ok true → length (contents y s) + 8 ≤ length s
-    go (ok (some p)) e = last (find y s) refl e
-    go (ok none) e = let z : _≡_ {A = ℕ} 0 1 = cc in absurd (omega arith)
-    go (fault n) e = let z : _≡_ {A = ℕ} 0 1 = cc in absurd (omega arith)
+    go : (p : Res (Option Part)) → find ANHD s ≡ p → (p >>= andHas DLTA s) ≡ ok true → length (contents ANHD s) + 8 + (length (contents DLTA s) + 8) ≤ length s
+    go (ok (some p)) g e = last p g (find DLTA s) refl e
+    go (ok none) g e = let z : _≡_ {A = ℕ} 0 1 = cc in absurd (omega arith)
+    go (fault n) g e = let z : _≡_ {A = ℕ} 0 1 = cc in absurd (omega arith)
 
 pub frame-holds : (s : List ℕ) (B at : ℕ) → Bytes s → Each (All (Holds at)) (frameAt s B at)
 unfolding frameAt frameIn
@@ -96,7 +107,7 @@ frame-holds s B at h = each-bind (frame-follows s at) form
     there x f false e = no-value
     there x f true e =
         each-bind (header-holds B (contents ANHD (chunksOf s x)) (contents-bytes ANHD (chunksOf s x) (bytes-take (x .size) _ (bytes-drop (x .start) s h)))) λ y k.
-        let t : at + 20 + length (contents DLTA (chunksOf s x)) ≤ x .next = omega (arith, second-room ANHD DLTA (chunksOf s x) e, length-take (x .size) (drop (x .start) s), f .starts, f .holds) in
+        let t : at + 68 + length (contents DLTA (chunksOf s x)) ≤ x .next = omega (arith, k .2, both-room (chunksOf s x) e, length-take (x .size) (drop (x .start) s), f .starts, f .holds) in
         each (record { method = k .0; time = k .1; takes = t })
 
     form : (o : Option Form) → All (Follows s at) o → Each (All (Holds at)) (frameOr s B o)

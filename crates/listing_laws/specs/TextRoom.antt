@@ -1,6 +1,7 @@
--- A listing has at most 65,536 bytes, so that the listing program's buffer holds every text whole: each frame takes at least 84 bytes
+-- A listing has at most 65,536 bytes, so that the listing program's buffer holds every text whole: each frame takes at least 100 bytes
 -- of the file, and its line has at most 68.
 use Prim.Native.Nat.{ℕ, suc, _+_, _-_, _*_, _<_, _≤_}
+use native.Mathlib.Nat.{le-trans}
 use native.Mathlib.Omega.{arith}
 use mathlib.Core.Bool.{Bool, true, false}
 use mathlib.Core.List.{List, [], _++_}
@@ -18,7 +19,7 @@ use Rattle.state.specs.declared.State.{State}
 use Rattle.state.specs.State.{rowBytes}
 use Rattle.state.specs.StateLaws.{Sound, sizes-sound}
 use Rattle.form.specs.Form.{chunksOf}
-use Rattle.delta.specs.Delta.{shapeOf}
+use Rattle.delta.specs.Reading.{shapeOf}
 use Rattle.delta.specs.DeltaLaws.{draw-length}
 use Rattle.frame.specs.Frame.{Frame, frameAt}
 use Rattle.frame.specs.FrameLaws.{frame-rises}
@@ -34,8 +35,9 @@ use Rattle.lines.specs.Lines.{frameLine, endLine, refusedLine, pictureLine, too
 use Rattle.listing.specs.Listing.{Scene, leaves, lineOn, listStep, frames, shows, ROOM, fronts, Planned.single, Planned.pictures, sized, planned, follow, listed, blank, listing}
 use Rattle.changes.specs.CountLaws.{differing-short}
 use Rattle.record.specs.RoomLaws.{record-short}
-use Rattle.answers.specs.Table.{InTable, InTable.table-refusal, size-table, opening-table, on-table}
-use Rattle.listing_laws.specs.ShortLaws.{Holds, frame-holds, delta-long, Tells, frame-line-short, end-line-short, refused-line-short, picture-line-short}
+use Rattle.answers.specs.InTable.{InTable, InTable.table-refusal}
+use Rattle.answers.specs.Table.{size-table, opening-table, on-table}
+use Rattle.listing_laws.specs.ShortLaws.{Holds, frame-holds, pointers-least, delta-long, Tells, frame-line-short, end-line-short, refused-line-short, picture-line-short}
 
 -- a picture that the listing program's buffers hold
 abbrev Small : List ℕ → Type 0
@@ -44,14 +46,14 @@ Small p = length p ≤ 16_384
 -- what a frame that is made comes to
 record Makes (file : ℕ) (s : State) (m : Made) : Type 0 where
   few : s .frame < 1_000_000
-  rises : s .next + 84 ≤ m .next
+  rises : s .next + 100 ≤ m .next
   ends : m .next ≤ file
   picture : Small (m .picture)
   tells : Tells (m .report)
 
 -- what a delta that is well formed makes
 record Changes (x : Frame) (f : List ℕ) : Type 0 where
-  long : 64 ≤ length (x .dlta)
+  long : 32 ≤ length (x .dlta)
   small : Small f
 
 change-holds : (z : Sizes) (x : Frame) (shown hidden : List ℕ) → Small shown → Small hidden → Each (Changes x) (change z x shown hidden)
@@ -59,7 +61,7 @@ unfolding change
 change-holds z x shown hidden p q =
     each-bind (delta-long z (x .header .items) (x .dlta)) λ ops h.
     each (record {
-      long = h;
+      long = le-trans (pointers-least z (x .header .items)) h;
       small = rw (draw-length (shapeOf z (x .header .items)) (x .dlta) ops (basis (x .header) shown hidden)) (pick-both Small (eqb (x .header .interleave) 1) p q);
     })
 
@@ -72,7 +74,7 @@ module _ (file : List ℕ) (s : State) (shown hidden : List ℕ) (bytes : Bytes 
       let k = frame-rises (take (s .end) file) (rowBytes (s .sizes .width)) (s .next) x e in
       let n : x .next ≤ length file = omega (arith, k .ends, length-take (s .end) file) in
       each-bind (change-holds (s .sizes) x shown hidden shown-small hidden-small) λ f c.
-      let r : s .next + 84 ≤ x .next = omega (arith, t .takes, c .long) in
+      let r : s .next + 100 ≤ x .next = omega (arith, t .takes, c .long) in
       let q : Tells (makes s x hidden f .report) = record {
         method = omega (arith, t .method);
         time = omega (arith, t .time);
@@ -89,13 +91,13 @@ module _ (file : List ℕ) (s : State) (shown hidden : List ℕ) (bytes : Bytes 
       go (ok o) e (each h) = make-holds o e h
       go (fault n) e h = no-value
 
--- while frames are listed: 68 bytes of text for each 84 of the file, and a line before the first frame
+-- while frames are listed: 68 bytes of text for each 100 of the file, and a line before the first frame
 record Roomy (c : Scene) : Type 0 where
   left : Small (c .world .a)
   right : Small (c .world .b)
   frame : c .world .state .frame ≤ 1_000_000
   place : c .world .state .next ≤ 65_536
-  text : 84 * length (c .text) ≤ 68 * c .world .state .next + 84 * 68
+  text : 100 * length (c .text) ≤ 68 * c .world .state .next + 100 * 68
 
 abbrev Short : Scene → Type 0
 Short c = length (c .text) ≤ 65_536
@@ -126,7 +128,7 @@ module _ (file : List ℕ) (bytes : Bytes file) (short : length file ≤ 65_536)
           let n : suc (c .world .state .frame) < 10_000_000 = omega (arith, k .few) in
           let f : suc (c .world .state .frame) ≤ 1_000_000 = omega (arith, k .few) in
           let p : m .next ≤ 65_536 = omega (arith, k .ends) in
-          let x : 84 * length (c .text ++ frameLine (suc (c .world .state .frame)) (m .report)) ≤ 68 * m .next + 84 * 68 =
+          let x : 100 * length (c .text ++ frameLine (suc (c .world .state .frame)) (m .report)) ≤ 68 * m .next + 100 * 68 =
           omega (arith, length-append (c .text) (frameLine (suc (c .world .state .frame)) (m .report)), frame-line-short (suc (c .world .state .frame)) (m .report) n (k .tells), h .text, k .rises) in
           rw d
           (comes-next (record {
@@ -172,7 +174,7 @@ module _ (file : List ℕ) (bytes : Bytes file) where
   shows-short h n k (ok F) l (each g) a b work rec =
       let w : Small (F .first) = omega (arith, g .first) in
       let p : F .start ≤ 65_536 = omega (arith, g .start) in
-      let t : 84 * length (pictureLine (F .sizes)) ≤ 68 * F .start + 84 * 68 = omega (arith, picture-line-short (F .sizes) n (g .sound)) in
+      let t : 100 * length (pictureLine (F .sizes)) ≤ 68 * F .start + 100 * 68 = omega (arith, picture-line-short (F .sizes) n (g .sound)) in
       frames-short file bytes h n _ (record { left = w; right = w; frame = omega arith; place = p; text = t })
   shows-short h n k (fault m) (table-refusal l) g a b work rec = omega (arith, refused-line-short m l)
 

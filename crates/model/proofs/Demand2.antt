@@ -10,7 +10,7 @@ use lib.ListN.{length, take, drop}
 use borrow.Author.Tests.{le-leb, lt-leb}
 use Rattle.laws.specs.Result.{Res.ok, Res.fault, _>>=_, pick}
 use Rattle.anhd.specs.declared.Items.the-variants.{Bytes}
-use Rattle.delta.specs.Delta.{Op}
+use Rattle.delta.specs.Reading.{Op}
 use Rattle.writer.specs.Write.{Writes}
 use Rattle.roundtrip.specs.Calls.{delta-makes}
 use Rattle.frame.specs.Frame.{Frame}

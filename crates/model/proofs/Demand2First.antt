@@ -13,7 +13,7 @@ use Rattle.form.specs.Form.{chunksOf}
 use Rattle.bmhd.specs.declared.Header.{Header}
 use Rattle.anhd.specs.declared.FrameHeader.{FrameHeader}
 use Rattle.anhd.specs.declared.Items.the-variants.{Bytes}
-use Rattle.delta.specs.Delta.{Op}
+use Rattle.delta.specs.Reading.{Op}
 use Rattle.writer.specs.Write.{Writes}
 use Rattle.roundtrip.specs.Calls.{delta-makes}
 use Rattle.opening.specs.declared.OpenedFile.{OpenedFile}

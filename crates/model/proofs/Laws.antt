@@ -10,7 +10,8 @@ use lib.ListN.{length}
 use borrow.Author.Tests.{eq-eqb, ne-eqb}
 use Rattle.laws.specs.Result.{Res.ok}
 use Rattle.laws.specs.ResultLaws.{Each.each, each-any, each-is}
-use Rattle.delta.specs.Delta.{shapeOf, readDelta}
+use Rattle.delta.specs.Reading.{shapeOf}
+use Rattle.delta.specs.Delta.{readDelta}
 use Rattle.delta.specs.DeltaLaws.{draw-length}
 use Rattle.frame.specs.Frame.{Frame}
 use Rattle.state.specs.World.{World, isOdd}

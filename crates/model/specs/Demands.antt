@@ -1,4 +1,4 @@
--- What demands 1 and 2 speak of (document 01, "Refusal numbers", "Deltas" and "Opening, stepping on, stepping back", and document 02, E1 and E7).
+-- What demands 1 and 2 speak of (document 01, "Refusal numbers", "Deltas" and "Opening, stepping on, stepping back", and document 02, E1, E5 and E7).
 use Prim.Native.Nat.{ℕ, suc}
 use mathlib.Core.Bool.{true, false}
 use mathlib.Core.List.{List, [], _++_}
@@ -18,7 +18,8 @@ use Rattle.form.specs.Form.{chunksOf}
 use Rattle.bmhd.specs.declared.Header.{Header}
 use Rattle.anhd.specs.declared.FrameHeader.{FrameHeader}
 use Rattle.anhd.specs.Anhd.{frameHeader}
-use Rattle.delta.specs.Delta.{Op, shapeOf, readDelta, draw}
+use Rattle.delta.specs.Reading.{Op, shapeOf}
+use Rattle.delta.specs.Delta.{readDelta, draw}
 use Rattle.record.specs.Record.{recordBytes}
 use Rattle.frame.specs.Frame.{Frame, frameAt}
 use Rattle.opening.specs.declared.OpenedFile.{OpenedFile}
@@ -60,8 +61,8 @@ pub record Unchanged (n : ℕ) (w : World) (work rec : List ℕ) (w′ : World) 
   pub written : rec′ ≡ rec
   pub drawn : (n ≡ 51 → ⊥) → work′ ≡ work
 
--- a step on that only its delta (41 to 43) and its record's length (51) can refuse: the tests of state and buffers passed (11, 12, 53), and x,
--- the next frame from the next place on, is whole and has a good header (21, 31 to 36)
+-- a step on that only its delta (41 to 43, 45) and its record's length (51) can refuse: the tests of state and buffers passed (11, 12, 53), and
+-- x, the next frame from the next place on, is whole and has a good header (21, 31 to 36)
 pub record Free (file : List ℕ) (w : World) (work : ℕ) (x : Frame) : Type 0 where
   pub tests : ready (length file) (w .state) (length (w .a)) (length (w .b)) work ≡ ok tt
   pub there : frameAt (take (w .state .end) file) (rowBytes (w .state .sizes .width)) (w .state .next) ≡ ok (some x)
@@ -92,8 +93,8 @@ pub record Takes (w : World) (rec : List ℕ) (x : Frame) (f : List ℕ) (y : An
   pub drawn : work′ ≡ f
   pub written : rec′ ≡ recordOf w f ++ drop (length (recordOf w f)) rec
 
--- an opening that only its delta (41 to 43) can refuse: the walk found a first frame at p (13, 21 to 23), without a BODY but with an ANHD
--- (31) and a good BMHD z (24), A and B have a frame's length (12), and h is a good header (32, 33, 35, 36)
+-- an opening that only its delta (41 to 43, 45) can refuse: the walk found a first frame at p (13, 21 to 23), without a BODY but with an
+-- ANHD (31) and a good BMHD z (24), A and B have a frame's length (12), and h is a good header (32, 33, 35, 36)
 pub record FreeFirst (file : List ℕ) (a b : ℕ) (p : Places) (z : Header) (h : FrameHeader) : Type 0 where
   pub there : firstPlaces file ≡ ok p
   pub given : p .body ≡ false

@@ -1,4 +1,4 @@
--- The model of demand 3 (document 01, "Opening, stepping on, stepping back", and document 02, E1 and E7). It is fed the file and the calls in order, and holds
+-- The model of demand 3 (document 01, "Opening, stepping on, stepping back", and document 02, E1, E5 and E7). It is fed the file and the calls in order, and holds
 -- a number n, at first 1. Here m is n − 1: picture m + 1 is shown at n, and picture m hidden, where picture 0 is picture 1 too.
 -- With opening and the steps it shares the readings of chunks, BMHD, BODY, ANHD, deltas and records, what ops draw, the bytes of a record,
 -- the lengths of a row and of a frame, how many bytes differ, what an odd number is, the ids of chunks, and the types of what is
@@ -21,7 +21,8 @@ use Rattle.bmhd.specs.Header.{header}
 use Rattle.bmhd.specs.declared.Header.{Header}
 use Rattle.ilbm.specs.Body.{body}
 use Rattle.anhd.specs.Anhd.{frameHeader}
-use Rattle.delta.specs.Delta.{shapeOf, readDelta, draw}
+use Rattle.delta.specs.Reading.{shapeOf}
+use Rattle.delta.specs.Delta.{readDelta, draw}
 use Rattle.runs.specs.Runs.{differing}
 use Rattle.record.specs.Record.{recordBytes, Past, pastOf}
 use Rattle.frame.specs.Frame.{Frame, frameAt}

@@ -21,7 +21,8 @@ use Rattle.bmhd.specs.Header.{header}
 use Rattle.bmhd.specs.declared.Header.{Header}
 use Rattle.ilbm.specs.Body.{body}
 use Rattle.anhd.specs.Anhd.{frameHeader}
-use Rattle.delta.specs.Delta.{shapeOf, readDelta, draw}
+use Rattle.delta.specs.Reading.{shapeOf}
+use Rattle.delta.specs.Delta.{readDelta, draw}
 use Rattle.opening.specs.declared.Opening.{Opening}
 use Rattle.opening.specs.declared.Opening.the-variants.{Opened, Refused}
 use Rattle.opening.specs.declared.OpenedFile.{OpenedFile}

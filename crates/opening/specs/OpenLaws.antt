@@ -31,7 +31,8 @@ use Rattle.anhd.specs.declared.FrameHeader.{FrameHeader}
 use Rattle.anhd.specs.Anhd.{frameHeader}
 use Rattle.anhd.specs.AnhdLaws.{header-read}
 use Rattle.ilbm.specs.BodyLaws.{body-length}
-use Rattle.delta.specs.Delta.{shapeOf, readDelta, newFrame, Applies}
+use Rattle.delta.specs.Reading.{shapeOf}
+use Rattle.delta.specs.Delta.{readDelta, newFrame, Applies}
 use Rattle.delta.specs.DeltaLaws.{draw-length}
 use Rattle.delta.specs.ApplyLaws.{frame-delta, new-refused, new-drawn}
 use Rattle.state.specs.declared.Sizes.{Sizes}

@@ -15,7 +15,8 @@ use Rattle.state.specs.Outcome.{Report, Answer, Answer.refused, Answer.ended, A
 use Rattle.runs.specs.Runs.{differing}
 use Rattle.record.specs.Record.{recordBytes}
 use Rattle.anhd.specs.declared.FrameHeader.{FrameHeader}
-use Rattle.delta.specs.Delta.{shapeOf, readDelta, draw}
+use Rattle.delta.specs.Reading.{shapeOf}
+use Rattle.delta.specs.Delta.{readDelta, draw}
 use Rattle.frame.specs.Frame.{Frame, frameAt}
 use Rattle.player.specs.declared.On.{On}
 use Rattle.player.specs.declared.On.the-variants.{Taken, End, Refused}

@@ -1,4 +1,4 @@
-// The refusals of document 01 and their numbers, but for 44, which is retired: no later one gets it.
+// The refusals of documents 01 and 02 and their numbers, but for 44, which is retired: no later one gets it.
 ghost use mathlib.Core.Path.{_≡_};
 ghost use Rattle.refusal.specs.Number.{numberOf};
 
@@ -21,6 +21,7 @@ pub enum Refusal {
     BadPointer,
     DeltaTooShort,
     OpPastLastRow,
+    WordPastPlane,
     NoRoom,
     LastFrame,
     BadRecord,
@@ -51,6 +52,7 @@ impl Refusal {
             Refusal::BadPointer => 41,
             Refusal::DeltaTooShort => 42,
             Refusal::OpPastLastRow => 43,
+            Refusal::WordPastPlane => 45,
             Refusal::NoRoom => 51,
             Refusal::LastFrame => 53,
             Refusal::BadRecord => 61,

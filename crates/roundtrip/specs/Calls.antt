@@ -15,7 +15,8 @@ use Rattle.state.specs.declared.Sizes.{Sizes}
 use Rattle.state.specs.State.{frameLength}
 use Rattle.state.specs.StateLaws.{sizes-sound}
 use Rattle.anhd.specs.declared.Items.the-variants.{Bytes}
-use Rattle.delta.specs.Delta.{Op, shapeOf, readDelta, draw, newFrame, Applies}
+use Rattle.delta.specs.Reading.{Op, shapeOf}
+use Rattle.delta.specs.Delta.{readDelta, draw, newFrame, Applies}
 use Rattle.delta.specs.DeltaLaws.{same-answer}
 use Rattle.delta.specs.NoneLaws.{HasRows}
 use Rattle.writer.specs.Write.{deltaBytes, written, bufferAfter, Writes}

@@ -3,7 +3,7 @@ use Prim.Native.Nat.{ℕ, zero, suc, _+_, _-_, _*_, _<_, _≤_}
 use native.Mathlib.Nat.{add-zero}
 use native.Mathlib.Numerals.{add-one, add-two}
 use native.Mathlib.Omega.{arith}
-use mathlib.Core.Bool.{true}
+use mathlib.Core.Bool.{true, false}
 use mathlib.Core.List.{List, [], _∷_, _++_, append-assoc, append-nil}
 use mathlib.Core.Path.{_≡_, refl, sym, ap, _∙_}
 use lib.ListN.{length, getD, take, drop, set, replicate, length-append, length-take, length-drop, length-set, length-replicate}
@@ -15,7 +15,9 @@ use Rattle.column.specs.Column.{Op, Op.skip, Op.uniq, Op.same, opBytes, opsByte
 use Rattle.column.specs.BoundLaws.{Valid}
 use Rattle.writer.specs.Write.{columnAt}
 use Rattle.writer.specs.ColumnLaws.{length-column}
-use Rattle.delta.specs.Delta.{Op as Stroke, noRows, Reading, byteAt, skip as skipRows, fill, Kind.skips, Kind.uniq as uniqs, kindOf, readOp, readOps, put, draw}
+use Rattle.delta.specs.Reading.{Op as Stroke, Reading, byteAt}
+use Rattle.delta.specs.Column.{noRows, skip as skipRows, fill, Kind.skips, Kind.uniq as uniqs, kindOf, readOp, readOps}
+use Rattle.delta.specs.Delta.{put, draw}
 use Rattle.delta.specs.NoneLaws.{HasRows}
 use Rattle.delta.specs.declared.Shape.{Shape}
 use Rattle.roundtrip.specs.OpLaws.{reach, passed, reachAll, passedAll}
@@ -158,7 +160,7 @@ draw-more S d (x ∷ os) o f = draw-more S d os o (put (S .item) (S .row) (x .st
 
 -- the shape of method 5
 abbrev pub bytewise : ℕ → ℕ → ℕ → Shape
-bytewise row height planes = record { item = 1; inline = true; row = row; height = height; planes = planes }
+bytewise row height planes = record { item = 1; inline = true; words = false; row = row; height = height; planes = planes; plane = height * row; pointers = 64 }
 
 module _ (row height planes : ℕ) (d first : List ℕ) where
   -- ops that make the frame f of the first one, with no Uniq or Same of none among them

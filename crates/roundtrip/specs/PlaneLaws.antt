@@ -14,7 +14,8 @@ use Rattle.laws.specs.Result.{Res, Res.ok}
 use Rattle.column.specs.Column.{Op, columnOps, opsBytes, columnBytes}
 use Rattle.column.specs.BoundLaws.{valid-column}
 use Rattle.writer.specs.Write.{columnAt, columnIn, columnsBytes}
-use Rattle.delta.specs.Delta.{Reading, byteAt, readOps, readColumn, readColumns}
+use Rattle.delta.specs.Reading.{Reading, byteAt}
+use Rattle.delta.specs.Column.{readOps, readColumn, readColumns}
 use Rattle.roundtrip.specs.OpLaws.{reachAll, passedAll, reach-column, column, column-new}
 use Rattle.writer.specs.ColumnLaws.{length-column}
 use Rattle.roundtrip.specs.ColumnLaws.{putColumn, length-putColumn, put-kept, length-passedAll, Head, head, byte-is, bytewise, Makes, col, At, ops-are}

@@ -20,7 +20,9 @@ use Rattle.column.specs.Column.{columnBytes}
 use Rattle.writer.specs.LengthLaws.{lists-few}
 use Rattle.writer.specs.Write.{columnIn, columnsBytes, equal, planeBytes, be32Bytes, pointerOf, pointersBytes, listsBytes, deltaBytes}
 use Rattle.writer.specs.PlaneLaws.{length-be32, pointers-length}
-use Rattle.delta.specs.Delta.{Op, Reading, shapeOf, readColumns, pointer, readPlane, readPlanes, readPicture, readDelta, draw, newFrame, readFrame}
+use Rattle.delta.specs.Reading.{Op, Reading, shapeOf}
+use Rattle.delta.specs.Column.{readColumns}
+use Rattle.delta.specs.Delta.{pointer, readPlane, readPlanes, readPicture, readDelta, draw, newFrame, readFrame}
 use Rattle.delta.specs.NoneLaws.{HasRows}
 use Rattle.anhd.specs.declared.Items.the-variants.{Bytes}
 use Rattle.roundtrip.specs.ColumnLaws.{bytewise, Makes}

@@ -1,13 +1,12 @@
 -- `anhd::read_header`: the tests are the definition's, in its order.
 use Prim.Native.Nat.{ℕ, _≤_}
-use mathlib.Core.Path.{_≡_}
-use mathlib.Core.Bool.{Bool, true, false, _||_}
+use mathlib.Core.Path.{_≡_, refl}
+use mathlib.Core.Bool.{Bool, true, false}
 use mathlib.Core.List.{List}
-use lib.Dec.{eqb}
 use lib.ListN.{length, getD}
 use Rattle.laws.specs.Result.{Res, Res.ok, Res.fault, _>>=_, need}
 use Rattle.laws.specs.Bytes.{be32}
-use Rattle.anhd.specs.Anhd.{frameHeader, interleaveOk, bitsOk, itemsOf, columnsOk}
+use Rattle.anhd.specs.Anhd.{frameHeader, methodOk, interleaveOk, bitsOk, itemsOf, columnsOk}
 use Rattle.anhd.specs.declared.FrameHeader.{FrameHeader}
 use borrow.Author.Tests.{le-leb, lt-leb}
 use Rattle.laws.specs.ResultLaws.{told-true, told-false}
@@ -16,9 +15,9 @@ use Rattle.anhd.proofs.read_header.Statement.{statement}
 use Rattle.anhd.proofs.read_header.Tie as tie
 
 -- a method that is known, with an interleave that isn't taken
-interleave-bad : (first : Bool) (B : ℕ) (s : List ℕ) {m x : ℕ} → 40 ≤ length s → m ≡ getD s 0 0 → (eqb m 5 || eqb m 7) ≡ true → x ≡ getD s 18 0 → interleaveOk first x ≡ false → fault 34 ≡ frameHeader first B s
+interleave-bad : (first : Bool) (B : ℕ) (s : List ℕ) {m x : ℕ} → 40 ≤ length s → m ≡ getD s 0 0 → methodOk m ≡ true → x ≡ getD s 18 0 → interleaveOk first x ≡ false → fault 34 ≡ frameHeader first B s
 unfolding frameHeader
-interleave-bad first B s l e a f b = simp (le-leb 40 (length s) l, ← e, a, ← f, b)
+interleave-bad first B s l e a f b = rw (le-leb 40 (length s) l, ← e, a, ← f, b) refl
 
 -- what is left of the definition behind the test of the interleave
 abbrev rest : ℕ → List ℕ → ℕ → ℕ → ℕ → Res FrameHeader
@@ -27,10 +26,10 @@ rest B s m x bits =
     need (columnsOk (itemsOf m bits) B) 36 >>= λ _.
     ok (record { method = m; time = be32 s 14; interleave = x; items = itemsOf m bits })
 
-rest-is : (first : Bool) (B : ℕ) (s : List ℕ) {m x bits : ℕ} → 40 ≤ length s → m ≡ getD s 0 0 → (eqb m 5 || eqb m 7) ≡ true → x ≡ getD s 18 0 → interleaveOk first x ≡ true → bits ≡ be32 s 20
+rest-is : (first : Bool) (B : ℕ) (s : List ℕ) {m x bits : ℕ} → 40 ≤ length s → m ≡ getD s 0 0 → methodOk m ≡ true → x ≡ getD s 18 0 → interleaveOk first x ≡ true → bits ≡ be32 s 20
     → rest B s m x bits ≡ frameHeader first B s
 unfolding frameHeader
-rest-is first B s l e a f b g = simp (le-leb 40 (length s) l, ← e, a, ← f, b, ← g)
+rest-is first B s l e a f b g = rw (le-leb 40 (length s) l, ← e, a, ← f, b, ← g) refl
 
 returns : tie.Need-returns
 unfolding frameHeader
@@ -39,14 +38,14 @@ returns c = simp (lt-leb _ _ (c .if1 .taken))
 byte-requires : tie.Need-byte-requires
 byte-requires c κs = search needs
 
-either-requires : tie.Need-either-requires
-either-requires c κs = search needs
+method-ok-requires : tie.Need-method-ok-requires
+method-ok-requires c κs = search needs
 
 returns-2 : tie.Need-returns-2
 unfolding frameHeader
 returns-2 c =
     let b = c .before .before in
-    simp (le-leb _ _ (b .before .if1 .left), ← b .byte .ensures .0, told-false (c .before .either .ensures) (c .if2 .taken))
+    simp (le-leb _ _ (b .before .if1 .left), ← b .byte .ensures .0, told-false (c .before .method-ok .ensures) (c .if2 .taken))
 
 byte-requires-2 : tie.Need-byte-requires-2
 byte-requires-2 c κs = search needs
@@ -59,7 +58,7 @@ returns-3 c =
     let i = c .before .before .before in
     let p = i .before in
     let z = p .before .before .before .before .args in
-    interleave-bad (z .first) (z .row) (z .s .now) (p .before .before .if1 .left) (p .before .byte .ensures .0) (told-true (p .either .ensures) (i .if2 .left)) (c .before .before .byte2 .ensures .0)
+    interleave-bad (z .first) (z .row) (z .s .now) (p .before .before .if1 .left) (p .before .byte .ensures .0) (told-true (p .method-ok .ensures) (i .if2 .left)) (c .before .before .byte2 .ensures .0)
     (told-false (c .before .interleave-ok .ensures) (c .if3 .taken))
 
 number32-requires : tie.Need-number32-requires
@@ -75,7 +74,7 @@ returns-4 c =
     let p = i .before in
     let z = p .before .before .before .before .args in
     rw (told-false (c .before .bits-ok .ensures) (c .if4 .taken)) at
-    (rest-is (z .first) (z .row) (z .s .now) (p .before .before .if1 .left) (p .before .byte .ensures .0) (told-true (p .either .ensures) (i .if2 .left)) (j .before .before .byte2 .ensures .0) (told-true (j .before .interleave-ok .ensures) (j .if3 .left)) (c .before .before .number32 .ensures .0))
+    (rest-is (z .first) (z .row) (z .s .now) (p .before .before .if1 .left) (p .before .byte .ensures .0) (told-true (p .method-ok .ensures) (i .if2 .left)) (j .before .before .byte2 .ensures .0) (told-true (j .before .interleave-ok .ensures) (j .if3 .left)) (c .before .before .number32 .ensures .0))
 
 items-of-requires : tie.Need-items-of-requires
 items-of-requires c κs = search needs
@@ -91,7 +90,7 @@ returns-5 c =
     let p = i .before in
     let z = p .before .before .before .before .args in
     rw (told-true (k .before .bits-ok .ensures) (k .if4 .left), ← c .before .before .items-of .ensures, told-false (c .before .columns-ok .ensures) (c .if5 .taken)) at
-    (rest-is (z .first) (z .row) (z .s .now) (p .before .before .if1 .left) (p .before .byte .ensures .0) (told-true (p .either .ensures) (i .if2 .left)) (j .before .before .byte2 .ensures .0) (told-true (j .before .interleave-ok .ensures) (j .if3 .left)) (k .before .before .number32 .ensures .0))
+    (rest-is (z .first) (z .row) (z .s .now) (p .before .before .if1 .left) (p .before .byte .ensures .0) (told-true (p .method-ok .ensures) (i .if2 .left)) (j .before .before .byte2 .ensures .0) (told-true (j .before .interleave-ok .ensures) (j .if3 .left)) (k .before .before .number32 .ensures .0))
 
 number32-requires-2 : tie.Need-number32-requires-2
 number32-requires-2 c κs = search needs
@@ -105,7 +104,7 @@ returns-6 c =
     let p = i .before in
     let z = p .before .before .before .before .args in
     rw (told-true (k .before .bits-ok .ensures) (k .if4 .left), ← l .before .before .items-of .ensures, told-true (l .before .columns-ok .ensures) (l .if5 .left), ← c .number322 .ensures .0) at
-    (rest-is (z .first) (z .row) (z .s .now) (p .before .before .if1 .left) (p .before .byte .ensures .0) (told-true (p .either .ensures) (i .if2 .left)) (j .before .before .byte2 .ensures .0) (told-true (j .before .interleave-ok .ensures) (j .if3 .left)) (k .before .before .number32 .ensures .0))
+    (rest-is (z .first) (z .row) (z .s .now) (p .before .before .if1 .left) (p .before .byte .ensures .0) (told-true (p .method-ok .ensures) (i .if2 .left)) (j .before .before .byte2 .ensures .0) (told-true (j .before .interleave-ok .ensures) (j .if3 .left)) (k .before .before .number32 .ensures .0))
 
 pub read-header-spec : {M : Type 1} → statement M
 read-header-spec =
@@ -113,7 +112,7 @@ read-header-spec =
     (tie.spec
     returns
     byte-requires
-    either-requires
+    method-ok-requires
     returns-2
     byte-requires-2
     interleave-ok-requires

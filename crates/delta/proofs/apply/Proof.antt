@@ -1,7 +1,7 @@
 -- `delta::apply`: a walk that only checks, and then the same walk that draws into a copy of the picture.
 use mathlib.Core.Path.{refl, sym, _∙_}
 use Rattle.laws.specs.Store.{over-whole}
-use Rattle.delta.specs.ApplyLaws.{planes-for, applies-refused, applies-drawn}
+use Rattle.delta.specs.ApplyLaws.{plane-for, planes-for, applies-refused, applies-drawn}
 use borrow.Author.Needs.{needs}
 use Rattle.delta.proofs.apply.Statement.{statement}
 use Rattle.delta.proofs.apply.Tie as tie
@@ -19,7 +19,9 @@ copy-requires : tie.Need-copy-requires
 copy-requires c κs = search needs
 
 shape-of-requires : tie.Need-shape-of-requires
-shape-of-requires c κs = search needs
+shape-of-requires c κs =
+    let t = c .before .before .before .before .before .before in
+    plane-for (t .before .before .before .before .check .ensures) (t .checked2 .given .1)
 
 take-delta-requires : tie.Need-take-delta-requires
 take-delta-requires c κs =
@@ -30,7 +32,9 @@ same-length : tie.Need-same-length
 same-length c = search needs
 
 returns : tie.Need-returns
-returns c = applies-refused refl (c .before .before .before .before .before .check .ensures) (c .before .checked .given .1)
+returns c =
+    let t = c .before .before .before .before .before in
+    applies-refused refl (t .check .ensures) (c .before .checked .given .1)
 
 same-length-2 : tie.Need-same-length-2
 same-length-2 c = search needs

@@ -2,7 +2,7 @@
 use mathlib.Core.Path.{refl, sym, _∙_}
 use lib.ListN.{length-replicate}
 use Prim.Native.Nat.{ℕ}
-use Rattle.delta.specs.ApplyLaws.{planes-for, applies-refused, applies-drawn}
+use Rattle.delta.specs.ApplyLaws.{plane-for, planes-for, applies-refused, applies-drawn}
 use borrow.Author.Needs.{needs}
 use Rattle.delta.proofs.apply_first.Statement.{statement}
 use Rattle.delta.proofs.apply_first.Tie as tie
@@ -20,7 +20,9 @@ fill-requires : tie.Need-fill-requires
 fill-requires c κs = search needs
 
 shape-of-requires : tie.Need-shape-of-requires
-shape-of-requires c κs = search needs
+shape-of-requires c κs =
+    let t = c .before .before .before .before .before .before in
+    plane-for (t .before .before .before .before .check .ensures) (t .checked2 .given .1)
 
 take-delta-requires : tie.Need-take-delta-requires
 take-delta-requires c κs =
@@ -31,7 +33,9 @@ same-length : tie.Need-same-length
 same-length c = search needs
 
 returns : tie.Need-returns
-returns c = applies-refused (sym (length-replicate {A = ℕ} _ 0)) (c .before .before .before .before .before .check .ensures) (c .before .checked .given .1)
+returns c =
+    let t = c .before .before .before .before .before in
+    applies-refused (sym (length-replicate {A = ℕ} _ 0)) (t .check .ensures) (c .before .checked .given .1)
 
 same-length-2 : tie.Need-same-length-2
 same-length-2 c = search needs

@@ -21,7 +21,9 @@ returns : tie.Need-returns
 returns c = check-stops (frame-picture _ _ _ _ _ (told lengthOf (c .before .before .before .before .frame-length .ensures) (c .before .before .l2 .given .1)) (c .if1 .taken))
 
 returns-2 : tie.Need-returns-2
-returns-2 c = check-stops (frame-work _ _ _ _ _ (told lengthOf (c .before .before .before .before .before .frame-length .ensures) (c .before .before .before .l2 .given .1)) (c .before .if1 .left) (c .if2 .taken))
+returns-2 c =
+    let t = c .before .before .before .before .before in
+    check-stops (frame-work _ _ _ _ _ (told lengthOf (t .frame-length .ensures) (c .before .before .before .l2 .given .1)) (c .before .if1 .left) (c .if2 .taken))
 
 row-bytes-requires : tie.Need-row-bytes-requires
 row-bytes-requires c κs = search needs
@@ -36,7 +38,11 @@ returns-3 c =
     check-stops (frame-columns _ _ _ _ _ l (t .before .if1 .left) (t .if2 .left) (told-false (c .before .columns-ok .ensures ∙ rw (c .before .before .row-bytes .ensures)) (c .if3 .taken)))
 
 shape-of-requires : tie.Need-shape-of-requires
-shape-of-requires c κs = search needs
+shape-of-requires c κs =
+    let u = c .before .before .before .before .before .before .before .before .before .before .before .before in
+    let t = c .before .before .before .before in
+    let l = told lengthOf (t .before .before .before .before .before .frame-length .ensures) (t .before .before .before .l2 .given .1) in
+    each-is l (sizes-sound (u .args .sizes)) .plane-most
 
 take-delta-requires : tie.Need-take-delta-requires
 take-delta-requires c κs =

@@ -2,10 +2,10 @@
 use Prim.Native.Nat.{_+_, _-_, _*_, _≤_}
 use mathlib.Core.Path.{_≡_, refl, _∙_}
 use lib.ListN.{length}
-use Rattle.delta.specs.Delta.{readColumns}
+use Rattle.delta.specs.Column.{readColumns}
 use Rattle.delta.specs.DeltaLaws.{columns-more, columns-none}
 use Rattle.delta.specs.FillLaws.{columns-first, columns-next}
-use Rattle.delta.specs.Walk.{Columns, Walked}
+use Rattle.delta.specs.Walk.{Columns, reading, Walked}
 use Rattle.delta.specs.WalkLaws.{walked-none, walked-more, walked-refused, walked-all, took-next, took-faulty, next-here, faulty-here}
 use borrow.Author.Needs.{needs}
 use native.Mathlib.Omega.{arith}
@@ -23,7 +23,8 @@ loop-holds c = (omega arith, refl, c .before .before .pre .2, walked-none (λ op
 
 take-column-requires : tie.Need-take-column-requires Inv-loop μ-loop
 take-column-requires c κs =
-    let p = c .before .before .before .before .before .pre in
+    let t = c .before .before .before .before .before in
+    let p = t .pre in
     let i = c .before .before .loop .inv in
     (p .0, rw (i .1) (columns-first (i .2) (c .before .loop-test .taken)), record { line = i .3 .line; item = i .3 .item; ops = omega (arith, i .3 .counted, i .3 .few, p .3 .ops) })
 
@@ -35,15 +36,19 @@ same-length c = search needs
 
 returns : tie.Need-returns Inv-loop μ-loop
 returns c =
-    let a = c .before .before .before .before .before .before .before .before .before .before .before .args in
-    let l = c .before .before .before .before .before .before .before .before .loop in
-    faulty-here _ (walked-refused (l .inv .3) (took-faulty (c .before .before .before .before .before .take-column .ensures) (c .before .t .given .1)) (readColumns (a .shape) (a .d .now) (l .left - 1) (l .place + a .shape .item)) (columns-more (a .shape) (a .d .now) (l .left) (l .place) (c .before .before .before .before .before .before .before .loop-test .taken)))
+    let u = c .before .before .before .before .before in
+    let v = u .before .before .before .before .before .before in
+    let a = v .args in
+    let l = u .before .before .before .loop in
+    faulty-here _ (walked-refused (l .inv .3) (took-faulty (u .take-column .ensures) (c .before .t .given .1)) (readColumns (a .shape) (a .d .now) (l .left - 1) (l .place + a .shape .item)) (λ ops. columns-more (a .shape) (a .d .now) (l .left) (l .place) (u .before .before .loop-test .taken) (reading (l .at) ops)))
 
 enum-known-t-2 : tie.Need-enum-known-t-2 Inv-loop μ-loop
 enum-known-t-2 c = search needs
 
 add-place : tie.Need-add-place Inv-loop μ-loop
-add-place c = omega (arith, columns-first (c .before .before .before .before .before .before .before .before .loop .inv .2) (c .before .before .before .before .before .before .before .loop-test .taken) .rows .lies 0 (c .before .before .before .before .before .before .before .before .before .before .before .pre .1))
+add-place c =
+    let t = c .before .before .before .before .before .before .before in
+    omega (arith, columns-first (t .before .loop .inv .2) (t .loop-test .taken) .rows .lies 0 (t .before .before .before .before .pre .1))
 
 sub-left : tie.Need-sub-left Inv-loop μ-loop
 sub-left c = search needs
@@ -53,9 +58,11 @@ loop-less c = search needs
 
 loop-again : tie.Need-loop-again Inv-loop μ-loop
 loop-again c =
-    let a = c .before .before .before .before .before .before .before .before .before .before .before .args in
-    let l = c .before .before .before .before .before .before .before .before .loop in
-    (omega arith, c .before .before .before .before .before .take-column .kept .0 ∙ l .inv .1, columns-next (l .inv .2) (c .before .before .before .before .before .before .before .loop-test .taken), walked-more (l .inv .3) (took-next (c .before .before .before .before .before .take-column .ensures) (c .before .t2 .given .1)) (columns-more (a .shape) (a .d .now) (l .left) (l .place) (c .before .before .before .before .before .before .before .loop-test .taken)) (omega arith))
+    let t = c .before .before .before .before .before in
+    let u = t .before .before .before .before .before .before in
+    let a = u .args in
+    let l = t .before .before .before .loop in
+    (omega arith, t .take-column .kept .0 ∙ l .inv .1, columns-next (l .inv .2) (t .before .before .loop-test .taken), walked-more (l .inv .3) (took-next (t .take-column .ensures) (c .before .t2 .given .1)) (λ ops. columns-more (a .shape) (a .d .now) (l .left) (l .place) (t .before .before .loop-test .taken) (reading (l .at) ops)) (omega arith))
 
 same-length-2 : tie.Need-same-length-2 Inv-loop μ-loop
 same-length-2 c = search needs
@@ -64,7 +71,7 @@ returns-2 : tie.Need-returns-2 Inv-loop μ-loop
 returns-2 c =
     let a = c .before .before .before .before .args in
     let l = c .before .loop in
-    next-here (walked-all (l .inv .3) (columns-none (a .shape) (a .d .now) (l .left) (l .place) (c .loop-test .left)) (omega arith))
+    next-here (walked-all (l .inv .3) (λ ops. columns-none (a .shape) (a .d .now) (l .left) (l .place) (c .loop-test .left) (reading (l .at) ops)) (omega arith))
 
 pub take-columns-spec : {M : Type 1} → statement M
 take-columns-spec =

@@ -19,15 +19,16 @@ abbrev μ-loop : tie.MeasureT-loop
 μ-loop frame₀ d shape drawing at₀ plane₀ frame at plane = shape .planes - plane
 
 returns : tie.Need-returns Inv-loop μ-loop
-returns c = let a = c .before .before .before .args in refused-here BadPointer (λ ops. picture-short (a .shape) (a .d .now) (reading top ops) (c .if1 .taken))
+returns c = let a = c .before .before .before .before .args in refused-here BadPointer (λ ops. picture-short (a .shape) (a .d .now) (reading top ops) (c .if1 .taken))
 
 loop-holds : tie.Need-loop-holds Inv-loop μ-loop
-loop-holds c = let a = c .before .before .before .args in (omega arith, refl, walked-none (λ ops. picture-planes (a .shape) (a .d .now) (reading top ops) (c .if1 .left)) refl (omega arith) (omega arith) _)
+loop-holds c = let a = c .before .before .before .before .args in (omega arith, refl, walked-none (λ ops. picture-planes (a .shape) (a .d .now) (reading top ops) (c .if1 .left)) refl (omega arith) (omega arith) _)
 
 take-plane-requires : tie.Need-take-plane-requires Inv-loop μ-loop
 take-plane-requires c κs =
+    let t = c .before .before .before .before .before .before .before .before in
     let i = c .before .before .before .loop .inv in
-    (rw (i .1) (c .before .before .before .before .before .before .before .pre), c .before .if2 .taken, record { line = i .2 .line; item = i .2 .item; ops = omega (arith, i .2 .counted, i .2 .few, c .before .before .before .before .before .before .before .pre .planes-most) })
+    (rw (i .1) (t .pre), c .before .if2 .taken, record { line = i .2 .line; item = i .2 .item; ops = omega (arith, i .2 .counted, i .2 .few, t .pre .planes-most) })
 
 enum-known-t : tie.Need-enum-known-t Inv-loop μ-loop
 enum-known-t c = search needs
@@ -37,33 +38,40 @@ same-length c = search needs
 
 returns-2 : tie.Need-returns-2 Inv-loop μ-loop
 returns-2 c =
-    let a = c .before .before .before .before .before .before .before .before .before .before .before .before .before .args in
-    let l = c .before .before .before .before .before .before .before .before .before .loop in
-    faulty-here _ (walked-refused (l .inv .2) (took-faulty (c .before .before .before .before .before .take-plane .ensures) (c .before .t .given .1)) (readPlanes (a .shape) (a .d .now) (a .shape .planes - (l .plane + 1)) (l .plane + 1)) (planes-more (a .shape) (a .d .now) (a .shape .planes) (l .plane) (c .before .before .before .before .before .before .before .if2 .taken)))
+    let u = c .before .before .before .before .before in
+    let v = u .before .before .before .before .before .before .before .before .before in
+    let a = v .args in
+    let l = u .before .before .before .before .loop in
+    faulty-here _ (walked-refused (l .inv .2) (took-faulty (u .take-plane .ensures) (c .before .t .given .1)) (readPlanes (a .shape) (a .d .now) (a .shape .planes - (l .plane + 1)) (l .plane + 1)) (λ ops. planes-more (a .shape) (a .d .now) (a .shape .planes) (l .plane) (u .before .before .if2 .taken) (reading (l .at) ops)))
 
 enum-known-t-2 : tie.Need-enum-known-t-2 Inv-loop μ-loop
 enum-known-t-2 c = search needs
 
 add-plane : tie.Need-add-plane Inv-loop μ-loop
-add-plane c = omega (arith, c .before .before .before .before .before .before .before .before .before .before .before .before .before .pre .planes-most)
+add-plane c =
+    let t = c .before .before .before .before .before .before .before .before .before .before .before .before .before .before in
+    omega (arith, t .pre .planes-most)
 
 loop-less : tie.Need-loop-less Inv-loop μ-loop
 loop-less c = search needs
 
 loop-again : tie.Need-loop-again Inv-loop μ-loop
 loop-again c =
-    let a = c .before .before .before .before .before .before .before .before .before .before .before .before .before .args in
-    let l = c .before .before .before .before .before .before .before .before .before .loop in
-    (omega arith, c .before .before .before .before .before .take-plane .kept .0 ∙ l .inv .1, walked-more (l .inv .2) (took-next (c .before .before .before .before .before .take-plane .ensures) (c .before .t2 .given .1)) (planes-more (a .shape) (a .d .now) (a .shape .planes) (l .plane) (c .before .before .before .before .before .before .before .if2 .taken)) (omega arith))
+    let t = c .before .before .before .before .before in
+    let u = t .before .before .before .before .before .before .before .before .before in
+    let a = u .args in
+    let l = t .before .before .before .before .loop in
+    (omega arith, t .take-plane .kept .0 ∙ l .inv .1, walked-more (l .inv .2) (took-next (t .take-plane .ensures) (c .before .t2 .given .1)) (λ ops. planes-more (a .shape) (a .d .now) (a .shape .planes) (l .plane) (t .before .before .if2 .taken) (reading (l .at) ops)) (omega arith))
 
 same-length-2 : tie.Need-same-length-2 Inv-loop μ-loop
 same-length-2 c = search needs
 
 returns-3 : tie.Need-returns-3 Inv-loop μ-loop
 returns-3 c =
-    let a = c .before .before .before .before .before .before .args in
+    let t = c .before .before .before .before .before .before .before in
+    let a = t .args in
     let l = c .before .before .loop in
-    next-here (walked-all (l .inv .2) (planes-none (a .shape) (a .d .now) (a .shape .planes) (l .plane) (c .if2 .left)) (omega (arith, c .before .before .before .before .before .before .pre .planes-most)))
+    next-here (walked-all (l .inv .2) (λ ops. planes-none (a .shape) (a .d .now) (a .shape .planes) (l .plane) (c .if2 .left) (reading (l .at) ops)) (omega (arith, t .pre .planes-most)))
 
 pub take-delta-spec : {M : Type 1} → statement M
 take-delta-spec =

@@ -2,7 +2,7 @@
 use Prim.Native.Nat.{_-_, _<_, _≤_}
 use native.Mathlib.Omega.{arith}
 use lib.ListN.{getD}
-use Rattle.delta.specs.Delta.{Kind.same, Kind.skips, Kind.uniq, opAs, readOp}
+use Rattle.delta.specs.Column.{Kind.same, Kind.skips, Kind.uniq, opAs, readOp}
 use Rattle.delta.specs.Walk.{reading}
 use Rattle.delta.specs.DeltaLaws.{op-none, op-kind, kind-same, kind-skip, kind-uniq}
 use Rattle.delta.specs.FillLaws.{skip-read, read-as}
@@ -40,7 +40,7 @@ take-uniq-requires c κs =
 returns-2 : tie.Need-returns-2
 returns-2 c =
     let a = c .before .before .before .before .before .args in
-    read-as (a .shape) (a .d .now) (readOp (a .shape) (a .d .now)) (λ base x. opAs (a .shape) (a .d .now) base x same) (a .c) (c .take-same .result) (c .take-same .ensures) (λ base ops. op-kind (a .shape) (a .d .now) base (reading (a .c) ops) (c .before .before .before .if1 .left) (kind-same _ (c .before .match .keys1)))
+    read-as (a .shape) (a .d .now) 1 (readOp (a .shape) (a .d .now)) (a .c) (λ base x. opAs (a .shape) (a .d .now) base x same) (c .take-same .result) (c .take-same .ensures) (λ base ops. op-kind (a .shape) (a .d .now) base (reading (a .c) ops) (c .before .before .before .if1 .left) (kind-same _ (c .before .match .keys1)))
 
 returns-3 : tie.Need-returns-3
 returns-3 c =
@@ -49,14 +49,14 @@ returns-3 c =
     let n = getD (a .d .now) (a .c .op) 0 in
     let h : 0 < n = omega arith in
     let k : n ≤ 127 = omega arith in
-    read-as (a .shape) (a .d .now) (readOp (a .shape) (a .d .now)) (λ base x. opAs (a .shape) (a .d .now) base x (skips n)) (a .c) (c .take-skip .result) (skip-read (c .take-skip .ensures) (a .d .now) (b .pre .1 .item)) (λ base ops. op-kind (a .shape) (a .d .now) base (reading (a .c) ops) (c .before .before .before .before .if1 .left) (kind-skip n h k))
+    read-as (a .shape) (a .d .now) 1 (readOp (a .shape) (a .d .now)) (a .c) (λ base x. opAs (a .shape) (a .d .now) base x (skips n)) (c .take-skip .result) (skip-read (c .take-skip .ensures) (a .d .now) (b .pre .1 .item)) (λ base ops. op-kind (a .shape) (a .d .now) base (reading (a .c) ops) (c .before .before .before .before .if1 .left) (kind-skip n h k))
 
 returns-4 : tie.Need-returns-4
 returns-4 c =
     let a = c .before .before .before .before .before .before .args in
     let n = getD (a .d .now) (a .c .op) 0 in
     let h : 127 < n = omega arith in
-    read-as (a .shape) (a .d .now) (readOp (a .shape) (a .d .now)) (λ base x. opAs (a .shape) (a .d .now) base x (uniq (n - 128))) (a .c) (c .take-uniq .result) (c .take-uniq .ensures) (λ base ops. op-kind (a .shape) (a .d .now) base (reading (a .c) ops) (c .before .before .before .before .if1 .left) (kind-uniq n h))
+    read-as (a .shape) (a .d .now) 1 (readOp (a .shape) (a .d .now)) (a .c) (λ base x. opAs (a .shape) (a .d .now) base x (uniq (n - 128))) (c .take-uniq .result) (c .take-uniq .ensures) (λ base ops. op-kind (a .shape) (a .d .now) base (reading (a .c) ops) (c .before .before .before .before .if1 .left) (kind-uniq n h))
 
 pub take-op-spec : {M : Type 1} → statement M
 take-op-spec =

@@ -2,10 +2,11 @@
 use Prim.Native.Nat.{_-_, _≤_}
 use mathlib.Core.Path.{_≡_, refl, _∙_}
 use lib.ListN.{length}
-use Rattle.delta.specs.Delta.{readOps}
+use Rattle.delta.specs.Column.{readOp, readOps}
 use Rattle.delta.specs.DeltaLaws.{ops-more, ops-none}
-use Rattle.delta.specs.Walk.{Walked}
+use Rattle.delta.specs.Walk.{reading, Walked}
 use Rattle.delta.specs.WalkLaws.{walked-none, walked-more, walked-refused, walked-all, took-next, took-faulty, next-here, faulty-here}
+use Rattle.delta.specs.FillLaws.{op-lies, op-walked}
 use borrow.Author.Needs.{needs}
 use native.Mathlib.Omega.{arith}
 use Rattle.delta.proofs.column.take_ops.Statement.{statement}
@@ -20,11 +21,18 @@ abbrev μ-loop : tie.MeasureT-loop
 loop-holds : tie.Need-loop-holds Inv-loop μ-loop
 loop-holds c = (omega arith, refl, walked-none (λ ops. refl) refl (c .before .before .pre .2 .line) (c .before .before .pre .2 .item) _)
 
-draw-op-requires : tie.Need-draw-op-requires Inv-loop μ-loop
-draw-op-requires c κs =
-    let p = c .before .before .before .before .before .pre in
-    let i = c .before .before .loop .inv in
-    (p .0, rw (i .1) (p .1), record { line = i .2 .line; item = i .2 .item; ops = omega (arith, i .2 .counted, i .2 .few, p .2 .ops) })
+take-op-requires : tie.Need-take-op-requires Inv-loop μ-loop
+take-op-requires c κs =
+    let p = c .before .before .before .before .pre in
+    let i = c .before .loop .inv in
+    (p .0 .width, record { line = i .2 .line; item = i .2 .item; ops = omega (arith, i .2 .counted, i .2 .few, p .2 .ops) })
+
+draw-taken-requires : tie.Need-draw-taken-requires Inv-loop μ-loop
+draw-taken-requires c κs =
+    let b = c .before .before .before .before .before .before in
+    let a = b .args in
+    let l = c .before .before .before .loop in
+    (b .pre .0 .width, rw (l .inv .1) (b .pre .1), op-lies (a .shape) (a .d .now) 1 (readOp (a .shape) (a .d .now)) (l .at) (c .before .take-op .result) (c .before .take-op .ensures))
 
 enum-known-t : tie.Need-enum-known-t Inv-loop μ-loop
 enum-known-t c = search needs
@@ -34,9 +42,11 @@ same-length c = search needs
 
 returns : tie.Need-returns Inv-loop μ-loop
 returns c =
-    let a = c .before .before .before .before .before .before .before .before .before .before .before .args in
-    let l = c .before .before .before .before .before .before .before .before .loop in
-    faulty-here _ (walked-refused (l .inv .2) (took-faulty (c .before .before .before .before .before .draw-op .ensures) (c .before .t .given .1)) (readOps (a .shape) (a .d .now) (a .base) (l .left - 1)) (ops-more (a .shape) (a .d .now) (a .base) (l .left) (c .before .before .before .before .before .before .before .loop-test .taken)))
+    let u = c .before .before .before .before .before in
+    let b = u .before .before .before .before .before .before .before in
+    let a = b .args in
+    let l = u .before .before .before .before .loop in
+    faulty-here _ (walked-refused (l .inv .2) (took-faulty (op-walked (a .shape) (a .d .now) 1 (readOp (a .shape) (a .d .now)) (l .at) (rw (b .pre .0 .columns)) (a .drawing) (l .frame) (a .base) (u .before .before .take-op .result) (u .before .before .take-op .ensures) (u .draw-taken .ensures)) (c .before .t .given .1)) (readOps (a .shape) (a .d .now) (a .base) (l .left - 1)) (λ ops. ops-more (a .shape) (a .d .now) (a .base) (l .left) (u .before .before .before .loop-test .taken) (reading (l .at) ops)))
 
 enum-known-t-2 : tie.Need-enum-known-t-2 Inv-loop μ-loop
 enum-known-t-2 c = search needs
@@ -49,9 +59,11 @@ loop-less c = search needs
 
 loop-again : tie.Need-loop-again Inv-loop μ-loop
 loop-again c =
-    let a = c .before .before .before .before .before .before .before .before .before .before .before .args in
-    let l = c .before .before .before .before .before .before .before .before .loop in
-    (omega arith, c .before .before .before .before .before .draw-op .kept .0 ∙ l .inv .1, walked-more (l .inv .2) (took-next (c .before .before .before .before .before .draw-op .ensures) (c .before .t2 .given .1)) (ops-more (a .shape) (a .d .now) (a .base) (l .left) (c .before .before .before .before .before .before .before .loop-test .taken)) (omega arith))
+    let t = c .before .before .before .before .before in
+    let b = t .before .before .before .before .before .before .before in
+    let a = b .args in
+    let l = t .before .before .before .before .loop in
+    (omega arith, t .draw-taken .kept .0 ∙ l .inv .1, walked-more (l .inv .2) (took-next (op-walked (a .shape) (a .d .now) 1 (readOp (a .shape) (a .d .now)) (l .at) (rw (b .pre .0 .columns)) (a .drawing) (l .frame) (a .base) (t .before .before .take-op .result) (t .before .before .take-op .ensures) (t .draw-taken .ensures)) (c .before .t2 .given .1)) (λ ops. ops-more (a .shape) (a .d .now) (a .base) (l .left) (t .before .before .before .loop-test .taken) (reading (l .at) ops)) (omega arith))
 
 same-length-2 : tie.Need-same-length-2 Inv-loop μ-loop
 same-length-2 c = search needs
@@ -60,7 +72,7 @@ returns-2 : tie.Need-returns-2 Inv-loop μ-loop
 returns-2 c =
     let a = c .before .before .before .before .args in
     let l = c .before .loop in
-    next-here (walked-all (l .inv .2) (ops-none (a .shape) (a .d .now) (a .base) (l .left) (c .loop-test .left)) (omega arith))
+    next-here (walked-all (l .inv .2) (λ ops. ops-none (a .shape) (a .d .now) (a .base) (l .left) (c .loop-test .left) (reading (l .at) ops)) (omega arith))
 
 pub take-ops-spec : {M : Type 1} → statement M
 take-ops-spec =
@@ -69,7 +81,8 @@ take-ops-spec =
     Inv-loop
     μ-loop
     loop-holds
-    draw-op-requires
+    take-op-requires
+    draw-taken-requires
     enum-known-t
     same-length
     returns

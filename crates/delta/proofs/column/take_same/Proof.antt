@@ -2,7 +2,7 @@
 use Prim.Native.Nat.{_+_}
 use native.Mathlib.Omega.{arith}
 use lib.ListN.{getD}
-use Rattle.delta.specs.Delta.{fill, Kind.same, opAs}
+use Rattle.delta.specs.Column.{fill, Kind.same, opAs}
 use Rattle.delta.specs.Walk.{reading}
 use Rattle.delta.specs.DeltaLaws.{same-none, same-fill}
 use Rattle.delta.specs.FillLaws.{read-as}
@@ -34,7 +34,7 @@ take-fill-requires c κs = search needs
 returns-2 : tie.Need-returns-2
 returns-2 c =
     let a = c .before .before .before .before .args in
-    read-as (a .shape) (a .d .now) (λ base x. opAs (a .shape) (a .d .now) base x same) (λ base x. fill (a .shape) (a .d .now) base x (a .c .op + 2) (getD (a .d .now) (a .c .op + 1) 0) (a .shape .item) 0) (a .c) (c .take-fill .result) (c .take-fill .ensures) (λ base ops. same-fill (a .shape) (a .d .now) base (reading (a .c) ops) (omega arith))
+    read-as (a .shape) (a .d .now) 1 (λ base x. opAs (a .shape) (a .d .now) base x same) (a .c) (λ base x. fill (a .shape) (a .d .now) base x (a .c .op + 2) (getD (a .d .now) (a .c .op + 1) 0) (a .shape .item) 0) (c .take-fill .result) (c .take-fill .ensures) (λ base ops. same-fill (a .shape) (a .d .now) base (reading (a .c) ops) (omega arith))
 
 pub take-same-spec : {M : Type 1} → statement M
 take-same-spec =

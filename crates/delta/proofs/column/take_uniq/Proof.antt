@@ -3,7 +3,7 @@ use Prim.Native.Nat.{_+_, _*_}
 use native.Mathlib.Omega.{arith}
 use native.Mathlib.Nat.{mul-le-mul-right}
 use mathlib.Core.Path.{refl}
-use Rattle.delta.specs.Delta.{fill, Kind.uniq, opAs}
+use Rattle.delta.specs.Column.{fill, Kind.uniq, opAs}
 use Rattle.delta.specs.FillLaws.{uniq-inside, read-as}
 use borrow.Author.Needs.{needs}
 use Rattle.delta.proofs.column.take_uniq.Statement.{statement}
@@ -21,7 +21,7 @@ take-fill-requires c κs = let b = c .before .before in (b .pre .1, omega arith,
 returns : tie.Need-returns
 returns c =
     let a = c .before .before .before .args in
-    read-as (a .shape) (a .d .now) (λ base x. opAs (a .shape) (a .d .now) base x (uniq (a .count))) (λ base x. fill (a .shape) (a .d .now) base x (a .c .op + 1) (a .count) (a .count * a .shape .item) (a .shape .item)) (a .c) (c .take-fill .result) (c .take-fill .ensures) (λ base ops. refl)
+    read-as (a .shape) (a .d .now) 1 (λ base x. opAs (a .shape) (a .d .now) base x (uniq (a .count))) (a .c) (λ base x. fill (a .shape) (a .d .now) base x (a .c .op + 1) (a .count) (a .count * a .shape .item) (a .shape .item)) (c .take-fill .result) (c .take-fill .ensures) (λ base ops. refl)
 
 pub take-uniq-spec : {M : Type 1} → statement M
 take-uniq-spec = tie.close (tie.spec add-take-fill mul-take-fill take-fill-requires returns)

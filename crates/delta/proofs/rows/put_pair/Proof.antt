@@ -1,10 +1,10 @@
--- `delta::column::put_pair`: two stores, one after the other.
+-- `delta::rows::put_pair`: two stores, one after the other.
 use native.Mathlib.Omega.{arith}
 use lib.ListN.{length-set}
 use Rattle.delta.specs.DeltaLaws.{item-two}
 use borrow.Author.Needs.{needs}
-use Rattle.delta.proofs.column.put_pair.Statement.{statement}
-use Rattle.delta.proofs.column.put_pair.Tie as tie
+use Rattle.delta.proofs.rows.put_pair.Statement.{statement}
+use Rattle.delta.proofs.rows.put_pair.Tie as tie
 
 shared-slice-read-a : tie.Need-shared-slice-read-a
 shared-slice-read-a c = search needs

@@ -1,10 +1,10 @@
--- `delta::column::put_item`: an item is a byte, a pair or two pairs.
+-- `delta::rows::put_item`: an item is a byte, a pair or two pairs.
 use native.Mathlib.Omega.{arith}
 use mathlib.Core.Path.{_∙_}
 use Rattle.delta.specs.DeltaLaws.{item-one, item-four}
 use borrow.Author.Needs.{needs}
-use Rattle.delta.proofs.column.put_item.Statement.{statement}
-use Rattle.delta.proofs.column.put_item.Tie as tie
+use Rattle.delta.proofs.rows.put_item.Statement.{statement}
+use Rattle.delta.proofs.rows.put_item.Tie as tie
 
 shared-slice-read-frame : tie.Need-shared-slice-read-frame
 shared-slice-read-frame c = search needs

@@ -1,0 +1,153 @@
+-- `delta::rows::draw_rows`: items that lie one after the other are one copy; else what is left to put makes of the frame what all of it makes of
+-- the first one.
+use native.Mathlib.Nat.{mul-le-mul-right}
+use native.Mathlib.Omega.{arith}
+use borrow.Author.Tests.{not-true, not-false}
+use Prim.Native.Nat.{_-_, _<_}
+use mathlib.Core.Path.{sym, _∙_}
+use Rattle.laws.specs.Store.{lent-copy}
+use Rattle.delta.specs.DeltaLaws.{Putting, putting-starts, putting-more, putting-ends, put-beside}
+use Rattle.delta.specs.FillLaws.{run-inside}
+use borrow.Author.Needs.{needs}
+use Rattle.delta.proofs.rows.draw_rows.Statement.{statement}
+use Rattle.delta.proofs.rows.draw_rows.Tie as tie
+
+abbrev Inv-loop : tie.InvT-loop
+Inv-loop frame₀ place d from step count drawing item row at₀ itemAt₀ left₀ frame at itemAt left = Putting item row step d count from place frame₀ frame at itemAt left
+
+abbrev μ-loop : tie.MeasureT-loop
+μ-loop frame₀ place d from step count drawing item row at₀ itemAt₀ left₀ frame at itemAt left = left
+
+returns : tie.Need-returns Inv-loop μ-loop
+returns c = rw (not-true (c .before .before .before .args .drawing) (c .if1 .taken))
+
+mul-end : tie.Need-mul-end Inv-loop μ-loop
+mul-end c =
+    let b = c .before .before .before .before .before .before in
+    omega (arith, run-inside (b .pre .1 .rows) (c .before .before .if2 .taken) (c .if4 .taken))
+
+add-end : tie.Need-add-end Inv-loop μ-loop
+add-end c =
+    let b = c .before .before .before .before .before .before in
+    omega (arith, run-inside (b .pre .1 .rows) (c .before .before .if2 .taken) (c .if4 .taken))
+
+mul-to : tie.Need-mul-to Inv-loop μ-loop
+mul-to c =
+    let b = c .before .before .before .before .before .before in
+    omega (arith, run-inside (b .pre .2 .inside) (c .before .if3 .taken) (c .if4 .taken))
+
+add-to : tie.Need-add-to Inv-loop μ-loop
+add-to c =
+    let b = c .before .before .before .before .before .before in
+    omega (arith, run-inside (b .pre .2 .inside) (c .before .if3 .taken) (c .if4 .taken))
+
+sub-copy : tie.Need-sub-copy Inv-loop μ-loop
+sub-copy c = search needs
+
+part-copy-start : tie.Need-part-copy-start Inv-loop μ-loop
+part-copy-start c = search needs
+
+part-copy-end : tie.Need-part-copy-end Inv-loop μ-loop
+part-copy-end c =
+    let b = c .before .before .before .before .before .before in
+    run-inside (b .pre .1 .rows) (c .before .before .if2 .taken) (c .if4 .taken)
+
+sub-copy-2 : tie.Need-sub-copy-2 Inv-loop μ-loop
+sub-copy-2 c = search needs
+
+part-copy-start-2 : tie.Need-part-copy-start-2 Inv-loop μ-loop
+part-copy-start-2 c = search needs
+
+part-copy-end-2 : tie.Need-part-copy-end-2 Inv-loop μ-loop
+part-copy-end-2 c =
+    let b = c .before .before .before .before .before .before .before in
+    run-inside (b .pre .2 .inside) (c .before .before .if3 .taken) (c .before .if4 .taken)
+
+copy-requires : tie.Need-copy-requires Inv-loop μ-loop
+copy-requires c κs = search needs
+
+same-length : tie.Need-same-length Inv-loop μ-loop
+same-length c = search needs
+
+returns-2 : tie.Need-returns-2 Inv-loop μ-loop
+returns-2 c =
+    let t = c .before .before .before .before .before in
+    let b = t .before .before .before .before .before .before in
+    let f = run-inside (b .pre .1 .rows) (t .before .before .if2 .taken) (t .if4 .taken) in
+    let s = run-inside (b .pre .2 .inside) (t .before .if3 .taken) (t .if4 .taken) in
+    rw (not-false (b .args .drawing) (t .before .before .before .if1 .left), t .before .before .if2 .taken, t .before .if3 .taken) (lent-copy _ _ _ _ _ _ f s (c .before .before .copy .ensures) ∙ sym (put-beside (b .args .shape .item) (b .args .d .now) (b .args .count) (b .args .from) (b .args .place) (b .args .frame .now) s))
+
+loop-holds : tie.Need-loop-holds Inv-loop μ-loop
+loop-holds c = putting-starts
+
+put-item-requires : tie.Need-put-item-requires Inv-loop μ-loop
+put-item-requires c κs =
+    let b = c .before .before .before .before .before .before .before in
+    let l = c .before .before .loop in
+    let k : b .args .count - l .left < b .args .count = omega (arith, l .inv .bound, c .before .loop-test .taken) in
+    (omega (arith, b .pre .1 .rows .lies _ k, l .inv .long, l .inv .there), omega (arith, b .pre .2 .inside .lies _ k, l .inv .stands), b .pre .0)
+
+add-at : tie.Need-add-at Inv-loop μ-loop
+add-at c =
+    let t = c .before .before .before .before .before in
+    let b = t .before .before .before .before .before in
+    let l = t .loop in
+    let k : b .args .count - l .left < b .args .count = omega (arith, l .inv .bound, c .before .before .before .before .loop-test .taken) in
+    omega (arith, b .pre .1 .below, l .inv .there, mul-le-mul-right (b .args .shape .row) k)
+
+add-item-at : tie.Need-add-item-at Inv-loop μ-loop
+add-item-at c =
+    let t = c .before .before .before .before .before in
+    let b = t .before .before .before .before .before in
+    let l = t .loop in
+    let k : b .args .count - l .left < b .args .count = omega (arith, l .inv .bound, c .before .before .before .before .loop-test .taken) in
+    omega (arith, b .pre .2 .inside .lies _ k, l .inv .stands, b .pre .2 .step-most)
+
+sub-left : tie.Need-sub-left Inv-loop μ-loop
+sub-left c = omega arith
+
+loop-less : tie.Need-loop-less Inv-loop μ-loop
+loop-less c = omega arith
+
+loop-again : tie.Need-loop-again Inv-loop μ-loop
+loop-again c =
+    let t = c .before .before .before .before .before in
+    putting-more (t .loop .inv) (c .before .before .before .before .loop-test .taken) (c .before .before .put-item .ensures)
+
+same-length-2 : tie.Need-same-length-2 Inv-loop μ-loop
+same-length-2 c = c .before .loop .inv .long
+
+returns-3 : tie.Need-returns-3 Inv-loop μ-loop
+returns-3 c =
+    let t = c .before .before .before .before .before .before in
+    rw (not-false (t .args .drawing) (c .before .before .before .if1 .left)) (putting-ends (c .before .loop .inv) (c .loop-test .left))
+
+pub draw-rows-spec : {M : Type 1} → statement M
+draw-rows-spec =
+    tie.close
+    (tie.spec
+    Inv-loop
+    μ-loop
+    returns
+    mul-end
+    add-end
+    mul-to
+    add-to
+    sub-copy
+    part-copy-start
+    part-copy-end
+    sub-copy-2
+    part-copy-start-2
+    part-copy-end-2
+    copy-requires
+    same-length
+    returns-2
+    loop-holds
+    put-item-requires
+    add-at
+    add-item-at
+    sub-left
+    loop-less
+    loop-again
+    same-length-2
+    returns-3)
