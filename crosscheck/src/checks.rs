@@ -10,9 +10,10 @@ pub mod listings;
 pub mod none;
 pub mod orders;
 pub mod records;
+pub mod words;
 pub mod writer;
 
-use crate::files;
+use crate::files::{self, Method, BYTES, LONGS, LONG_WORDS, SHORTS, SHORT_WORDS};
 use crate::pair::{Checked, Pair, Player};
 use crate::plain::Sizes;
 use crate::random::Random;
@@ -64,28 +65,31 @@ pub fn small_films(check: &mut Check) -> Vec<Vec<u8>> {
         films.push(files::film(random, sizes, 4, files::Harm::None));
         films.push(every_method(random, sizes));
     }
-    for (items, width) in [(1, 16), (2, 20), (4, 32)] {
-        films.push(only_deltas(random, Sizes { width, height: 2, planes: 1 }, items));
+    for (method, width, height) in [(BYTES, 16, 2), (SHORTS, 20, 2), (LONGS, 32, 2), (LONG_WORDS, 16, 5), (SHORT_WORDS, 16, 2)] {
+        films.push(only_deltas(random, Sizes { width, height, planes: 1 }, method));
     }
     films
 }
 
-/// A file of a first picture and a frame after it, both of them deltas of such items.
-fn only_deltas(random: &mut Random, sizes: Sizes, items: usize) -> Vec<u8> {
-    let picture = random.bytes(sizes.frame());
-    let first = files::delta_on_black(&picture, sizes, items);
-    let next = files::random_delta(random, sizes, items);
-    files::form(b"ANIM", &[files::first_delta_form(sizes, items, 3, &first), files::delta_form(items, 0, 1, &next)])
+/// A file of a first picture and a frame after it, both of them deltas of this method.
+fn only_deltas(random: &mut Random, sizes: Sizes, method: Method) -> Vec<u8> {
+    let picture = files::any_picture(random, sizes, 256);
+    let first = files::delta_on_black(&picture, sizes, method);
+    let next = files::random_delta(random, sizes, method);
+    files::form(b"ANIM", &[files::first_delta_form(sizes, method, 3, &first), files::delta_form(method, 0, 1, &next)])
 }
 
-/// A file with a packed BODY and a frame of each kind of item, and of each interleave where the rows have long columns.
+/// The methods with an interleave each.
+const INTERLEAVED: [(Method, u8); 5] = [(BYTES, 0), (SHORTS, 1), (LONGS, 2), (LONG_WORDS, 2), (SHORT_WORDS, 1)];
+
+/// A file with a packed BODY and a frame of each method that the picture may have, and of each interleave.
 fn every_method(random: &mut Random, sizes: Sizes) -> Vec<u8> {
     let picture = random.bytes(sizes.frame());
     let body = files::packed_body(&picture, sizes);
     let mut parts = vec![files::picture_form(sizes, 1, &body)];
-    for (items, interleave) in [(1, 0), (2, 1), (4, 2)].into_iter().filter(|(items, _)| sizes.row().is_multiple_of(*items)) {
-        let delta = files::random_delta(random, sizes, items);
-        parts.push(files::delta_form(items, interleave, 3, &delta));
+    for (method, interleave) in INTERLEAVED.into_iter().filter(|(method, _)| method.fits(sizes)) {
+        let delta = files::random_delta(random, sizes, method);
+        parts.push(files::delta_form(method, interleave, 3, &delta));
     }
     files::form(b"ANIM", &parts)
 }

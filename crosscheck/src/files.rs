@@ -1,7 +1,63 @@
 //! Makers of chunks, pictures, deltas and whole files, well formed or damaged.
+pub mod words;
+
 use crate::pair::delta_room;
 use crate::plain::{self, Sizes};
 use crate::random::Random;
+
+/// A method, and the bytes of its items or words.
+#[derive(Clone, Copy, Debug, PartialEq, Eq)]
+pub struct Method {
+    pub number: u8,
+    pub item: usize,
+}
+
+pub const BYTES: Method = Method { number: 5, item: 1 };
+pub const SHORTS: Method = Method { number: 7, item: 2 };
+pub const LONGS: Method = Method { number: 7, item: 4 };
+pub const LONG_WORDS: Method = Method { number: 2, item: 4 };
+pub const SHORT_WORDS: Method = Method { number: 3, item: 2 };
+/// The methods whose lists go down columns.
+pub const VERTICAL: [Method; 3] = [BYTES, SHORTS, LONGS];
+/// The methods whose lists are of words.
+pub const WORDS: [Method; 2] = [LONG_WORDS, SHORT_WORDS];
+pub const METHODS: [Method; 5] = [BYTES, SHORTS, LONGS, LONG_WORDS, SHORT_WORDS];
+
+impl Method {
+    /// Whether its lists are of words.
+    pub fn of_words(self) -> bool {
+        WORDS.contains(&self)
+    }
+
+    /// The bytes of its pointers.
+    pub fn pointers(self) -> usize {
+        if self.of_words() {
+            32
+        } else {
+            64
+        }
+    }
+
+    /// Whether pictures of these sizes may have it: rows must have whole columns, but not whole words.
+    pub fn fits(self, sizes: Sizes) -> bool {
+        self.of_words() || sizes.row().is_multiple_of(self.item)
+    }
+
+    /// How many whole words a plane has.
+    pub fn words(self, sizes: Sizes) -> usize {
+        sizes.plane() / self.item
+    }
+}
+
+/// The methods that pictures of these sizes may have.
+pub fn fitting(sizes: Sizes) -> impl Iterator<Item = Method> {
+    METHODS.into_iter().filter(move |method| method.fits(sizes))
+}
+
+/// One of the methods that pictures of these sizes may have.
+pub fn any_method(random: &mut Random, sizes: Sizes) -> Method {
+    *random.pick(&fitting(sizes).collect::<Vec<Method>>())
+}
 
 /// A chunk with its pad.
 pub fn chunk(id: &[u8; 4], contents: &[u8]) -> Vec<u8> {
@@ -32,12 +88,12 @@ pub fn bmhd(sizes: Sizes, compression: u8) -> Vec<u8> {
 }
 
 /// ANHD's contents.
-pub fn anhd(items: usize, interleave: u8, time: u32) -> Vec<u8> {
+pub fn anhd(method: Method, interleave: u8, time: u32) -> Vec<u8> {
     let mut all = vec![0; 40];
-    all[0] = if items == 1 { 5 } else { 7 };
+    all[0] = method.number;
     all[14..18].copy_from_slice(&time.to_be_bytes());
     all[18] = interleave;
-    all[23] = u8::from(items == 4);
+    all[23] = u8::from(method == LONGS);
     all
 }
 
@@ -47,14 +103,14 @@ pub fn picture_form(sizes: Sizes, compression: u8, body: &[u8]) -> Vec<u8> {
 }
 
 /// The FORM of a first picture that is given as a delta.
-pub fn first_delta_form(sizes: Sizes, items: usize, interleave: u8, delta: &[u8]) -> Vec<u8> {
-    let chunks = [chunk(b"BMHD", &bmhd(sizes, 1)), chunk(b"ANHD", &anhd(items, interleave, 2)), chunk(b"DLTA", delta)];
+pub fn first_delta_form(sizes: Sizes, method: Method, interleave: u8, delta: &[u8]) -> Vec<u8> {
+    let chunks = [chunk(b"BMHD", &bmhd(sizes, 1)), chunk(b"ANHD", &anhd(method, interleave, 2)), chunk(b"DLTA", delta)];
     form(b"ILBM", &chunks)
 }
 
 /// The FORM of a later frame.
-pub fn delta_form(items: usize, interleave: u8, time: u32, delta: &[u8]) -> Vec<u8> {
-    form(b"ILBM", &[chunk(b"ANHD", &anhd(items, interleave, time)), chunk(b"DLTA", delta)])
+pub fn delta_form(method: Method, interleave: u8, time: u32, delta: &[u8]) -> Vec<u8> {
+    form(b"ILBM", &[chunk(b"ANHD", &anhd(method, interleave, time)), chunk(b"DLTA", delta)])
 }
 
 /// The rows of a frame in BODY's order.
@@ -118,46 +174,56 @@ pub fn ragged_body(random: &mut Random, frame: &[u8], sizes: Sizes) -> Vec<u8> {
     out
 }
 
-/// Any well-formed delta of items of 1, 2 or 4 bytes.
-pub fn random_delta(random: &mut Random, sizes: Sizes, items: usize) -> Vec<u8> {
-    let mut out = vec![0; 64];
+/// Any well-formed delta.
+pub fn random_delta(random: &mut Random, sizes: Sizes, method: Method) -> Vec<u8> {
+    let mut out = vec![0; method.pointers()];
     let values = *random.pick(&[1, 2, 3, 256]);
     let calm = random.from_to(1, 12);
     let mut latest = None;
     for plane in 0..sizes.planes {
         if random.once_in(4) {
-            set_pointer(&mut out, plane + 8, random.below(200) as u32);
+            set_pointers(&mut out, method, plane, (0, random.below(200) as u32));
             continue;
         }
-        if let (true, Some((ops, data))) = (random.once_in(6), latest) {
-            set_pointer(&mut out, plane, ops);
-            set_pointer(&mut out, plane + 8, data);
+        if let (true, Some(places)) = (random.once_in(6), latest) {
+            set_pointers(&mut out, method, plane, places);
             continue;
         }
-        let (ops, data) = random_lists(random, sizes, items, values, calm);
-        if random.once_in(3) {
-            let junk = random.below(5);
-            out.extend(random.bytes(junk));
-        }
+        let (ops, data) = if method.of_words() {
+            (words::random_list(random, method.words(sizes), method.item, values, calm), vec![])
+        } else {
+            random_lists(random, sizes, method.item, values, calm)
+        };
+        junk(random, &mut out);
         let at = out.len() as u32;
         let places = if random.once_in(2) { (at, at + ops.len() as u32) } else { (at + data.len() as u32, at) };
         let parts = if places.0 == at { [ops, data] } else { [data, ops] };
         out.extend(parts.concat());
-        set_pointer(&mut out, plane, places.0);
-        if items > 1 {
-            set_pointer(&mut out, plane + 8, places.1);
-        }
+        set_pointers(&mut out, method, plane, places);
         latest = Some(places);
     }
-    if random.once_in(3) {
-        let junk = random.below(5);
-        out.extend(random.bytes(junk));
-    }
+    junk(random, &mut out);
     out
+}
+
+/// Sometimes puts a few bytes behind all.
+fn junk(random: &mut Random, out: &mut Vec<u8>) {
+    if random.once_in(3) {
+        let length = random.below(5);
+        out.extend(random.bytes(length));
+    }
 }
 
 fn set_pointer(delta: &mut [u8], pointer: usize, place: u32) {
     delta[4 * pointer..4 * pointer + 4].copy_from_slice(&place.to_be_bytes());
+}
+
+/// Sets a plane's pointers to its lists; lists of words have no data list beside them.
+fn set_pointers(delta: &mut [u8], method: Method, plane: usize, (ops, data): (u32, u32)) {
+    set_pointer(delta, plane, ops);
+    if !method.of_words() {
+        set_pointer(delta, plane + 8, data);
+    }
 }
 
 /// The op list and the data list of a plane; the data list is empty for items of one byte.
@@ -193,7 +259,7 @@ fn random_lists(random: &mut Random, sizes: Sizes, items: usize, values: usize, 
 }
 
 /// The delta of items of 2 or 4 bytes that turns the old frame into the new one, for method 7.
-pub fn method_7(old_frame: &[u8], new_frame: &[u8], sizes: Sizes, items: usize) -> Vec<u8> {
+fn method_7(old_frame: &[u8], new_frame: &[u8], sizes: Sizes, items: usize) -> Vec<u8> {
     let mut out = vec![0; 64];
     let row = sizes.row();
     let planes = old_frame.chunks_exact(sizes.plane()).zip(new_frame.chunks_exact(sizes.plane()));
@@ -210,11 +276,17 @@ pub fn method_7(old_frame: &[u8], new_frame: &[u8], sizes: Sizes, items: usize) 
     out
 }
 
-/// The delta of items of 1, 2 or 4 bytes that turns the old frame into the new one.
-pub fn delta_between(old: &[u8], new: &[u8], sizes: Sizes, items: usize) -> Vec<u8> {
-    if items > 1 {
-        return method_7(old, new, sizes, items);
+/// The delta that turns the old frame into the new one.
+pub fn delta_between(old: &[u8], new: &[u8], sizes: Sizes, method: Method) -> Vec<u8> {
+    match method {
+        BYTES => method_5(old, new, sizes),
+        SHORTS | LONGS => method_7(old, new, sizes, method.item),
+        _ => of_words(old, new, sizes, method.item),
     }
+}
+
+/// The delta of method 5 that the writer makes.
+fn method_5(old: &[u8], new: &[u8], sizes: Sizes) -> Vec<u8> {
     let mut out = vec![0; delta_room(sizes)];
     let [w, h, p] = [sizes.width as u64, sizes.height as u64, sizes.planes as u64];
     let length = plain::write_delta(w, h, p, old, new, &mut out).expect("room");
@@ -222,9 +294,36 @@ pub fn delta_between(old: &[u8], new: &[u8], sizes: Sizes, items: usize) -> Vec<
     out
 }
 
-/// The delta of such items that draws a picture on a black one.
-pub fn delta_on_black(picture: &[u8], sizes: Sizes, items: usize) -> Vec<u8> {
-    delta_between(&vec![0; picture.len()], picture, sizes, items)
+/// The delta of words of so many bytes that turns the old frame into the new one, whose bytes that no word reaches must be equal.
+fn of_words(old: &[u8], new: &[u8], sizes: Sizes, item: usize) -> Vec<u8> {
+    let mut out = vec![0; 32];
+    let planes = old.chunks_exact(sizes.plane()).zip(new.chunks_exact(sizes.plane()));
+    for (plane, (old, new)) in planes.enumerate().filter(|(_, (old, new))| old != new) {
+        let at = out.len() as u32;
+        set_pointer(&mut out, plane, at);
+        out.extend(words::list_between(old, new, item));
+    }
+    out
+}
+
+/// Gives a picture those bytes of another that no word of four bytes reaches.
+pub fn keep_rest(from: &[u8], picture: &mut [u8], sizes: Sizes) {
+    let whole = sizes.plane() / 4 * 4;
+    for (from, plane) in from.chunks_exact(sizes.plane()).zip(picture.chunks_exact_mut(sizes.plane())) {
+        plane[whole..].copy_from_slice(&from[whole..]);
+    }
+}
+
+/// Any picture of bytes below a number that each method can draw on a black one.
+pub fn any_picture(random: &mut Random, sizes: Sizes, values: usize) -> Vec<u8> {
+    let mut picture: Vec<u8> = (0..sizes.frame()).map(|_| random.below(values) as u8).collect();
+    keep_rest(&vec![0; sizes.frame()], &mut picture, sizes);
+    picture
+}
+
+/// The delta that draws a picture on a black one.
+pub fn delta_on_black(picture: &[u8], sizes: Sizes, method: Method) -> Vec<u8> {
+    delta_between(&vec![0; picture.len()], picture, sizes, method)
 }
 
 /// Writes a column as Skips, Sames and Uniqs; false if it would need too many ops.
@@ -294,12 +393,19 @@ pub fn damage(random: &mut Random, bytes: &mut Vec<u8>) {
     }
 }
 
-/// Spoils a delta, its pointers more often than the rest.
-pub fn damage_delta(random: &mut Random, delta: &mut Vec<u8>) {
+/// Offsets and counts at the ends of what they can be.
+const WORD_ENDS: [[u8; 2]; 7] = [[0, 0], [0, 1], [127, 255], [128, 0], [255, 253], [255, 254], [255, 255]];
+
+/// Spoils a delta, its pointers more often than the rest, and in lists of words whole offsets and counts too.
+pub fn damage_delta(random: &mut Random, delta: &mut Vec<u8>, method: Method) {
+    let first = method.pointers();
     if random.once_in(3) {
-        let place = *random.pick(&[0, 1, 63, 64, 65, delta.len() - 1, delta.len(), delta.len() + 1, 0xffff_ffff]);
-        let pointer = random.below(16);
+        let place = *random.pick(&[0, 1, first - 1, first, first + 1, delta.len() - 1, delta.len(), delta.len() + 1, 0xffff_ffff]);
+        let pointer = random.below(first / 4);
         set_pointer(delta, pointer, place as u32);
+    } else if method.of_words() && delta.len() > first + 1 && random.once_in(2) {
+        let at = random.from_to(first, delta.len() - 2);
+        delta[at..at + 2].copy_from_slice(&random.pick(&WORD_ENDS)[..]);
     } else {
         damage(random, delta);
     }
@@ -414,11 +520,11 @@ fn later_frame(random: &mut Random, sizes: Sizes, harm: Harm) -> Vec<u8> {
 
 /// ANHD and DLTA, one of them left away if that is the harm; the interleave of a first frame is any byte.
 fn delta_chunks(random: &mut Random, sizes: Sizes, harm: Harm, first: bool) -> Vec<Vec<u8>> {
-    let longs = sizes.row().is_multiple_of(4) || harm == Harm::AnimHeader && random.once_in(3);
-    let items = *random.pick(if longs { &[1, 2, 4] } else { &[1, 2, 1] });
+    let unfit = harm == Harm::AnimHeader && random.once_in(3);
+    let method = if unfit { *random.pick(&METHODS) } else { any_method(random, sizes) };
     let time = random.number() as u32 >> random.below(32);
     let interleave = if first { random.byte() } else { *random.pick(&[0, 1, 2]) };
-    let mut header = anhd(items, interleave, time);
+    let mut header = anhd(method, interleave, time);
     if harm == Harm::AnimHeader {
         match random.below(4) {
             0 => header.truncate(random.below(41)),
@@ -429,9 +535,9 @@ fn delta_chunks(random: &mut Random, sizes: Sizes, harm: Harm, first: bool) -> V
     } else if random.once_in(5) {
         header.push(9);
     }
-    let mut delta = random_delta(random, sizes, items);
+    let mut delta = random_delta(random, sizes, method);
     if harm == Harm::Delta {
-        damage_delta(random, &mut delta);
+        damage_delta(random, &mut delta, method);
     }
     let mut parts = vec![chunk(b"ANHD", &header), chunk(b"DLTA", &delta)];
     if harm == Harm::Missing {

@@ -6,6 +6,7 @@ mod iff;
 mod list;
 mod picture;
 mod record;
+mod words;
 mod writer;
 
 pub use list::list;
@@ -42,6 +43,7 @@ pub enum Refusal {
     BadPointer = 41,
     DeltaTooShort = 42,
     OpPastLastRow = 43,
+    WordPastPlane = 45,
     NoRoom = 51,
     LastFrame = 53,
     BadRecord = 61,
@@ -186,7 +188,7 @@ pub fn step_on(file: &[u8], state: &mut State, a: &mut [u8], b: &mut [u8], work:
         2 if broken("two-as-one-back") => shown,
         _ => hidden,
     };
-    if broken("drawn-before-checked") {
+    if broken("drawn-before-checked") || header.items.are_words() && broken("words-half-drawn") {
         work.copy_from_slice(basis);
         delta::draw(dlta, sizes, header.items, work)?;
     }

@@ -5,8 +5,8 @@
 //! A case is run N times (25 unless said), and for a fifth of a second at least. The table has ratios,
 //! library / plain Rust; with --times microseconds stand beside them.
 //! With --only a case is run if it has all the words: open or step or write, the width, light or heavy or noise,
-//! the items' bytes of the method (1, 2, 4) and one-back or two-back; for opening packed or plain, or delta and the items' bytes.
-use crosscheck::files;
+//! the method's items (1, 2 or 4 bytes, long-words, short-words) and one-back or two-back; for opening packed or plain, or delta and the items.
+use crosscheck::files::{self, Method, BYTES, LONGS, LONG_WORDS, SHORTS, SHORT_WORDS};
 use crosscheck::pair::{delta_room, record_room};
 use crosscheck::plain::{self, Sizes, State};
 use crosscheck::random::Random;
@@ -17,10 +17,32 @@ use std::time::{Duration, Instant};
 const SIZES: [Sizes; 3] =
     [Sizes { width: 320, height: 200, planes: 5 }, Sizes { width: 640, height: 512, planes: 8 }, Sizes { width: 1024, height: 1024, planes: 8 }];
 const CHANGES: [&str; 3] = ["light", "heavy", "noise"];
-/// Methods with the bytes of their items and an interleave.
-const METHODS: [(&str, usize, u8); 4] = [("method 5", 1, 0), ("7 short", 2, 0), ("7 long", 4, 0), ("5, one back", 1, 1)];
-/// Methods of a first picture with the bytes of their items.
-const FIRST_METHODS: [(&str, usize); 3] = [("delta, method 5", 1), ("delta, 7 short", 2), ("delta, 7 long", 4)];
+/// Methods of a later frame, with an interleave.
+const METHODS: [(&str, Method, u8); 6] = [
+    ("method 5", BYTES, 0),
+    ("7 short", SHORTS, 0),
+    ("7 long", LONGS, 0),
+    ("method 2", LONG_WORDS, 0),
+    ("method 3", SHORT_WORDS, 0),
+    ("5, one back", BYTES, 1),
+];
+/// Methods of a first picture.
+const FIRST_METHODS: [(&str, Method); 5] = [
+    ("delta, method 5", BYTES),
+    ("delta, 7 short", SHORTS),
+    ("delta, 7 long", LONGS),
+    ("delta, method 2", LONG_WORDS),
+    ("delta, method 3", SHORT_WORDS),
+];
+
+/// The word of `--only` for a method's items.
+fn items(method: Method) -> String {
+    match method {
+        LONG_WORDS => "long-words".into(),
+        SHORT_WORDS => "short-words".into(),
+        _ => method.item.to_string(),
+    }
+}
 
 /// How long a case is run at least, so that the best times of short calls settle.
 const SETTLED: Duration = Duration::from_millis(200);
@@ -100,9 +122,9 @@ fn next_picture(random: &mut Random, sizes: Sizes, old: &[u8], change: &str) -> 
     new
 }
 
-fn file_of(sizes: Sizes, compression: u8, body: &[u8], later: Option<(usize, u8, &[u8])>) -> Vec<u8> {
+fn file_of(sizes: Sizes, compression: u8, body: &[u8], later: Option<(Method, u8, &[u8])>) -> Vec<u8> {
     let mut parts = vec![files::picture_form(sizes, compression, body)];
-    parts.extend(later.map(|(items, interleave, delta)| files::delta_form(items, interleave, 1, delta)));
+    parts.extend(later.map(|(method, interleave, delta)| files::delta_form(method, interleave, 1, delta)));
     files::form(b"ANIM", &parts)
 }
 
@@ -206,9 +228,9 @@ fn bench_opening(words: &Words, tables: &mut Tables, sizes: Sizes, old: &[u8]) {
         let wanted = words.wants(&["open", &width, kind]);
         line += &cell(words, wanted.then(|| opening(words.turns, &file, sizes)));
     }
-    for (_, items) in FIRST_METHODS {
-        let best = words.wants(&["open", &width, "delta", &items.to_string()]).then(|| {
-            let first = files::first_delta_form(sizes, items, 0, &files::delta_on_black(old, sizes, items));
+    for (_, method) in FIRST_METHODS {
+        let best = words.wants(&["open", &width, "delta", &items(method)]).then(|| {
+            let first = files::first_delta_form(sizes, method, 0, &files::delta_on_black(old, sizes, method));
             opening(words.turns, &files::form(b"ANIM", &[first]), sizes)
         });
         line += &cell(words, best);
@@ -221,11 +243,11 @@ fn bench_change(words: &Words, tables: &mut Tables, sizes: Sizes, old: &[u8], ne
     let body = files::plain_body(old, sizes);
     let start = format!("| {} | {change} |", name(sizes));
     let (mut on_line, mut back_line) = (start.clone(), start.clone());
-    for (_, items, interleave) in METHODS {
+    for (_, method, interleave) in METHODS {
         let back = ["two-back", "one-back"][usize::from(interleave)];
-        let steps = words.wants(&["step", &width, change, &items.to_string(), back]).then(|| {
-            let delta = files::delta_between(old, new, sizes, items);
-            steps(words.turns, &file_of(sizes, 0, &body, Some((items, interleave, &delta))), sizes)
+        let steps = words.wants(&["step", &width, change, &items(method), back]).then(|| {
+            let delta = files::delta_between(old, new, sizes, method);
+            steps(words.turns, &file_of(sizes, 0, &body, Some((method, interleave, &delta))), sizes)
         });
         on_line += &cell(words, steps.map(|s| s.0));
         back_line += &cell(words, steps.map(|s| s.1));
@@ -258,14 +280,14 @@ fn main() {
         }
     }
     println!("Ratios, library / plain Rust{}; below 1 the library is faster.", if words.times { " (microseconds of each)" } else { "" });
-    let methods = METHODS.map(|m| m.0).join(" | ");
-    let first = FIRST_METHODS.map(|m| m.0).join(" | ");
-    table("Opening", &format!("| sizes | ByteRun1 | plain BODY | {first} |\n|---|---|---|---|---|---|"), &tables.open);
-    table("Step on, record included", &format!("| sizes | changes | {methods} |\n|---|---|---|---|---|---|"), &tables.on);
-    table("Step back", &format!("| sizes | changes | {methods} |\n|---|---|---|---|---|---|"), &tables.back);
-    table("Writer", "| sizes | changes | method 5 |\n|---|---|---|", &tables.write);
+    let methods = METHODS.map(|m| m.0);
+    table("Opening", &[&["sizes", "ByteRun1", "plain BODY"][..], &FIRST_METHODS.map(|m| m.0)].concat(), &tables.open);
+    table("Step on, record included", &[&["sizes", "changes"][..], &methods].concat(), &tables.on);
+    table("Step back", &[&["sizes", "changes"][..], &methods].concat(), &tables.back);
+    table("Writer", &["sizes", "changes", "method 5"], &tables.write);
 }
 
-fn table(title: &str, head: &str, lines: &[String]) {
-    println!("\n{title}\n\n{head}\n{}", lines.join("\n"));
+fn table(title: &str, heads: &[&str], lines: &[String]) {
+    let rule = "|---".repeat(heads.len());
+    println!("\n{title}\n\n| {} |\n{rule}|\n{}", heads.join(" | "), lines.join("\n"));
 }

@@ -1,7 +1,7 @@
 //! Makes calls on both sides until they differ or the time is over.
 //!
 //!     check [--seed N] [--seconds N] [--broken NAME] [--names]
-use crosscheck::checks::{calls, damaged, fences, first, interleaves, large, limits, listings, none, orders, records, writer, Check};
+use crosscheck::checks::{calls, damaged, fences, first, interleaves, large, limits, listings, none, orders, records, words, writer, Check};
 use crosscheck::faults;
 use crosscheck::pair::{Checked, Pair};
 use crosscheck::random::Random;
@@ -13,6 +13,7 @@ type Group = (&'static str, fn(&mut Check) -> Checked<()>);
 /// Made once, in this order; the one with the most calls is the last.
 const ONCE: &[Group] = &[
     ("ops of none", none::run),
+    ("lists of words", words::run),
     ("interleaves", interleaves::run),
     ("first pictures given as deltas", first::run),
     ("the outside listings", listings::run),
@@ -21,7 +22,9 @@ const ONCE: &[Group] = &[
     ("every next and end place", limits::places),
     ("files too long", limits::long_file),
     ("things wrong at once: opening", orders::openings),
+    ("things wrong at once: opening by words", orders::word_openings),
     ("things wrong at once: stepping on", orders::steps_on),
+    ("things wrong at once: stepping on by words", orders::word_steps),
     ("things wrong at once: stepping back", orders::steps_back),
     ("things wrong at once: rows", orders::rows),
     ("things wrong at once: the writer", orders::deltas),
@@ -38,11 +41,16 @@ const ONCE: &[Group] = &[
 ];
 
 /// Made in turn until the time is over.
-const AGAIN: &[Group] =
-    &[("files", damaged::any_film), ("deltas", damaged::any_deltas), ("lists of calls", calls::list), ("written deltas", writer::pictures)];
+const AGAIN: &[Group] = &[
+    ("files", damaged::any_film),
+    ("deltas", damaged::any_deltas),
+    ("known pictures", interleaves::any_film),
+    ("lists of calls", calls::list),
+    ("written deltas", writer::pictures),
+];
 
 /// Every number of the rules' table. 44 is retired: it isn't used again.
-const NUMBERS: [u64; 22] = [11, 12, 13, 14, 21, 22, 23, 24, 25, 31, 32, 33, 34, 35, 36, 41, 42, 43, 51, 53, 61, 62];
+const NUMBERS: [u64; 23] = [11, 12, 13, 14, 21, 22, 23, 24, 25, 31, 32, 33, 34, 35, 36, 41, 42, 43, 45, 51, 53, 61, 62];
 
 struct Words {
     seed: u64,

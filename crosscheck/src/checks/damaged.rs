@@ -1,6 +1,6 @@
 //! Damaged files: cut at every byte, every byte changed, harmed in one chunk, and broken at random.
 use super::{play, small_films, Check};
-use crate::files::{self, Harm, HARMS};
+use crate::files::{self, Harm, Method, HARMS, METHODS};
 use crate::pair::Checked;
 use crate::plain::Sizes;
 
@@ -39,30 +39,30 @@ pub fn cut_contents(check: &mut Check) -> Checked<()> {
     let random = &mut check.random;
     let picture: Vec<u8> = (0..sizes.frame()).map(|_| random.below(2) as u8).collect();
     let bodies = [files::plain_body(&picture, sizes), files::packed_body(&picture, sizes), files::ragged_body(random, &picture, sizes)];
-    let deltas = [1, 2, 4].map(|items| files::random_delta(random, sizes, items));
+    let deltas = METHODS.map(|method| files::random_delta(random, sizes, method));
     for (k, body) in bodies.iter().enumerate() {
         for length in 0..=body.len() {
             let first = files::picture_form(sizes, usize::min(k, 1) as u8, &body[..length]);
             play(check, &files::form(b"ANIM", &[first]))?;
         }
     }
-    for (items, delta) in [1, 2, 4].into_iter().zip(&deltas) {
+    for (method, delta) in METHODS.into_iter().zip(&deltas) {
         for length in 0..=delta.len() {
-            play(check, &two_frames(sizes, &bodies[0], items, &delta[..length]))?;
-            play(check, &one_frame(sizes, items, &delta[..length]))?;
+            play(check, &two_frames(sizes, &bodies[0], method, &delta[..length]))?;
+            play(check, &one_frame(sizes, method, &delta[..length]))?;
         }
     }
     Ok(())
 }
 
 /// A file of a plain picture and one delta.
-pub fn two_frames(sizes: Sizes, body: &[u8], items: usize, delta: &[u8]) -> Vec<u8> {
-    files::form(b"ANIM", &[files::picture_form(sizes, 0, body), files::delta_form(items, 0, 1, delta)])
+pub fn two_frames(sizes: Sizes, body: &[u8], method: Method, delta: &[u8]) -> Vec<u8> {
+    files::form(b"ANIM", &[files::picture_form(sizes, 0, body), files::delta_form(method, 0, 1, delta)])
 }
 
 /// A file of a picture that is given as a delta.
-pub fn one_frame(sizes: Sizes, items: usize, delta: &[u8]) -> Vec<u8> {
-    files::form(b"ANIM", &[files::first_delta_form(sizes, items, 0, delta)])
+pub fn one_frame(sizes: Sizes, method: Method, delta: &[u8]) -> Vec<u8> {
+    files::form(b"ANIM", &[files::first_delta_form(sizes, method, 0, delta)])
 }
 
 /// One file, well formed or harmed.
@@ -80,19 +80,19 @@ pub fn any_deltas(check: &mut Check) -> Checked<()> {
     let random = &mut check.random;
     let sizes = files::any_sizes(random);
     let body = random.bytes(sizes.frame());
-    let items = *random.pick(if sizes.row().is_multiple_of(4) { &[1, 2, 4] } else { &[1, 2, 1] });
-    let delta = files::random_delta(random, sizes, items);
-    play(check, &two_frames(sizes, &body, items, &delta))?;
-    play(check, &one_frame(sizes, items, &delta))?;
+    let method = files::any_method(random, sizes);
+    let delta = files::random_delta(random, sizes, method);
+    play(check, &two_frames(sizes, &body, method, &delta))?;
+    play(check, &one_frame(sizes, method, &delta))?;
     for _ in 0..8 {
         let mut spoilt = delta.clone();
         for _ in 0..check.random.from_to(1, 2) {
-            if spoilt.len() > 64 {
-                files::damage_delta(&mut check.random, &mut spoilt);
+            if spoilt.len() > method.pointers() {
+                files::damage_delta(&mut check.random, &mut spoilt, method);
             }
         }
-        play(check, &two_frames(sizes, &body, items, &spoilt))?;
-        play(check, &one_frame(sizes, items, &spoilt))?;
+        play(check, &two_frames(sizes, &body, method, &spoilt))?;
+        play(check, &one_frame(sizes, method, &spoilt))?;
     }
     Ok(())
 }

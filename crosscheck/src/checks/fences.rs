@@ -1,7 +1,8 @@
 //! Calls with every buffer between two pages that may not be touched; a touch stops the program.
+use super::damaged::{one_frame, two_frames};
 use super::Check;
 use crate::fence::{Fenced, Side};
-use crate::files::{self, HARMS};
+use crate::files::{self, HARMS, WORDS};
 use crate::pair::{delta_room, record_room, Checked};
 use crate::plain::{self, Sizes};
 use crate::{cover, library};
@@ -13,9 +14,23 @@ pub fn run(check: &mut Check) -> Checked<()> {
         let harm = *check.random.pick(&HARMS);
         let film = files::film(&mut check.random, sizes, 3, harm);
         play(check, &film, side)?;
+        words(check, sizes, side)?;
         write(check, sizes, side)?;
     }
     Ok(())
+}
+
+/// Lists of words at the very end of a file, in a later frame and in the first, half of them damaged.
+fn words(check: &mut Check, sizes: Sizes, side: Side) -> Checked<()> {
+    let random = &mut check.random;
+    let method = *random.pick(&WORDS);
+    let mut delta = files::random_delta(random, sizes, method);
+    if random.once_in(2) {
+        files::damage_delta(random, &mut delta, method);
+    }
+    let body = random.bytes(sizes.frame());
+    play(check, &two_frames(sizes, &body, method, &delta), side)?;
+    play(check, &one_frame(sizes, method, &delta), side)
 }
 
 /// Opens a file and plays it to its end and back.

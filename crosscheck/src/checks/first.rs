@@ -1,7 +1,7 @@
 //! First pictures that are given as deltas: known ones and black ones, with a BODY beside them, with bad pointers, and with chunks that are
 //! missing or there twice.
 use super::{interleaves, Check};
-use crate::files::{self, chunk};
+use crate::files::{self, chunk, Method, METHODS};
 use crate::pair::{Checked, Player};
 use crate::plain::Sizes;
 use crate::random::Random;
@@ -23,19 +23,19 @@ const ORDERS: usize = 24;
 
 pub fn run(check: &mut Check) -> Checked<()> {
     for sizes in SIZES {
-        for items in [1, 2, 4].into_iter().filter(|items| sizes.row().is_multiple_of(*items)) {
-            let first = First::new(&mut check.random, sizes, items);
+        for method in files::fitting(sizes).filter(|method| method.words(sizes) > 0) {
+            let first = First::new(&mut check.random, sizes, method);
             missing(check, &first)?;
             twice(check, &first)?;
             black(check, &first)?;
-            pointers(check, &first, items)?;
+            pointers(check, &first)?;
         }
     }
-    for items in [1, 2, 4] {
-        let first = First::new(&mut check.random, WIDE, items);
+    for method in METHODS {
+        let first = First::new(&mut check.random, WIDE, method);
         every_byte(check, &first)?;
         beside_body(check, &first)?;
-        films(check, items)?;
+        films(check, method)?;
     }
     Ok(())
 }
@@ -43,6 +43,7 @@ pub fn run(check: &mut Check) -> Checked<()> {
 /// A picture by its chunks' contents; the BODY is that of another picture.
 struct First {
     sizes: Sizes,
+    method: Method,
     picture: Vec<u8>,
     other: Vec<u8>,
     bmhd: Vec<u8>,
@@ -52,14 +53,14 @@ struct First {
 }
 
 impl First {
-    fn new(random: &mut Random, sizes: Sizes, items: usize) -> First {
+    fn new(random: &mut Random, sizes: Sizes, method: Method) -> First {
         let values = *random.pick(&[2, 256]);
-        let mut any = || -> Vec<u8> { (0..sizes.frame()).map(|_| random.below(values) as u8).collect() };
-        let (mut picture, mut other) = (any(), any());
+        let mut picture = files::any_picture(random, sizes, values);
+        let mut other: Vec<u8> = (0..sizes.frame()).map(|_| random.below(values) as u8).collect();
         (picture[0], other[0]) = (1, 0);
-        let (body, dlta) = (files::plain_body(&other, sizes), files::delta_on_black(&picture, sizes, items));
-        let anhd = files::anhd(items, random.byte(), 1);
-        First { sizes, picture, other, bmhd: files::bmhd(sizes, 0), body, anhd, dlta }
+        let (body, dlta) = (files::plain_body(&other, sizes), files::delta_on_black(&picture, sizes, method));
+        let anhd = files::anhd(method, random.byte(), 1);
+        First { sizes, method, picture, other, bmhd: files::bmhd(sizes, 0), body, anhd, dlta }
     }
 
     /// The chunks BMHD, ANHD and DLTA.
@@ -148,19 +149,21 @@ fn twice(check: &mut Check, first: &First) -> Checked<()> {
 /// Deltas that change nothing, with pointers that aren't read and bytes behind them.
 fn black(check: &mut Check, first: &First) -> Checked<()> {
     let zeros = vec![0; first.sizes.frame()];
-    for (read, behind) in [(64, 0), (64, 9), (4 * first.sizes.planes, 0), (4 * first.sizes.planes, 9)] {
+    let all = first.method.pointers();
+    for (read, behind) in [(all, 0), (all, 9), (4 * first.sizes.planes, 0), (4 * first.sizes.planes, 9)] {
         let mut dlta = vec![0; read];
-        dlta.resize(64 + behind, 255);
+        dlta.resize(all + behind, 255);
         first.open(check, &first.with_delta(&dlta), Ok(&zeros))?;
     }
     Ok(())
 }
 
-/// Each of the sixteen pointers to places that no list has; those that aren't read may be any.
-fn pointers(check: &mut Check, first: &First, items: usize) -> Checked<()> {
-    for pointer in 0..16 {
-        let read = pointer % 8 < first.sizes.planes && (pointer < 8 || items > 1);
-        for place in [0, 1, 63, first.dlta.len() + 1, u32::MAX as usize] {
+/// Each of the eight or sixteen pointers to places that no list has; those that aren't read may be any.
+fn pointers(check: &mut Check, first: &First) -> Checked<()> {
+    let all = first.method.pointers();
+    for pointer in 0..all / 4 {
+        let read = pointer % 8 < first.sizes.planes && (pointer < 8 || first.method.number == 7);
+        for place in [0, 1, all - 1, first.dlta.len() + 1, u32::MAX as usize] {
             let mut dlta = first.dlta.clone();
             dlta[4 * pointer..4 * pointer + 4].copy_from_slice(&(place as u32).to_be_bytes());
             if place > 0 || pointer >= 8 {
@@ -172,7 +175,7 @@ fn pointers(check: &mut Check, first: &First, items: usize) -> Checked<()> {
     Ok(())
 }
 
-/// Every masking, compression, method and interleave, and every highest byte of the option bits.
+/// Every masking, compression, method and interleave, and every highest and lowest byte of the option bits.
 fn every_byte(check: &mut Check, first: &First) -> Checked<()> {
     for byte in 0..=255 {
         let mut with = |id: &[u8; 4], at: usize, wanted: Wanted| {
@@ -186,7 +189,10 @@ fn every_byte(check: &mut Check, first: &First) -> Checked<()> {
         with(b"BMHD", 10, if byte > 1 { Err(24) } else { good })?;
         with(b"ANHD", 18, good)?;
         with(b"ANHD", 20, if byte > 0 { Err(35) } else { good })?;
-        if byte != 5 && byte != 7 {
+        if byte > u8::from(first.method.number == 7) {
+            with(b"ANHD", 23, Err(35))?;
+        }
+        if ![2, 3, 5, 7].contains(&byte) {
             with(b"ANHD", 0, Err(33))?;
         }
     }
@@ -202,7 +208,8 @@ fn beside_body(check: &mut Check, first: &First) -> Checked<()> {
     };
     let (anhd, dlta) = (&first.anhd, &first.dlta);
     let headers = [vec![], anhd[..39].to_vec(), anhd.clone(), with(anhd, 0, 0), with(anhd, 18, 3), with(anhd, 20, 1)];
-    let deltas = [vec![], dlta[..63].to_vec(), dlta.clone(), with(dlta, 3, 63), dlta[..dlta.len() - 1].to_vec()];
+    let below = first.method.pointers() - 1;
+    let deltas = [vec![], dlta[..below].to_vec(), dlta.clone(), with(dlta, 3, below as u8), dlta[..dlta.len() - 1].to_vec()];
     for header in &headers {
         for delta in &deltas {
             let chunks = [(b"BMHD", &first.bmhd), (b"BODY", &first.body), (b"ANHD", header), (b"DLTA", delta)];
@@ -216,13 +223,11 @@ fn beside_body(check: &mut Check, first: &First) -> Checked<()> {
 }
 
 /// Films that begin with a delta, with every order of the interleaves 0, 1 and 2 in three later frames.
-fn films(check: &mut Check, items: usize) -> Checked<()> {
+fn films(check: &mut Check, method: Method) -> Checked<()> {
+    let sizes = interleaves::SIZES;
     for number in 0..27 {
-        let interleaves = [number / 9, number / 3 % 3, number % 3];
-        interleaves::known_pictures(check, &interleaves, items, |picture| {
-            let delta = files::delta_on_black(picture, interleaves::SIZES, items);
-            files::first_delta_form(interleaves::SIZES, items, number, &delta)
-        })?;
+        let later = [number / 9, number / 3 % 3, number % 3].map(|interleave| (interleave, method));
+        interleaves::known_pictures(check, sizes, &later, |picture| interleaves::by_delta(sizes, method, number, picture))?;
     }
     Ok(())
 }

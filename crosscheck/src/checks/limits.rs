@@ -2,7 +2,7 @@
 use super::orders::{delta_frames, file_around};
 use super::records::number;
 use super::Check;
-use crate::files::{self, Harm};
+use crate::files::{self, Harm, BYTES, LONG_WORDS};
 use crate::pair::{Checked, Player, Twin};
 use crate::plain::{Sizes, State, MAX_FILE, MAX_FRAME};
 use crate::{cover, library};
@@ -99,10 +99,12 @@ fn stretched(bytes: &[u8], length: usize) -> Vec<u8> {
     bytes.iter().copied().cycle().take(length).collect()
 }
 
-/// Each buffer of each call of each wrong length, in a film that begins with a BODY and in one that begins with a delta.
+/// Each buffer of each call of each wrong length, in a film that begins with a BODY and in films that begin with a delta.
 pub fn lengths(check: &mut Check) -> Checked<()> {
     let sizes = Sizes { width: 16, height: 2, planes: 1 };
-    for film in [super::every_method(&mut check.random, sizes), super::only_deltas(&mut check.random, sizes, 1)] {
+    let random = &mut check.random;
+    let films = [super::every_method(random, sizes), super::only_deltas(random, sizes, BYTES), super::only_deltas(random, sizes, LONG_WORDS)];
+    for film in films {
         lengths_in(check, &film, sizes.frame())?;
     }
     writer_lengths(check)

@@ -25,7 +25,7 @@ fn large(check: &mut Check) -> Checked<()> {
     let sizes = Sizes { width: 1024, height: 128, planes: 1 };
     let higher = Sizes { height: 129, ..sizes };
     let body = files::chunk(b"BODY", &check.random.bytes(sizes.frame()));
-    let [anhd, dlta, empty] = [files::chunk(b"ANHD", &files::anhd(1, 9, 0)), files::chunk(b"DLTA", &[0; 64]), files::chunk(b"ANHD", &[])];
+    let [anhd, dlta, empty] = [files::chunk(b"ANHD", &files::anhd(files::BYTES, 9, 0)), files::chunk(b"DLTA", &[0; 64]), files::chunk(b"ANHD", &[])];
     listed(check, sizes, &[&body], 65_536, "picture 1024x128x1\nend 1\n")?;
     listed(check, sizes, &[&body], 65_537, TOO_LARGE)?;
     listed(check, higher, &[&body], 65_536, TOO_LARGE)?;

@@ -1,6 +1,7 @@
 //! Uniqs and Sames of none in every place of a column.
 use super::damaged::two_frames;
 use super::{play, Check};
+use crate::files::VERTICAL;
 use crate::pair::Checked;
 use crate::plain::Sizes;
 
@@ -31,13 +32,13 @@ pub fn run(check: &mut Check) -> Checked<()> {
 
 /// The list in the first and in the last of two columns of two rows, with items of each width, and with the last item whole, cut and missing.
 fn columns(check: &mut Check, list: &[Op]) -> Checked<()> {
-    for (items, last) in [1, 2, 4].into_iter().flat_map(|items| [(items, false), (items, true)]) {
-        let sizes = Sizes { width: 16 * items, height: 2, planes: 1 };
+    for (method, last) in VERTICAL.into_iter().flat_map(|method| [(method, false), (method, true)]) {
+        let sizes = Sizes { width: 16 * method.item, height: 2, planes: 1 };
         let columns = if last { [&[UNIQ_OF_TWO], list] } else { [list, &[UNIQ_OF_TWO]] };
-        let delta = delta(&columns, items);
+        let delta = delta(&columns, method.item);
         let body = check.random.bytes(sizes.frame());
-        for missing in 0..=items {
-            play(check, &two_frames(sizes, &body, items, &delta[..delta.len() - missing]))?;
+        for missing in 0..=method.item {
+            play(check, &two_frames(sizes, &body, method, &delta[..delta.len() - missing]))?;
         }
     }
     Ok(())

@@ -1,6 +1,6 @@
 //! Every set of things that are wrong at once, so that the order of refusals shows.
 use super::Check;
-use crate::files;
+use crate::files::{self, words, Method, BYTES, LONGS, WORDS};
 use crate::pair::{Checked, Player, Twin};
 use crate::plain::{Sizes, State};
 
@@ -97,9 +97,9 @@ fn delta_chunks(sets: u32) -> Vec<Vec<u8>> {
     each(b"DLTA", (0..sets).map(delta).chain(short))
 }
 
-/// ANHD with each set of its things wrong, and missing.
-fn header_chunks() -> Vec<Vec<u8>> {
-    each(b"ANHD", (0..32).map(header))
+/// ANHD of a method with each set of its things wrong, and missing.
+fn header_chunks(method: Method) -> Vec<Vec<u8>> {
+    each(b"ANHD", (0..32).map(|set| header(method, set)))
 }
 
 /// BMHD good, with masking 1, with compression 2, of width 0, of 19 bytes, and missing.
@@ -113,20 +113,35 @@ fn bmhd_chunks() -> Vec<Vec<u8>> {
     each(b"BMHD", [good.clone(), with(9, 1), with(10, 2), with(1, 0), good[..19].to_vec()].into_iter())
 }
 
-/// FORMs of each choice of one chunk from every list: ILBM and of another type, with a broken chunk behind the others and without.
-fn forms(lists: &[Vec<Vec<u8>>]) -> Vec<Vec<u8>> {
+/// Each choice of one chunk from every list.
+fn choices(lists: &[Vec<Vec<u8>>]) -> Vec<Vec<u8>> {
     let mut choices = vec![vec![]];
-    for chunks in lists.iter().chain([&vec![vec![], BROKEN.to_vec()]]) {
+    for chunks in lists {
         choices = choices.iter().flat_map(|front| chunks.iter().map(|chunk| [&front[..], chunk].concat())).collect();
     }
-    choices.into_iter().flat_map(|chunks| [b"ILBM", b"ILBN"].map(|kind| files::form(kind, std::slice::from_ref(&chunks)))).collect()
+    choices
+}
+
+/// FORMs ILBM of each such choice.
+fn good_forms(lists: &[Vec<Vec<u8>>]) -> Vec<Vec<u8>> {
+    choices(lists).into_iter().map(|chunks| files::form(b"ILBM", &[chunks])).collect()
+}
+
+/// FORMs of each such choice: ILBM and of another type, with a broken chunk behind the others and without.
+fn forms(lists: &[Vec<Vec<u8>>]) -> Vec<Vec<u8>> {
+    let lists = [lists, &[vec![vec![], BROKEN.to_vec()]]].concat();
+    choices(&lists).into_iter().flat_map(|chunks| [b"ILBM", b"ILBN"].map(|kind| files::form(kind, std::slice::from_ref(&chunks)))).collect()
 }
 
 /// First frames that may be given as a delta: each choice of a DLTA, ANHD, BMHD and BODY that is good, bad or missing. The first of them is good.
 pub fn delta_frames() -> Vec<Vec<u8>> {
-    let bodies = each(b"BODY", [4, 3, 0].into_iter().map(|length| vec![1; length]));
     // A Same of none is left out: nothing is wrong with it.
-    forms(&[delta_chunks(8), header_chunks(), bmhd_chunks(), bodies])
+    forms(&[delta_chunks(8), header_chunks(BYTES), bmhd_chunks(), body_chunks()])
+}
+
+/// BODY good, too short, empty, and missing.
+fn body_chunks() -> Vec<Vec<u8>> {
+    each(b"BODY", [4, 3, 0].into_iter().map(|length| vec![1; length]))
 }
 
 /// Opening each such frame with each set of the things wrong around it, and with A alone and B alone too long.
@@ -134,9 +149,26 @@ pub fn delta_openings(check: &mut Check) -> Checked<()> {
     delta_frames().iter().try_for_each(|frame| open_around(check, frame))
 }
 
-/// ANHD with each of its things wrong.
-fn header(set: u32) -> Vec<u8> {
-    let mut header = files::anhd(if has(set, 0) { 4 } else { 1 }, 0, 1);
+/// Opening each first frame of words: each choice of some of the DLTAs, and of ANHD, BMHD and BODY, and each DLTA with each ANHD.
+pub fn word_openings(check: &mut Check) -> Checked<()> {
+    let lengths = [&LENGTHS[..], &ALONE].concat();
+    for method in WORDS {
+        let some = forms(&[some_words(method), header_chunks(method), bmhd_chunks(), body_chunks()]);
+        let good_bmhd = vec![files::chunk(b"BMHD", &files::bmhd(SIZES, 0))];
+        let all = good_forms(&[all_words(method), header_chunks(method), good_bmhd]);
+        for frame in some.iter().chain(&all) {
+            open_each(check, &file_around(frame, 0), &lengths)?;
+        }
+    }
+    Ok(())
+}
+
+/// ANHD with each of its things wrong. The first is long data, for which the rows are too narrow, or for a method of words the bit that says so.
+fn header(method: Method, set: u32) -> Vec<u8> {
+    let mut header = files::anhd(if has(set, 0) && method == BYTES { LONGS } else { method }, 0, 1);
+    if has(set, 0) {
+        header[23] = 1;
+    }
     if has(set, 1) {
         header[20] = 1;
     }
@@ -171,15 +203,59 @@ fn delta(set: u32) -> Vec<u8> {
     delta
 }
 
-/// Stepping on to each choice of a DLTA and ANHD that is good, bad or missing, with each set of five things wrong around it.
-pub fn steps_on(check: &mut Check) -> Checked<()> {
-    for frame in forms(&[delta_chunks(16), header_chunks()]) {
-        let file = files::form(b"ANIM", &[first_frame(0), frame]);
-        for set in 0..1 << 5 {
-            step_around(check, &file, set)?;
+/// A DLTA with a list of words for the picture's only plane.
+fn words_at(pointer: u8, list: &[u8]) -> Vec<u8> {
+    let mut delta = vec![0; 32];
+    delta[3] = pointer;
+    delta.extend_from_slice(list);
+    delta
+}
+
+/// DLTA of words good and in each way bad: of an op and an end the offset, the count, a word or the end missing, the move or the run beyond the plane,
+/// and a pointer into the pointers; of 31 bytes, empty, and missing.
+fn some_words(method: Method) -> Vec<Vec<u8>> {
+    let (many, item) = (method.words(SIZES), method.item);
+    let good = [&words::run_head(0, 1)[..], &vec![7; item], &words::END].concat();
+    let beyond = words::run_head(many, 0);
+    let passing = words::run_head(0, many + 1);
+    let lists = [&good, &good[..4 + item], &good[..3 + item], &good[..3], &good[..1], &beyond, &beyond[..2], &passing];
+    let deltas = lists.into_iter().map(|list| words_at(32, list)).chain([words_at(31, &good), words_at(31, &beyond)]);
+    each(b"DLTA", deltas.chain([vec![0; 31], vec![]]))
+}
+
+/// DLTA of words with each set of a pointer into the pointers, a move beyond the plane and a run past its last word, for one word and for a run,
+/// whole and cut at each byte of the list; of 31 bytes, empty, and missing.
+fn all_words(method: Method) -> Vec<Vec<u8>> {
+    let mut deltas = vec![];
+    let many = method.words(SIZES);
+    for by in [0, many] {
+        let heads = [(words::word_head(by).to_vec(), 1), (words::run_head(by, 1).to_vec(), 1), (words::run_head(by, many + 1).to_vec(), many + 1)];
+        for (head, count) in heads {
+            let list = [head, vec![7; count * method.item], words::END.to_vec()].concat();
+            deltas.extend((0..=list.len()).flat_map(|length| [32, 31].map(|pointer| words_at(pointer, &list[..length]))));
         }
     }
+    each(b"DLTA", deltas.into_iter().chain([vec![0; 31], vec![]]))
+}
+
+/// Stepping on to each choice of a DLTA and ANHD that is good, bad or missing, with each set of five things wrong around it.
+pub fn steps_on(check: &mut Check) -> Checked<()> {
+    forms(&[delta_chunks(16), header_chunks(BYTES)]).iter().try_for_each(|frame| steps_around(check, frame))
+}
+
+/// Stepping on to each choice of a DLTA of words and ANHD, in the same way.
+pub fn word_steps(check: &mut Check) -> Checked<()> {
+    for method in WORDS {
+        forms(&[some_words(method), header_chunks(method)]).iter().try_for_each(|frame| steps_around(check, frame))?;
+        good_forms(&[all_words(method), header_chunks(method)]).iter().try_for_each(|frame| steps_around(check, frame))?;
+    }
     Ok(())
+}
+
+/// Steps on to this frame with each set of five things wrong around it.
+fn steps_around(check: &mut Check, frame: &[u8]) -> Checked<()> {
+    let file = files::form(b"ANIM", &[first_frame(0), frame.to_vec()]);
+    (0..1 << 5).try_for_each(|set| step_around(check, &file, set))
 }
 
 /// Steps on to a file's second frame with a set of things wrong: the frame number, the end place, the frames' lengths, the record's and the report's.

@@ -47,7 +47,7 @@ pub fn write(check: &mut Check, sizes: Sizes, old: &[u8], new: &[u8]) -> Checked
 
 /// A step with the delta leads from the old picture to the new one.
 fn turns_into(check: &mut Check, sizes: Sizes, old: &[u8], new: &[u8], delta: &[u8]) -> Checked<()> {
-    let file = two_frames(sizes, &files::plain_body(old, sizes), 1, delta);
+    let file = two_frames(sizes, &files::plain_body(old, sizes), files::BYTES, delta);
     let mut player = Player::fitting(&mut check.random, &file);
     player.open(&mut check.pair)?;
     player.step_on(&mut check.pair)?;

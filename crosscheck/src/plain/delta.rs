@@ -1,5 +1,5 @@
-//! ANHD and the deltas of methods 5 and 7.
-use super::{be32, iff, need, Answer, Refusal, Refusal::*, Sizes};
+//! ANHD, the deltas of methods 5 and 7, and which deltas are of words.
+use super::{be32, iff, need, words, Answer, Refusal, Refusal::*, Sizes};
 use crate::faults::broken;
 
 /// What the items of a delta are.
@@ -11,6 +11,31 @@ pub enum Items {
     Shorts,
     /// Method 7, long: four bytes each, in a data list.
     Longs,
+    /// Method 2: words of four bytes that follow their offsets.
+    LongWords,
+    /// Method 3: words of two bytes that follow their offsets.
+    ShortWords,
+}
+
+impl Items {
+    /// What the items of a method with such option bits are.
+    fn of(method: u8, bits: u64) -> Items {
+        match (method, bits) {
+            (2, _) if broken("method-2-short") => Items::ShortWords,
+            (3, _) if broken("method-3-long") => Items::LongWords,
+            (4, _) if broken("method-4-taken") => Items::LongWords,
+            (2, _) => Items::LongWords,
+            (3, _) => Items::ShortWords,
+            (7, 0) => Items::Shorts,
+            (7, _) => Items::Longs,
+            _ => Items::Bytes,
+        }
+    }
+
+    /// Whether they are words, as in methods 2 and 3.
+    pub fn are_words(self) -> bool {
+        matches!(self, Items::LongWords | Items::ShortWords)
+    }
 }
 
 /// What ANHD says of a frame.
@@ -26,21 +51,18 @@ impl Header {
     /// Reads ANHD; the interleave of a first frame isn't looked at.
     pub fn read(anhd: &[u8], sizes: Sizes, first: bool) -> Answer<Header> {
         if broken("method-before-length") {
-            need(anhd.first().is_none_or(|&method| method == 5 || method == 7), UnknownMethod)?;
+            need(anhd.first().is_none_or(|&method| method_read(method, first)), UnknownMethod)?;
         }
         need(anhd.len() >= 40, ShortAnhd)?;
         need(anhd.len() == 40 || !broken("anhd-exactly"), ShortAnhd)?;
         let (method, interleave, bits) = (anhd[0], anhd[18], be32(&anhd[20..]));
+        let items = Items::of(method, bits);
         need(method_read(method, first), UnknownMethod)?;
-        need(interleave_read(interleave) || first && !broken("first-interleave-asked"), UnknownInterleave)?;
-        need(bits == 0 || method == 7 && bits == 1 || first && broken("first-options-free"), UnknownOptions)?;
-        let items = match (method, bits) {
-            (7, 0) => Items::Shorts,
-            (7, _) => Items::Longs,
-            _ => Items::Bytes,
-        };
+        need(interleave_read(interleave) || !interleave_asked(items, first), UnknownInterleave)?;
+        need(bits == 0 || bits_read(items, bits, first), UnknownOptions)?;
         let whole = sizes.row().is_multiple_of(4) || first && broken("first-odd-columns");
-        need(items != Items::Longs || whole, OddLongColumns)?;
+        let in_fours = items == Items::Longs || items == Items::LongWords && broken("words-odd-columns-refused");
+        need(!in_fours || whole, OddLongColumns)?;
         Ok(Header { method: u64::from(method), time: be32(&anhd[14..]), interleave, items })
     }
 }
@@ -49,10 +71,32 @@ impl Header {
 fn method_read(method: u8, first: bool) -> bool {
     match method {
         0 => first && broken("first-method-0-taken"),
+        2 => !(first && broken("first-method-2-refused")),
+        3 => !(first && broken("first-method-3-refused")),
+        4 => broken("method-4-taken"),
         5 => !(first && broken("first-method-5-refused")),
         7 => !(first && broken("first-method-7-refused")),
         _ => false,
     }
+}
+
+/// Whether these option bits may be set: bit 0 of method 7, for long data.
+fn bits_read(items: Items, bits: u64, first: bool) -> bool {
+    match items {
+        Items::Shorts | Items::Longs if bits == 1 => true,
+        Items::LongWords if bits == 1 && broken("words-long-bit") => true,
+        _ if items.are_words() && broken("words-options-free") => true,
+        _ if items.are_words() && first && broken("first-words-options-free") => true,
+        _ => first && broken("first-options-free"),
+    }
+}
+
+/// Whether the interleave is asked for: not in a first frame.
+fn interleave_asked(items: Items, first: bool) -> bool {
+    if items.are_words() && broken(if first { "first-words-interleave-asked" } else { "words-interleave-free" }) {
+        return first;
+    }
+    !first || broken("first-interleave-asked")
 }
 
 /// Whether a later frame may have this interleave.
@@ -76,9 +120,9 @@ pub fn find(frame: &[u8], sizes: Sizes) -> Answer<(Header, &[u8])> {
     Ok((header, dlta))
 }
 
-/// The refusal, or 41 if this fault is chosen and DLTA is under 64 bytes, as if its length were asked for before.
+/// The refusal, or 41 if this fault is chosen and DLTA is under 32 bytes, too short for every method, as if its length were asked for before.
 pub fn length_first(dlta: &[u8], refusal: Refusal, fault: &str) -> Refusal {
-    if dlta.len() < 64 && broken(fault) {
+    if dlta.len() < 32 && broken(fault) {
         BadPointer
     } else {
         refusal
@@ -91,6 +135,8 @@ pub fn check(dlta: &[u8], sizes: Sizes, items: Items) -> Answer<()> {
         Items::Bytes => walk::<1>(dlta, sizes, |_| ()),
         Items::Shorts => walk::<2>(dlta, sizes, |_| ()),
         Items::Longs => walk::<4>(dlta, sizes, |_| ()),
+        Items::LongWords => words::check::<4>(dlta, sizes),
+        Items::ShortWords => words::check::<2>(dlta, sizes),
     }
 }
 
@@ -100,6 +146,8 @@ pub fn draw(dlta: &[u8], sizes: Sizes, items: Items, frame: &mut [u8]) -> Answer
         Items::Bytes => draw_items::<1>(dlta, sizes, frame),
         Items::Shorts => draw_items::<2>(dlta, sizes, frame),
         Items::Longs => draw_items::<4>(dlta, sizes, frame),
+        Items::LongWords => words::draw::<4>(dlta, sizes, frame),
+        Items::ShortWords => words::draw::<2>(dlta, sizes, frame),
     }
 }
 
@@ -128,7 +176,7 @@ fn draw_items<const W: usize>(dlta: &[u8], sizes: Sizes, frame: &mut [u8]) -> An
     })
 }
 
-/// Walks every list of a delta of items of W bytes.
+/// Walks every list of a vertical delta of items of W bytes.
 fn walk<'a, const W: usize>(dlta: &'a [u8], sizes: Sizes, mut put: impl FnMut(Put<'a>)) -> Answer<()> {
     need(dlta.len() >= 64, BadPointer)?;
     for plane in 0..sizes.planes {
@@ -226,7 +274,7 @@ fn take_byte(list: &mut &[u8]) -> Answer<u8> {
 }
 
 /// Takes some bytes off the front.
-fn take<'a>(list: &mut &'a [u8], count: usize) -> Answer<&'a [u8]> {
+pub fn take<'a>(list: &mut &'a [u8], count: usize) -> Answer<&'a [u8]> {
     need(count <= list.len(), DeltaTooShort)?;
     let (first, rest) = list.split_at(count);
     *list = rest;

@@ -13,7 +13,7 @@ enum Given<'a> {
 }
 
 impl Given<'_> {
-    /// The refusal, or 41 if this fault is chosen and there is a delta under 64 bytes.
+    /// The refusal, or 41 if this fault is chosen and there is a delta under 32 bytes.
     fn length_first(&self, refusal: Refusal, fault: &str) -> Refusal {
         match self {
             Given::Body(_) => refusal,
@@ -131,7 +131,7 @@ impl First<'_> {
         if broken("first-black-early") {
             frame.fill(0);
         }
-        if !broken("first-half-drawn") {
+        if !(broken("first-half-drawn") || header.items.are_words() && broken("first-words-half-drawn")) {
             delta::check(dlta, self.sizes, header.items)?;
         }
         if !broken("first-on-buffer") {

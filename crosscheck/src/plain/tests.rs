@@ -1,4 +1,4 @@
-//! The bench examples of document 01 that are about parts, ops of none, first pictures given as deltas, and the outside listings.
+//! The bench examples of document 01 that are about parts, ops of none, first pictures given as deltas, lists of words, and the outside listings.
 use super::delta::{check, draw, Items};
 use super::*;
 use crate::files;
@@ -117,7 +117,7 @@ fn opened(chunks: &[Part]) -> Answer<[u8; 4]> {
 
 #[test]
 fn first_pictures_given_as_deltas() {
-    let (anhd, dlta) = (files::anhd(1, 77, 0), delta_of(&[1, 0x82, 0xaa, 0xbb, 0]));
+    let (anhd, dlta) = (files::anhd(files::BYTES, 77, 0), delta_of(&[1, 0x82, 0xaa, 0xbb, 0]));
     let [anhd, dlta]: [Part; 2] = [(b"ANHD", &anhd), (b"DLTA", &dlta)];
     let [short, body]: [Part; 2] = [(b"ANHD", &[5; 39]), (b"BODY", &[1, 2, 3, 4])];
     assert_eq!(opened(&[anhd, dlta]), Ok([0xaa, 0, 0xbb, 0]));
@@ -129,11 +129,90 @@ fn first_pictures_given_as_deltas() {
     assert_eq!(opened(&[anhd, (b"DLTA", &dlta.1[..68])]), Err(DeltaTooShort));
 }
 
+/// A delta of words with lists for its planes, the first at 32.
+fn words_of(lists: &[&[u16]]) -> Vec<u8> {
+    let mut dlta = vec![0; 32];
+    for (plane, list) in lists.iter().enumerate() {
+        dlta[4 * plane + 3] = dlta.len() as u8;
+        dlta.extend(list.iter().flat_map(|word| word.to_be_bytes()));
+    }
+    dlta
+}
+
+/// What a delta of words makes of a black picture.
+fn words_drawn(dlta: &[u8], sizes: Sizes, items: Items) -> Answer<Vec<u8>> {
+    let mut frame = vec![0; sizes.frame()];
+    check(dlta, sizes, items)?;
+    draw(dlta, sizes, items, &mut frame)?;
+    Ok(frame)
+}
+
+/// The words of a picture of one column that such a list of short words gives.
+fn short_words(height: usize, list: &[u16]) -> Answer<Vec<u16>> {
+    let frame = words_drawn(&words_of(&[list]), Sizes { width: 16, height, planes: 1 }, Items::ShortWords)?;
+    Ok(frame.chunks_exact(2).map(|word| u16::from_be_bytes([word[0], word[1]])).collect())
+}
+
+const END: u16 = 0xffff;
+/// The offset of a run that moves on by none.
+const HERE: u16 = 0xfffe;
+
+#[test]
+fn lists_of_short_words() {
+    assert_eq!(short_words(3, &[END]), Ok(vec![0; 3]));
+    assert_eq!(short_words(3, &[1, 7, 1, 8, END]), Ok(vec![0, 7, 8]));
+    assert_eq!(short_words(3, &[2, 7, 0, 8, END]), Ok(vec![0, 0, 8]));
+    assert_eq!(short_words(3, &[HERE - 1, 2, 7, 8, 0, 9, END]), Ok(vec![0, 7, 9]));
+    assert_eq!(short_words(3, &[HERE, 3, 5, 6, 7, HERE, 1, 8, END]), Ok(vec![5, 6, 8]));
+    assert_eq!(short_words(3, &[HERE - 2, 0, 0, 7, END]), Ok(vec![0, 0, 7]));
+    assert_eq!(short_words(3, &[HERE - 2, 0, 1, 7, END]), Err(WordPastPlane));
+}
+
+#[test]
+fn order_in_an_op_of_words() {
+    assert_eq!(short_words(3, &[]), Err(DeltaTooShort));
+    assert_eq!(short_words(3, &[0, 7]), Err(DeltaTooShort));
+    assert_eq!(short_words(3, &[3]), Err(WordPastPlane));
+    assert_eq!(short_words(3, &[2]), Err(DeltaTooShort));
+    assert_eq!(short_words(3, &[HERE - 3]), Err(WordPastPlane));
+    assert_eq!(short_words(3, &[HERE - 3, 0, END]), Err(WordPastPlane));
+    assert_eq!(short_words(3, &[HERE - 2]), Err(DeltaTooShort));
+    assert_eq!(short_words(3, &[HERE - 2, 2]), Err(WordPastPlane));
+    assert_eq!(short_words(3, &[HERE - 2, 1]), Err(DeltaTooShort));
+    assert_eq!(short_words(3, &[HERE, 65_535]), Err(WordPastPlane));
+}
+
+#[test]
+fn lists_of_long_words() {
+    let long = |sizes, list: &[u16]| words_drawn(&words_of(&[list]), sizes, Items::LongWords);
+    let [none, rest] = [1, 3].map(|height| Sizes { width: 16, height, planes: 1 });
+    assert_eq!(long(rest, &[0, 0x102, 0x304, END]), Ok(vec![1, 2, 3, 4, 0, 0]));
+    assert_eq!(long(rest, &[1, 0x102, 0x304, END]), Err(WordPastPlane));
+    assert_eq!(long(rest, &[HERE, 2, 1, 2, 3, 4, END]), Err(WordPastPlane));
+    assert_eq!(long(none, &[END]), Ok(vec![0; 2]));
+    assert_eq!(long(none, &[0, 1, 2, END]), Err(WordPastPlane));
+    assert_eq!(long(none, &[HERE, 0, END]), Err(WordPastPlane));
+}
+
+#[test]
+fn planes_of_words() {
+    let sizes = Sizes { width: 16, height: 2, planes: 3 };
+    let mut dlta = words_of(&[&[1, 0x102, END], &[END], &[HERE, 1, 0x304, END]]);
+    assert_eq!(words_drawn(&dlta, sizes, Items::ShortWords), Ok(vec![0, 0, 1, 2, 0, 0, 0, 0, 3, 4, 0, 0]));
+    dlta[7] = 32;
+    dlta[11] = 0;
+    assert_eq!(words_drawn(&dlta, sizes, Items::ShortWords), Ok(vec![0, 0, 1, 2, 0, 0, 1, 2, 0, 0, 0, 0]));
+    dlta[11] = 31;
+    assert_eq!(words_drawn(&dlta, sizes, Items::ShortWords), Err(BadPointer));
+    assert_eq!(words_drawn(&[0; 32], sizes, Items::LongWords), Ok(vec![0; 12]));
+    assert_eq!(words_drawn(&[0; 31], sizes, Items::LongWords), Err(BadPointer));
+}
+
 #[test]
 fn outside_listings() {
     let vectors = crate::vectors::all().unwrap();
     for vector in &vectors {
         assert_eq!(list(&vector.file), vector.listing, "{}", vector.name);
     }
-    assert_eq!(vectors.len(), 124);
+    assert_eq!(vectors.len(), 146);
 }
