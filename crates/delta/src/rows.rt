@@ -1,6 +1,6 @@
 // The rows of an op, columns' or words': drawn where that is asked for.
 ghost use mathlib.Core.Path.{_≡_};
-ghost use Prim.Native.Nat.{_+_, _*_, _≤_};
+ghost use Prim.Native.Nat.{_+_, _≤_};
 ghost use lib.ListN.{length, take, drop};
 ghost use lib.Seq.{sets};
 ghost use Rattle.delta.specs.Walk.{Width, Column, Down, ItemsIn, Lies, drawnRows, Drawn};
