@@ -13,7 +13,7 @@ use Rattle.anhd.specs.declared.Items.{Items}
 use Rattle.anhd.specs.declared.Items.the-variants.{Bytes, Shorts, Longs, ShortWords, LongWords}
 use Rattle.anhd.specs.declared.FrameHeader.{FrameHeader}
 use Rattle.anhd.specs.declared.Anhd.{Anhd}
-use Rattle.anhd.specs.declared.Anhd.the-variants.{Header, Unread}
+use Rattle.anhd.specs.declared.Anhd.the-variants.{Header, Refused}
 
 -- the methods that are read
 abbrev pub methodOk : ℕ → Bool
@@ -52,4 +52,4 @@ frameHeader first B s =
 -- what an answer says in the paper's terms
 abbrev pub anhdOf : Anhd → Res FrameHeader
 anhdOf (Header h) = ok h
-anhdOf (Unread why) = fault (numberOf why)
+anhdOf (Refused why) = fault (numberOf why)

@@ -1,2 +1,1 @@
 pub mod Anhd
-pub mod AnhdLaws

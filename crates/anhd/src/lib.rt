@@ -26,7 +26,7 @@ pub struct FrameHeader {
 // A frame's header, or why there is none.
 pub enum Anhd {
     Header(FrameHeader),
-    Unread(Refusal),
+    Refused(Refusal),
 }
 
 // Whether a method is read.
@@ -94,23 +94,23 @@ pub fn read_header(first: bool, row: usize, s: &[u8]) -> Anhd
     ensures { λ r. ⌜ anhdOf r ≡ frameHeader first row (now (s .entry)) ⌝ }
 {
     if s.len() < 40 {
-        return Anhd::Unread(Refusal::ShortAnhd);
+        return Anhd::Refused(Refusal::ShortAnhd);
     }
     let method = byte(s, 0);
     if !method_ok(method) {
-        return Anhd::Unread(Refusal::UnknownMethod);
+        return Anhd::Refused(Refusal::UnknownMethod);
     }
     let interleave = byte(s, 18);
     if !interleave_ok(first, interleave) {
-        return Anhd::Unread(Refusal::UnknownInterleave);
+        return Anhd::Refused(Refusal::UnknownInterleave);
     }
     let bits = number32(s, 20);
     if !bits_ok(method, bits) {
-        return Anhd::Unread(Refusal::UnknownOptions);
+        return Anhd::Refused(Refusal::UnknownOptions);
     }
     let items = items_of(method, bits);
     if !columns_ok(items, row) {
-        return Anhd::Unread(Refusal::OddLongColumns);
+        return Anhd::Refused(Refusal::OddLongColumns);
     }
     Anhd::Header(FrameHeader {
         method,

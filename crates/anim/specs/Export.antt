@@ -13,15 +13,15 @@ use Rattle.laws.specs.Result.{Res, Res.ok, Res.fault, pick}
 use Rattle.state.specs.declared.State.{State}
 use Rattle.state.specs.declared.Sizes.{Sizes}
 use Rattle.state.specs.Film.{Film}
-use Rattle.opening.specs.Open.{firstSize, opening, stateAfter, pictureAfter}
-use Rattle.player.specs.declared.SteppedOn.{SteppedOn}
+use Rattle.opening.specs.Open.{firstSize, opening, worldOpened}
+use Rattle.step_on.specs.declared.SteppedOn.{SteppedOn}
 use Rattle.state.specs.World.{World}
-use Rattle.state.specs.Outcome.{Answer, Answer.refused, Answer.ended, Answer.tookOn, Answer.tookBack, After}
-use Rattle.player.specs.Step.{stepOn, onOf, workAfter}
-use Rattle.back.specs.Back.{stepBack}
+use Rattle.state.specs.After.{Answer, Answer.refused, Answer.ended, Answer.tookOn, Answer.tookBack, After, kept, workAfter}
+use Rattle.step_on.specs.Step.{stepOn, onOf}
+use Rattle.step_back.specs.Back.{stepBack}
 use Rattle.shown.specs.Row.{rowPlace}
 use Rattle.writer.specs.Write.{deltaBytes, written, bufferAfter}
-use Rattle.words.specs.Words.{stateIn, stateWords, lay}
+use Rattle.words.specs.Words.{stateIn, stateWords, reportWords, lay}
 
 -- 0 where there is a value, otherwise the refusal's number
 abbrev pub numberOr : {A : Type 0} → Res A → ℕ
@@ -32,17 +32,29 @@ numberOr (fault n) = n
 abbrev pub sized : {A : Type 0} → Bool → Res A → Res A
 sized t q = pick t q (fault 11)
 
--- opening that comes to q and answers the state s
-pub record LeavesOpenC (q : Res Film) (s : State) (state a b : List ℕ) (r : ℕ) (state′ a′ b′ : List ℕ) : Type 0 where
+-- both pictures and the state as C lends them and gets them back: the state as its bytes
+pub record WorldC : Type 0 where
+  pub state : List ℕ
+  pub a : List ℕ
+  pub b : List ℕ
+
+-- the same as a world
+abbrev pub worldIn : WorldC → World
+worldIn w = record { a = w .a; b = w .b; state = stateIn (w .state) }
+
+-- what an opening that comes to q leaves
+abbrev pub openedC : WorldC → Res Film → WorldC
+openedC w q =
+    let o : World = worldOpened (w .a) (w .b) q in
+    record { state = lay (stateWords (o .state)) (w .state); a = o .a; b = o .b }
+
+pub record LeavesOpenC (q : Res Film) (w : WorldC) (r : ℕ) (w′ : WorldC) : Type 0 where
   pub answer : r ≡ numberOr q
-  pub stateOut : state′ ≡ lay (stateWords s) state
-  pub left : a′ ≡ pictureAfter a q
-  pub right : b′ ≡ pictureAfter b q
+  pub left : w′ ≡ openedC w q
 
 -- the contract of `anim_open`
-abbrev pub OpensC : (file state a b : List ℕ) (r : ℕ) (state′ a′ b′ : List ℕ) → Type 0
-OpensC file state a b r state′ a′ b′ =
-    LeavesOpenC (sized (eqb (length state) 48) (opening file (length a) (length b))) (stateAfter (opening file (length a) (length b))) state a b r state′ a′ b′
+abbrev pub OpensC : (file : List ℕ) (w : WorldC) (r : ℕ) (w′ : WorldC) → Type 0
+OpensC file w r w′ = LeavesOpenC (sized (eqb (length (w .state)) 48) (opening file (length (w .a)) (length (w .b)))) w r w′
 
 -- a step's answer: 0 taken, 1 End, otherwise the refusal's number
 abbrev pub answerNumber : Answer → ℕ
@@ -61,16 +73,12 @@ stateLeft tookBack s out = lay (stateWords s) out
 abbrev pub reportLeft : Answer → List ℕ → List ℕ
 reportLeft (refused n) out = out
 reportLeft ended out = out
-reportLeft (tookOn r) out = lay (r .method ∷ r .time ∷ r .changed ∷ r .length ∷ []) out
+reportLeft (tookOn r) out = lay (reportWords r) out
 reportLeft tookBack out = out
 
--- what a step leaves, or 11 for a slice of a wrong length
+-- what a step comes to, or 11 for a slice of a wrong length
 abbrev pub sizedStep : Bool → World → After → After
-sizedStep t w o = pick t o (record { answer = refused 11; world = w; bytes = []; work = none })
-
--- both pictures, and the state in its slice
-abbrev pub worldIn : List ℕ → List ℕ → List ℕ → World
-worldIn state a b = record { a = a; b = b; state = stateIn state }
+sizedStep t w o = pick t o (kept w (refused 11) none)
 
 -- what is handed over of a step on
 pub record HandsOn (o : SteppedOn) (state report : List ℕ) (r : ℕ) (state′ report′ : List ℕ) : Type 0 where
@@ -78,39 +86,53 @@ pub record HandsOn (o : SteppedOn) (state report : List ℕ) (r : ℕ) (state′
   pub stateOut : state′ ≡ stateLeft (onOf (o .answer)) (o .state) state
   pub reportOut : report′ ≡ reportLeft (onOf (o .answer)) report
 
--- what stepping on comes to, by the state in its slice, with buffers for work, record and report of these lengths
-abbrev pub onC : (file state a b : List ℕ) (work rec report : ℕ) → After
-onC file state a b work rec report = sizedStep (eqb (length state) 48 && eqb report 32) (worldIn state a b) (stepOn file (worldIn state a b) work rec)
+-- what C lends to a step on besides the file: both pictures and the state, the work buffer, the record buffer and the report's bytes
+pub record LentC : Type 0 where
+  pub world : WorldC
+  pub work : List ℕ
+  pub rec : List ℕ
+  pub report : List ℕ
+
+-- both pictures and the state after a step that comes to o
+abbrev pub steppedC : WorldC → After → WorldC
+steppedC w o = record { state = stateLeft (o .answer) (o .world .state) (w .state); a = o .world .a; b = o .world .b }
+
+-- the same with the work buffer, the record buffer and the report's bytes
+abbrev pub leftC : LentC → After → LentC
+leftC l o = record {
+  world = steppedC (l .world) o;
+  work = workAfter (l .work) (o .work);
+  rec = o .bytes ++ drop (length (o .bytes)) (l .rec);
+  report = reportLeft (o .answer) (l .report);
+}
+
+-- what stepping on comes to, by the state in its slice
+abbrev pub onC : List ℕ → LentC → After
+onC file l =
+    sizedStep (eqb (length (l .world .state)) 48 && eqb (length (l .report)) 32) (worldIn (l .world))
+    (stepOn file (worldIn (l .world)) (length (l .work)) (length (l .rec)))
 
 -- stepping on that comes to o
-pub record LeavesOnC (o : After) (state work rec report : List ℕ) (r : ℕ) (state′ a′ b′ work′ rec′ report′ : List ℕ) : Type 0 where
+pub record LeavesOnC (o : After) (l : LentC) (r : ℕ) (l′ : LentC) : Type 0 where
   pub answer : r ≡ answerNumber (o .answer)
-  pub stateOut : state′ ≡ stateLeft (o .answer) (o .world .state) state
-  pub left : a′ ≡ o .world .a
-  pub right : b′ ≡ o .world .b
-  pub drawn : work′ ≡ workAfter work (o .work)
-  pub written : rec′ ≡ o .bytes ++ drop (length (o .bytes)) rec
-  pub reportOut : report′ ≡ reportLeft (o .answer) report
+  pub left : l′ ≡ leftC l o
 
 -- the contract of `anim_step_on`
-abbrev pub StepsOnC : (file state a b work rec report : List ℕ) (r : ℕ) (state′ a′ b′ work′ rec′ report′ : List ℕ) → Type 0
-StepsOnC file state a b work rec report r state′ a′ b′ work′ rec′ report′ =
-    LeavesOnC (onC file state a b (length work) (length rec) (length report)) state work rec report r state′ a′ b′ work′ rec′ report′
+abbrev pub StepsOnC : (file : List ℕ) (l : LentC) (r : ℕ) (l′ : LentC) → Type 0
+StepsOnC file l r l′ = LeavesOnC (onC file l) l r l′
 
 -- what stepping back comes to, by the state in its slice
-abbrev pub backC : (state a b rec : List ℕ) → After
-backC state a b rec = sizedStep (eqb (length state) 48) (worldIn state a b) (stepBack (worldIn state a b) rec)
+abbrev pub backC : WorldC → List ℕ → After
+backC w rec = sizedStep (eqb (length (w .state)) 48) (worldIn w) (stepBack (worldIn w) rec)
 
 -- stepping back that comes to o
-pub record LeavesBackC (o : After) (state : List ℕ) (r : ℕ) (state′ a′ b′ : List ℕ) : Type 0 where
+pub record LeavesBackC (o : After) (w : WorldC) (r : ℕ) (w′ : WorldC) : Type 0 where
   pub answer : r ≡ answerNumber (o .answer)
-  pub stateOut : state′ ≡ stateLeft (o .answer) (o .world .state) state
-  pub left : a′ ≡ o .world .a
-  pub right : b′ ≡ o .world .b
+  pub left : w′ ≡ steppedC w o
 
 -- the contract of `anim_step_back`
-abbrev pub StepsBackC : (state a b rec : List ℕ) (r : ℕ) (state′ a′ b′ : List ℕ) → Type 0
-StepsBackC state a b rec r state′ a′ b′ = LeavesBackC (backC state a b rec) state r state′ a′ b′
+abbrev pub StepsBackC : (w : WorldC) (rec : List ℕ) (r : ℕ) (w′ : WorldC) → Type 0
+StepsBackC w rec r w′ = LeavesBackC (backC w rec) w r w′
 
 -- a row's place, or its refusal, with A and B of these lengths
 abbrev pub rowC : (plane row : ℕ) (state : List ℕ) (a b : ℕ) → Res ℕ
@@ -126,21 +148,23 @@ abbrev pub lengthLeft : List ℕ → Res ℕ → List ℕ
 lengthLeft out (ok n) = lay (n ∷ []) out
 lengthLeft out (fault n) = out
 
+-- what C lends to the writer besides the sizes and the pictures: the output buffer, and the slice for the delta's length
+pub record OutputC : Type 0 where
+  pub out : List ℕ
+  pub len : List ℕ
+
 -- writing a delta that comes to q
-pub record LeavesDeltaC (q : Res ℕ) (bytes out len : List ℕ) (r : ℕ) (out′ len′ : List ℕ) : Type 0 where
+pub record LeavesDeltaC (q : Res ℕ) (bytes : List ℕ) (l : OutputC) (r : ℕ) (l′ : OutputC) : Type 0 where
   pub answer : r ≡ numberOr q
-  pub deltaOut : out′ ≡ bufferAfter bytes out q
-  pub lengthOut : len′ ≡ lengthLeft len q
+  pub left : l′ ≡ record { out = bufferAfter bytes (l .out) q; len = lengthLeft (l .len) q }
 
 -- the sizes as one record
 abbrev pub sizesIn : (width height planes : ℕ) → Sizes
 sizesIn width height planes = record { width = width; height = height; planes = planes }
 
 -- the contract of `anim_write_delta`
-abbrev pub WritesC : (width height planes : ℕ) (old new out len : List ℕ) (r : ℕ) (out′ len′ : List ℕ) → Type 0
-WritesC width height planes old new out len r out′ len′ =
-    let z : Sizes = sizesIn width height planes in
-    LeavesDeltaC (sized (eqb (length len) 8) (written z old new (length out))) (deltaBytes z old new) out len r out′ len′
+abbrev pub WritesC : (z : Sizes) (old new : List ℕ) (l : OutputC) (r : ℕ) (l′ : OutputC) → Type 0
+WritesC z old new l r l′ = LeavesDeltaC (sized (eqb (length (l .len)) 8) (written z old new (length (l .out)))) (deltaBytes z old new) l r l′
 
 -- asking for the length of a frame that comes to q
 pub record LeavesSizeC (q : Res ℕ) (size : List ℕ) (r : ℕ) (size′ : List ℕ) : Type 0 where

@@ -5,15 +5,15 @@ ghost use mathlib.Core.Bool.{_&&_};
 ghost use lib.Dec.{eqb};
 ghost use lib.ListN.{length};
 ghost use Rattle.shown.specs.Row.{placeOf};
-ghost use Rattle.anim.specs.Export.{OpensC, HandsOn, StepsOnC, StepsBackC, rowC, numberOr, placeOr, WritesC, SizesC};
-use back::Back;
+ghost use Rattle.anim.specs.Export.{OpensC, HandsOn, StepsOnC, StepsBackC, rowC, numberOr, placeOr, sizesIn, WritesC, SizesC};
 use opening::Opening;
 use opening::Size;
-use player::On;
-use player::SteppedOn;
 use refusal::Refusal;
 use shown::Place;
 use state::Sizes;
+use step_back::Back;
+use step_on::On;
+use step_on::SteppedOn;
 use writer::Delta;
 
 // The refusal number for a slice of a wrong length.
@@ -55,7 +55,8 @@ pub extern "C" fn anim_frame_size(file: &[u8], size: &mut [u8]) -> u64
 // Opens a file: state gets the state after its first picture, and A and B that picture.
 #[no_mangle]
 pub extern "C" fn anim_open(file: &[u8], state: &mut [u8], a: &mut [u8], b: &mut [u8]) -> u64
-    ensures { λ r. ⌜ OpensC (now (file .entry)) (now (state .entry)) (now (a .entry)) (now (b .entry)) r (now (state .exit)) (now (a .exit)) (now (b .exit)) ⌝ }
+    ensures { λ r. ⌜ OpensC (now (file .entry)) (record { state = now (state .entry); a = now (a .entry); b = now (b .entry) }) r
+        (record { state = now (state .exit); a = now (a .exit); b = now (b .exit) }) ⌝ }
 {
     if state.len() != 48 {
         return wrong_length();
@@ -77,14 +78,9 @@ fn hand_on(s: SteppedOn, state: &mut [u8], report: &mut [u8]) -> u64
     match answer {
         On::Refused(why) => why.number(),
         On::End => 1,
-        On::Taken {
-            method,
-            time,
-            changed,
-            record,
-        } => {
+        On::Taken(taken) => {
             write_words::write_state(state, s.state);
-            write_words::write_report(report, method, time, changed, record);
+            write_words::write_report(report, taken);
             0
         }
     }
@@ -101,26 +97,37 @@ pub extern "C" fn anim_step_on(
     rec: &mut [u8],
     report: &mut [u8],
 ) -> u64
-    ensures { λ r. ⌜ StepsOnC
-        (now (file .entry)) (now (state .entry)) (now (a .entry)) (now (b .entry)) (now (work .entry)) (now (rec .entry)) (now (report .entry)) r
-        (now (state .exit)) (now (a .exit)) (now (b .exit)) (now (work .exit)) (now (rec .exit)) (now (report .exit)) ⌝ }
+    ensures { λ r. ⌜ StepsOnC (now (file .entry))
+        (record {
+          world = record { state = now (state .entry); a = now (a .entry); b = now (b .entry) };
+          work = now (work .entry);
+          rec = now (rec .entry);
+          report = now (report .entry);
+        }) r
+        (record {
+          world = record { state = now (state .exit); a = now (a .exit); b = now (b .exit) };
+          work = now (work .exit);
+          rec = now (rec .exit);
+          report = now (report .exit);
+        }) ⌝ }
 {
     if !sized(state.len(), report.len()) {
         return wrong_length();
     }
-    let s = player::step_on(file, words::read_state(state), a, b, work, rec);
+    let s = step_on::step_on(file, words::read_state(state), a, b, work, rec);
     hand_on(s, state, report)
 }
 
 // Steps back from the state in its slice with a record.
 #[no_mangle]
 pub extern "C" fn anim_step_back(state: &mut [u8], a: &mut [u8], b: &mut [u8], rec: &[u8]) -> u64
-    ensures { λ r. ⌜ StepsBackC (now (state .entry)) (now (a .entry)) (now (b .entry)) (now (rec .entry)) r (now (state .exit)) (now (a .exit)) (now (b .exit)) ⌝ }
+    ensures { λ r. ⌜ StepsBackC (record { state = now (state .entry); a = now (a .entry); b = now (b .entry) }) (now (rec .entry)) r
+        (record { state = now (state .exit); a = now (a .exit); b = now (b .exit) }) ⌝ }
 {
     if state.len() != 48 {
         return wrong_length();
     }
-    let s = back::step_back(words::read_state(state), a, b, rec);
+    let s = step_back::step_back(words::read_state(state), a, b, rec);
     let answer = s.answer;
     match answer {
         Back::Refused(why) => why.number(),
@@ -176,8 +183,8 @@ pub extern "C" fn anim_write_delta(
     out: &mut [u8],
     len: &mut [u8],
 ) -> u64
-    ensures { λ r. ⌜ WritesC width height planes
-        (now (old .entry)) (now (new .entry)) (now (out .entry)) (now (len .entry)) r (now (out .exit)) (now (len .exit)) ⌝ }
+    ensures { λ r. ⌜ WritesC (sizesIn width height planes) (now (old .entry)) (now (new .entry)) (record { out = now (out .entry); len = now (len .entry) }) r
+        (record { out = now (out .exit); len = now (len .exit) }) ⌝ }
 {
     if len.len() != 8 {
         return wrong_length();

@@ -1,4 +1,1 @@
-pub mod InTable
-pub mod DeltaTable
-pub mod Table
 pub mod Answers

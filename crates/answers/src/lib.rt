@@ -1,1 +1,1 @@
-// The theorem about the numbers that the C interface answers: see specs/. There is no code here.
+// The theorem about the numbers that the C interface answers: see specs/ and proofs/. There is no code here.

@@ -12,7 +12,7 @@ use Rattle.state.specs.State.{frameLength}
 use Rattle.state.specs.declared.Sizes.{Sizes}
 use Rattle.bmhd.specs.declared.Header.{Header}
 use Rattle.bmhd.specs.declared.Bmhd.{Bmhd}
-use Rattle.bmhd.specs.declared.Bmhd.the-variants.{Picture, Unread}
+use Rattle.bmhd.specs.declared.Bmhd.the-variants.{Picture, Refused}
 
 -- the sizes that a BMHD gives, within the limits or not
 abbrev pub sizesAt : List ℕ → Sizes
@@ -35,4 +35,4 @@ header s =
 -- what an answer says in the paper's terms
 abbrev pub headerOf : Bmhd → Res Header
 headerOf (Picture h) = ok h
-headerOf (Unread why) = fault (numberOf why)
+headerOf (Refused why) = fault (numberOf why)

@@ -17,7 +17,7 @@ pub struct Header {
 // A header, or why there is none.
 pub enum Bmhd {
     Picture(Header),
-    Unread(Refusal),
+    Refused(Refusal),
 }
 
 // The sizes that a BMHD gives, within the limits or not.
@@ -36,18 +36,18 @@ pub fn read_header(s: &[u8]) -> Bmhd
     ensures { λ r. ⌜ headerOf r ≡ header (now (s .entry)) ⌝ }
 {
     if s.len() != 20 {
-        return Bmhd::Unread(Refusal::BadBmhd);
+        return Bmhd::Refused(Refusal::BadBmhd);
     }
     let sizes = sizes_at(s);
     let Length::Bytes(length) = sizes.frame_length() else {
-        return Bmhd::Unread(Refusal::BadBmhd);
+        return Bmhd::Refused(Refusal::BadBmhd);
     };
     if byte(s, 9) == 1 {
-        return Bmhd::Unread(Refusal::BadBmhd);
+        return Bmhd::Refused(Refusal::BadBmhd);
     }
     let compression = byte(s, 10);
     if 1 < compression {
-        return Bmhd::Unread(Refusal::BadBmhd);
+        return Bmhd::Refused(Refusal::BadBmhd);
     }
     Bmhd::Picture(Header {
         sizes,

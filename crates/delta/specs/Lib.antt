@@ -2,10 +2,5 @@ pub mod Reading
 pub mod Column
 pub mod Words
 pub mod Delta
-pub mod DeltaLaws
 pub mod Walk
-pub mod WalkLaws
-pub mod FillLaws
-pub mod WordLaws
-pub mod ApplyLaws
-pub mod NoneLaws
+pub mod None

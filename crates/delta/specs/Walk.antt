@@ -16,9 +16,9 @@ use Rattle.delta.specs.Delta.{readDelta, put, draw, readFrame}
 use Rattle.delta.specs.declared.Shape.{Shape}
 use Rattle.delta.specs.declared.Cursor.{Cursor}
 use Rattle.delta.specs.declared.Step.{Step}
-use Rattle.delta.specs.declared.Step.the-variants.{Next, Faulty}
+use Rattle.delta.specs.declared.Step.the-variants.{Next, Refused as StepRefused}
 use Rattle.delta.specs.declared.Taken.{Taken}
-use Rattle.delta.specs.declared.Taken.the-variants.{Rows, Passed, Faulty as NotTaken}
+use Rattle.delta.specs.declared.Taken.the-variants.{Rows, Passed, Refused as NotTaken}
 use Rattle.delta.specs.declared.Pointer.{Pointer}
 use Rattle.delta.specs.declared.Pointer.the-variants.{At, Bad}
 
@@ -60,7 +60,7 @@ Column S n base = Down S n base (S .height)
 pub record Columns (S : Shape) (n base k : ℕ) : Type 0 where
   pub column : (j : ℕ) → j < k → Column S n (base + j * S .item)
 
--- all planes of a picture do
+-- the planes of a picture of n bytes
 pub record Planes (S : Shape) (n : ℕ) : Type 0 where
   pub width : Width (S .item)
   pub row-most : S .row ≤ 128
@@ -138,7 +138,7 @@ drawnRows f place d from step n S drawing = pick drawing (put (S .item) (S .row)
 abbrev pub Drawn : Shape → List ℕ → Bool → List ℕ → ℕ → Taken → List ℕ → Step → Type 0
 Drawn S d drawing f base (Rows line from step n next) g r = (r ≡ Next next) × (g ≡ drawnRows f (base + line * S .row) d from step n S drawing)
 Drawn S d drawing f base (Passed next) g r = (r ≡ Next next) × (g ≡ f)
-Drawn S d drawing f base (NotTaken why) g r = (r ≡ Faulty why) × (g ≡ f)
+Drawn S d drawing f base (NotTaken why) g r = (r ≡ StepRefused why) × (g ≡ f)
 
 -- reading by `whole` from the cursor c₀ on has come to c, and `rest` is left; the frame f has become g
 pub record Walked (S : Shape) (d : List ℕ) (drawing : Bool) (f : List ℕ) (whole : Reading → Res Reading) (c₀ : Cursor) (rest : Reading → Res Reading) (g : List ℕ) (most : ℕ) (c : Cursor) : Type 0 where
@@ -158,7 +158,7 @@ pub record Refused (drawing : Bool) (f : List ℕ) (whole : Reading → Res Read
 -- what a step answers and leaves in the frame, where the definition's step is `whole`
 pub data Took (S : Shape) (d : List ℕ) (drawing : Bool) (f : List ℕ) (whole : Reading → Res Reading) (c₀ : Cursor) (g : List ℕ) (most : ℕ) : Step → Type 0 where
   took : {c : Cursor} → Walked S d drawing f whole c₀ ok g most c → Took S d drawing f whole c₀ g most (Next c)
-  refused : {why : Refusal} → Refused drawing f whole c₀ g (numberOf why) → Took S d drawing f whole c₀ g most (Faulty why)
+  refused : {why : Refusal} → Refused drawing f whole c₀ g (numberOf why) → Took S d drawing f whole c₀ g most (StepRefused why)
 
 -- a delta that passes the check for a picture of m bytes: its ops, and that the work buffer w, which has become g, is fit for them
 pub record Passes (z : Sizes) (i : Items) (d : List ℕ) (m : ℕ) (w g : List ℕ) (c : Cursor) : Type 0 where
@@ -173,4 +173,4 @@ pub record Passes (z : Sizes) (i : Items) (d : List ℕ) (m : ℕ) (w g : List �
 -- what the check of a whole delta answers and leaves in the work buffer
 pub data Checked (z : Sizes) (i : Items) (d : List ℕ) (m : ℕ) (w g : List ℕ) : Step → Type 0 where
   passes : {c : Cursor} → Passes z i d m w g c → Checked z i d m w g (Next c)
-  stops : {why : Refusal} → readFrame z i d m (length w) ≡ fault (numberOf why) → g ≡ w → Checked z i d m w g (Faulty why)
+  stops : {why : Refusal} → readFrame z i d m (length w) ≡ fault (numberOf why) → g ≡ w → Checked z i d m w g (StepRefused why)

@@ -8,7 +8,7 @@ use mathlib.Core.List.{List, [], _∷_, _++_}
 use lib.Dec.{leb, ltb, eqb}
 use lib.ListN.{length}
 use Rattle.laws.specs.Result.{Res, Res.ok, Res.fault, _>>=_, need, pick}
-use Rattle.laws.specs.Loop.{Step, Step.next, Step.done, runs}
+use Rattle.laws.specs.Loop.{Step, Step.next, Step.done, iterate}
 use Rattle.delta.specs.Reading.{Reading, pairAt}
 use Rattle.delta.specs.declared.Shape.{Shape}
 
@@ -52,4 +52,4 @@ wordStep S d base c = offsetOn S d base c (pairAt d (c .opAt))
 -- the list of words of the plane that starts at base, to its offset of −1; each op takes four bytes or more of the list, so that the answer
 -- for too few turns is never given (`words-none`, `words-end` and `words-more` of `WordLaws`)
 unfoldable pub readWords : Shape → List ℕ → ℕ → Reading → Res Reading
-readWords S d base c = runs (wordStep S d base) (λ x. length d - x .opAt) (fault 42) c
+readWords S d base c = iterate (wordStep S d base) (λ x. length d - x .opAt) (fault 42) c

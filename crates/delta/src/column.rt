@@ -55,11 +55,11 @@ fn take_fill(
     ensures { λ r. ⌜ OpRead shape (now (d .entry)) 1 (λ base x. fill shape (now (d .entry)) base x next count size step) c r ⌝ }
 {
     if shape.height - c.line < count {
-        return Taken::Faulty(Refusal::OpPastLastRow);
+        return Taken::Refused(Refusal::OpPastLastRow);
     }
     let from = pick(shape.inline, next, c.item);
     if d.len() - from < size {
-        return Taken::Faulty(Refusal::DeltaTooShort);
+        return Taken::Refused(Refusal::DeltaTooShort);
     }
     let next = after_fill(shape, c, next, count, size);
     Taken::Rows {
@@ -77,7 +77,7 @@ fn take_skip(shape: Shape, c: Cursor, rows: usize) -> Taken
     ensures { λ r. ⌜ Skipped shape c rows r ⌝ }
 {
     if shape.height - c.line < rows {
-        return Taken::Faulty(Refusal::OpPastLastRow);
+        return Taken::Refused(Refusal::OpPastLastRow);
     }
     Taken::Passed(Cursor {
         op: c.op + 1,
@@ -94,7 +94,7 @@ fn take_same(d: &[u8], shape: Shape, c: Cursor) -> Taken
 {
     let op = c.op;
     if d.len() - op < 2 {
-        return Taken::Faulty(Refusal::DeltaTooShort);
+        return Taken::Refused(Refusal::DeltaTooShort);
     }
     let count = d[op + 1] as usize;
     take_fill(d, shape, c, op + 2, count, shape.item, 0)
@@ -116,7 +116,7 @@ fn take_op(d: &[u8], shape: Shape, c: Cursor) -> Taken
 {
     let op = c.op;
     if d.len() <= op {
-        return Taken::Faulty(Refusal::DeltaTooShort);
+        return Taken::Refused(Refusal::DeltaTooShort);
     }
     let b = d[op];
     match b {
@@ -145,7 +145,7 @@ fn take_ops(
         let op = take_op(d, shape, at);
         let t = draw_taken(frame, d, shape, base, op, drawing);
         match t {
-            Step::Faulty(why) => return Step::Faulty(why),
+            Step::Refused(why) => return Step::Refused(why),
             Step::Next(next) => at = next,
         }
         left -= 1;
@@ -167,7 +167,7 @@ pub(crate) fn take_column(
 {
     let op = c.op;
     if d.len() <= op {
-        return Step::Faulty(Refusal::DeltaTooShort);
+        return Step::Refused(Refusal::DeltaTooShort);
     }
     let count = d[op] as usize;
     let top = Cursor {

@@ -12,7 +12,7 @@ mod rows;
 mod words;
 
 use anhd::Items;
-use buffer::copy;
+use buffer::copy_long;
 use buffer::fill;
 use buffer::number32;
 use column::take_column;
@@ -51,7 +51,7 @@ struct Cursor {
 // Where reading goes on, or why it doesn't.
 enum Step {
     Next(Cursor),
-    Faulty(Refusal),
+    Refused(Refusal),
 }
 
 // What an op does: count rows, the first of which is line, get items from a place of the delta on, step bytes apart; or it only goes down.
@@ -64,7 +64,7 @@ enum Taken {
         next: Cursor,
     },
     Passed(Cursor),
-    Faulty(Refusal),
+    Refused(Refusal),
 }
 
 // Where a list starts, or that its pointer is bad.
@@ -135,7 +135,8 @@ fn take_columns(
     drawing: bool,
 ) -> Step
     requires { ⌜ Vertical shape × (1 ≤ shape .height) × Columns shape (length (now frame)) base count × Stands shape (now d) c (255 * count) ⌝ }
-    ensures { λ r. ⌜ Took shape (now (d .entry)) drawing (now (frame .entry)) (readColumns shape (now (d .entry)) count base) c (now (frame .exit)) (255 * count) r ⌝ }
+    ensures { λ r. ⌜ Took shape (now (d .entry)) drawing (now (frame .entry)) (readColumns shape (now (d .entry)) count base) c (now (frame .exit)) (255 * count) r
+        ⌝ }
 {
     let item = shape.item;
     let mut at = c;
@@ -144,7 +145,7 @@ fn take_columns(
     while 0 < left {
         let t = take_column(frame, d, shape, place, at, drawing);
         match t {
-            Step::Faulty(why) => return Step::Faulty(why),
+            Step::Refused(why) => return Step::Refused(why),
             Step::Next(next) => at = next,
         }
         place += item;
@@ -196,11 +197,11 @@ fn take_plane(
     }
     let list = list_pointer(d, shape.pointers, plane);
     match list {
-        Pointer::Bad => Step::Faulty(Refusal::BadPointer),
+        Pointer::Bad => Step::Refused(Refusal::BadPointer),
         Pointer::At(op) => {
             let items = data_pointer(d, shape, plane);
             match items {
-                Pointer::Bad => Step::Faulty(Refusal::BadPointer),
+                Pointer::Bad => Step::Refused(Refusal::BadPointer),
                 Pointer::At(item) => {
                     let top = Cursor {
                         op,
@@ -231,13 +232,13 @@ fn take_delta(frame: &mut [u8], d: &[u8], shape: Shape, drawing: bool) -> Step
         ops: 0,
     };
     if d.len() < shape.pointers {
-        return Step::Faulty(Refusal::BadPointer);
+        return Step::Refused(Refusal::BadPointer);
     }
     let mut plane = 0;
     while plane < shape.planes {
         let t = take_plane(frame, d, shape, plane, at, drawing);
         match t {
-            Step::Faulty(why) => return Step::Faulty(why),
+            Step::Refused(why) => return Step::Refused(why),
             Step::Next(next) => at = next,
         }
         plane += 1;
@@ -251,16 +252,16 @@ fn check(work: &mut [u8], bytes: usize, dlta: &[u8], sizes: Sizes, items: Items)
 {
     let l = sizes.frame_length();
     match l {
-        Length::Refused(why) => Step::Faulty(why),
+        Length::Refused(why) => Step::Refused(why),
         Length::Bytes(frame) => {
             if bytes != frame {
-                return Step::Faulty(Refusal::BufferLength);
+                return Step::Refused(Refusal::BufferLength);
             }
             if work.len() != frame {
-                return Step::Faulty(Refusal::BufferLength);
+                return Step::Refused(Refusal::BufferLength);
             }
             if !anhd::columns_ok(items, sizes.row_bytes()) {
-                return Step::Faulty(Refusal::OddLongColumns);
+                return Step::Refused(Refusal::OddLongColumns);
             }
             take_delta(work, dlta, shape_of(sizes, items), false)
         }
@@ -273,9 +274,9 @@ pub fn apply(work: &mut [u8], picture: &[u8], dlta: &[u8], sizes: Sizes, items: 
 {
     let checked = check(work, picture.len(), dlta, sizes, items);
     match checked {
-        Step::Faulty(why) => Applied::Refused(why),
+        Step::Refused(why) => Applied::Refused(why),
         Step::Next(end) => {
-            copy(work, picture);
+            copy_long(work, picture);
             take_delta(work, dlta, shape_of(sizes, items), true);
             Applied::Drawn { ops: end.ops }
         }
@@ -288,7 +289,7 @@ pub fn apply_first(work: &mut [u8], dlta: &[u8], sizes: Sizes, items: Items) -> 
 {
     let checked = check(work, work.len(), dlta, sizes, items);
     match checked {
-        Step::Faulty(why) => Applied::Refused(why),
+        Step::Refused(why) => Applied::Refused(why),
         Step::Next(end) => {
             fill(work, 0);
             take_delta(work, dlta, shape_of(sizes, items), true);

@@ -90,7 +90,7 @@ pub(crate) fn draw_taken(
     ensures { λ r. ⌜ Drawn shape (now (d .entry)) drawing (now (frame .entry)) base op (now (frame .exit)) r ⌝ }
 {
     match op {
-        Taken::Faulty(why) => Step::Faulty(why),
+        Taken::Refused(why) => Step::Refused(why),
         Taken::Passed(next) => Step::Next(next),
         Taken::Rows {
             line,

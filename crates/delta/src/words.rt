@@ -19,12 +19,12 @@ fn take_run(d: &[u8], shape: Shape, c: Cursor, line: usize, from: usize, count: 
     ensures { λ r. ⌜ OpRead shape (now (d .entry)) 0 (λ base x. wordRun shape (now (d .entry)) base x line from count) c r ⌝ }
 {
     if shape.height - line < count {
-        return Taken::Faulty(Refusal::WordPastPlane);
+        return Taken::Refused(Refusal::WordPastPlane);
     }
     let step = shape.item;
     let size = count * step;
     if d.len() - from < size {
-        return Taken::Faulty(Refusal::DeltaTooShort);
+        return Taken::Refused(Refusal::DeltaTooShort);
     }
     let last = if count == 0 { line } else { line + count - 1 };
     let next = Cursor {
@@ -62,14 +62,14 @@ fn take_op(d: &[u8], shape: Shape, c: Cursor, offset: usize) -> Taken
     let op = c.op;
     let words = move_of(offset);
     if shape.height - c.line <= words {
-        return Taken::Faulty(Refusal::WordPastPlane);
+        return Taken::Refused(Refusal::WordPastPlane);
     }
     let line = c.line + words;
     let mut from = op + 2;
     let mut count = 1;
     if 32768 <= offset {
         if d.len() - op < 4 {
-            return Taken::Faulty(Refusal::DeltaTooShort);
+            return Taken::Refused(Refusal::DeltaTooShort);
         }
         from = op + 4;
         count = number16(d, op + 2);
@@ -92,7 +92,7 @@ pub(crate) fn take_words(
     let mut at = c;
     loop {
         if d.len() - at.op < 2 {
-            return Step::Faulty(Refusal::DeltaTooShort);
+            return Step::Refused(Refusal::DeltaTooShort);
         }
         let offset = number16(d, at.op);
         if offset == 65535 {
@@ -101,7 +101,7 @@ pub(crate) fn take_words(
         let op = take_op(d, shape, at, offset);
         let t = draw_taken(frame, d, shape, base, op, drawing);
         match t {
-            Step::Faulty(why) => return Step::Faulty(why),
+            Step::Refused(why) => return Step::Refused(why),
             Step::Next(next) => at = next,
         }
     }

@@ -18,7 +18,7 @@ pub(crate) fn find(d: &[u8]) {
             show::number(len);
         }
         Found::Missing => show::none(),
-        Found::Broken(why) => show::refused(why),
+        Found::Refused(why) => show::refused(why),
     }
     show::bytes(iff::contents(parent, id));
 }
@@ -28,7 +28,7 @@ pub(crate) fn end(d: &[u8]) {
     let o = form::anim_end(d);
     match o {
         Outer::Ends(at) => show::number(at),
-        Outer::Unread(why) => show::refused(why),
+        Outer::Refused(why) => show::refused(why),
     }
 }
 
@@ -41,7 +41,7 @@ pub(crate) fn next(d: &[u8]) {
             show::number(len);
             show::number(next);
         }
-        Form::Last => show::none(),
-        Form::Faulty(why) => show::refused(why),
+        Form::End => show::none(),
+        Form::Refused(why) => show::refused(why),
     }
 }

@@ -26,7 +26,7 @@ fn header(d: &[u8], first: bool) {
                 Items::LongWords => show::number(20),
             }
         }
-        Anhd::Unread(why) => show::refused(why),
+        Anhd::Refused(why) => show::refused(why),
     }
 }
 

@@ -3,9 +3,9 @@ use crate::line::front;
 use crate::line::part;
 use crate::show;
 use bmhd::Bmhd;
+use body::Unpacked;
 use buffer::byte;
 use buffer::number16;
-use ilbm::Unpacked;
 use opening::Opening;
 use shown::Place;
 use state::Length;
@@ -38,7 +38,7 @@ pub(crate) fn bmhd(d: &[u8]) {
             show::number(header.length);
             show::number(header.packed as usize);
         }
-        Bmhd::Unread(why) => show::refused(why),
+        Bmhd::Refused(why) => show::refused(why),
     }
 }
 
@@ -50,7 +50,7 @@ pub(crate) fn unpack(d: &[u8], out: &mut [u8]) {
         planes: byte(d, 0) / 4,
     };
     let frame = front(out, byte(d, 0));
-    let u = ilbm::unpack(frame, part(d, 2, d.len()), sizes, byte(d, 1) == 1);
+    let u = body::unpack(frame, part(d, 2, d.len()), sizes, byte(d, 1) == 1);
     match u {
         Unpacked::Done => (),
         Unpacked::Refused(why) => show::refused(why),

@@ -45,7 +45,7 @@ pub(crate) fn put_back(d: &[u8], out: &mut [u8]) {
     let r = restore::restore(part(d, 6, d.len()), shown, byte(d, 0), byte(d, 1));
     match r {
         Restored::Back(place) => show::number(place),
-        Restored::Kept(why) => show::refused(why),
+        Restored::Refused(why) => show::refused(why),
     }
     show::bytes(shown);
 }

@@ -1,21 +1,21 @@
 -- FORM ANIM and the frames in it (document 01, "Chunks"): FORM ANIM starts at place 0 and ends at its length + 8; frames
 -- are the FORM ILBM chunks directly in it, in order, and other chunks there are passed over.
-use Prim.Native.Nat.{ℕ, _+_, _-_}
+use Prim.Native.Nat.{ℕ, _+_, _-_, _<_, _≤_}
 use mathlib.Core.List.{List}
 use mathlib.Core.Option.{Option, none, some}
 use mathlib.Core.Bool.{_&&_}
 use lib.Dec.{leb, eqb}
 use lib.ListN.{length, take, drop}
 use Rattle.laws.specs.Result.{Res, Res.ok, Res.fault, _>>=_, need, pick}
-use Rattle.laws.specs.Loop.{Step, Step.next, Step.done, runs}
+use Rattle.laws.specs.Loop.{Step, Step.next, Step.done, iterate}
 use Rattle.laws.specs.Bytes.{be32}
 use Rattle.refusal.specs.Number.{numberOf}
 use Rattle.iff.specs.Ids.{FORM, ANIM, ILBM}
 use Rattle.iff.specs.Chunk.{Chunk, chunkAt}
 use Rattle.form.specs.declared.Outer.{Outer}
-use Rattle.form.specs.declared.Outer.the-variants.{Ends, Unread}
+use Rattle.form.specs.declared.Outer.the-variants.{Ends, Refused}
 use Rattle.form.specs.declared.Form.{Form}
-use Rattle.form.specs.declared.Form.the-variants.{Ilbm, Last, Faulty}
+use Rattle.form.specs.declared.Form.the-variants.{Ilbm, End, Refused as FormRefused}
 
 -- the end place of FORM ANIM: 21 for fewer than 12 bytes, 22, and 21 for its length, in opening's order
 unfoldable pub animEnd : List ℕ → Res ℕ
@@ -56,14 +56,26 @@ frameStep s at = passOn s (chunkAt s at)
 
 -- the next frame from a place of FORM ANIM on, if there is one, or 21
 unfoldable pub nextFrame : List ℕ → ℕ → Res (Option Frame)
-nextFrame s from = runs (frameStep s) (λ at. length s - at) (fault 21) from
+nextFrame s from = iterate (frameStep s) (λ at. length s - at) (fault 21) from
 
 -- what the answers say in the paper's terms
 abbrev pub outerOf : Outer → Res ℕ
 outerOf (Ends at) = ok at
-outerOf (Unread why) = fault (numberOf why)
+outerOf (Refused why) = fault (numberOf why)
 
 abbrev pub formOf : Form → Res (Option Frame)
 formOf (Ilbm start len nx) = ok (some (record { start = start; size = len; next = nx }))
-formOf Last = ok none
-formOf (Faulty why) = fault (numberOf why)
+formOf End = ok none
+formOf (FormRefused why) = fault (numberOf why)
+
+-- the end of FORM ANIM is past its type, and within the file
+pub record Closes (s : List ℕ) (end : ℕ) : Type 0 where
+  pub least : 12 ≤ end
+  pub most : end ≤ length s
+
+-- a frame from a place on lies within the parent, and the next place is past it
+pub record Follows (s : List ℕ) (from : ℕ) (f : Frame) : Type 0 where
+  pub starts : from + 12 ≤ f .start
+  pub holds : f .start + f .size ≤ f .next
+  pub rises : from < f .next
+  pub ends : f .next ≤ length s

@@ -12,7 +12,7 @@ use refusal::Refusal;
 // Where FORM ANIM ends.
 pub enum Outer {
     Ends(usize),
-    Unread(Refusal),
+    Refused(Refusal),
 }
 
 // The next frame in FORM ANIM.
@@ -23,8 +23,8 @@ pub enum Form {
         len: usize,
         next: usize,
     },
-    Last,
-    Faulty(Refusal),
+    End,
+    Refused(Refusal),
 }
 
 // The end place of FORM ANIM.
@@ -32,20 +32,20 @@ pub fn anim_end(file: &[u8]) -> Outer
     ensures { λ r. ⌜ outerOf r ≡ animEnd (now (file .entry)) ⌝ }
 {
     if file.len() < 12 {
-        return Outer::Unread(Refusal::ChunkPastParent);
+        return Outer::Refused(Refusal::ChunkPastParent);
     }
     if number32(file, 0) != FORM {
-        return Outer::Unread(Refusal::NotFormAnim);
+        return Outer::Refused(Refusal::NotFormAnim);
     }
     if number32(file, 8) != ANIM {
-        return Outer::Unread(Refusal::NotFormAnim);
+        return Outer::Refused(Refusal::NotFormAnim);
     }
     let len = number32(file, 4);
     if len < 4 {
-        return Outer::Unread(Refusal::ChunkPastParent);
+        return Outer::Refused(Refusal::ChunkPastParent);
     }
     if file.len() - 8 < len {
-        return Outer::Unread(Refusal::ChunkPastParent);
+        return Outer::Refused(Refusal::ChunkPastParent);
     }
     Outer::Ends(len + 8)
 }
@@ -58,8 +58,8 @@ pub fn next_form(s: &[u8], from: usize) -> Form
     loop {
         let c = chunk_at(s, at);
         match c {
-            Standing::End => return Form::Last,
-            Standing::Refused(why) => return Form::Faulty(why),
+            Standing::End => return Form::End,
+            Standing::Refused(why) => return Form::Refused(why),
             Standing::Whole {
                 id,
                 start,
@@ -68,7 +68,7 @@ pub fn next_form(s: &[u8], from: usize) -> Form
             } => {
                 if id == FORM {
                     if len < 4 {
-                        return Form::Faulty(Refusal::ChunkPastParent);
+                        return Form::Refused(Refusal::ChunkPastParent);
                     }
                     if number32(s, start) == ILBM {
                         return Form::Ilbm {

@@ -1,22 +1,21 @@
 -- A later frame (document 01, "Chunks" and "Refusal numbers"): the next FORM ILBM from a place of FORM ANIM on, 21 as chunks are
 -- walked, the frame walked whole, then 31 to 36 in table order.
-use Prim.Native.Nat.{ℕ}
+use Prim.Native.Nat.{ℕ, _+_, _<_, _≤_}
 use mathlib.Core.Bool.{false}
 use mathlib.Core.List.{List}
-use lib.ListN.{take, drop}
 use mathlib.Core.Option.{Option, none, some}
-use Rattle.laws.specs.Result.{Res, Res.ok, Res.fault, _>>=_, need}
+use lib.ListN.{take, drop, length}
+use Rattle.laws.specs.Result.{Res, Res.ok, Res.fault, _>>=_, orRefuse}
 use Rattle.refusal.specs.Number.{numberOf}
 use Rattle.iff.specs.Ids.{ANHD, DLTA}
-use Rattle.iff.specs.Chunk.{contents}
-use Rattle.iff.specs.Both.{hasBoth}
+use Rattle.iff.specs.Chunk.{find, bytesOf}
 use Rattle.form.specs.Form.{Frame as Form, chunksOf, nextFrame}
 use Rattle.anhd.specs.Anhd.{frameHeader}
 use Rattle.anhd.specs.declared.FrameHeader.{FrameHeader}
 use Rattle.frame.specs.declared.Next.{Next}
-use Rattle.frame.specs.declared.Next.the-variants.{Later, Last, Refused}
+use Rattle.frame.specs.declared.Next.the-variants.{Later, End, Refused}
 
--- a later frame: where its chunks start, their length, the place after it, its header, and the contents of its DLTA
+-- a later frame: where the contents of its DLTA start, their length, the place after it, its header, and those contents
 pub record Frame : Type 0 where
   pub start : ℕ
   pub size : ℕ
@@ -27,10 +26,10 @@ pub record Frame : Type 0 where
 -- the frame in a FORM ILBM, for rows of B bytes
 unfoldable pub frameIn : List ℕ → ℕ → Form → Res Frame
 frameIn s B x =
-    hasBoth ANHD DLTA (chunksOf s x) >>= λ t.
-    need t 31 >>= λ _.
-    frameHeader false B (contents ANHD (chunksOf s x)) >>= λ h.
-    ok (record { start = x .start; size = x .size; next = x .next; header = h; dlta = contents DLTA (chunksOf s x) })
+    find ANHD (chunksOf s x) >>= orRefuse 31 >>= λ h.
+    find DLTA (chunksOf s x) >>= orRefuse 31 >>= λ d.
+    frameHeader false B (bytesOf (chunksOf s x) h) >>= λ y.
+    ok (record { start = x .start + d .start; size = d .size; next = x .next; header = y; dlta = bytesOf (chunksOf s x) d })
 
 abbrev pub frameOr : List ℕ → ℕ → Option Form → Res (Option Frame)
 frameOr s B none = ok none
@@ -40,8 +39,18 @@ frameOr s B (some x) = frameIn s B x >>= λ f. ok (some f)
 unfoldable pub frameAt : List ℕ → ℕ → ℕ → Res (Option Frame)
 frameAt s B at = nextFrame s at >>= frameOr s B
 
--- what an answer says in the paper's terms: the DLTA's contents are a part of the frame's chunks
+-- what an answer says in the paper's terms: the DLTA's contents are a part of FORM ANIM
 abbrev pub nextOf : List ℕ → Next → Res (Option Frame)
-nextOf s (Later nx header start len) = ok (some (record { start = start; size = len; next = nx; header = header; dlta = contents DLTA (take len (drop start s)) }))
-nextOf s Last = ok none
+nextOf s (Later nx header start len) = ok (some (record { start = start; size = len; next = nx; header = header; dlta = take len (drop start s) }))
+nextOf s End = ok none
 nextOf s (Refused why) = fault (numberOf why)
+
+-- the frame with this ANHD, where the contents of its DLTA are n bytes of FORM ANIM from a on
+abbrev pub frameWith : List ℕ → ℕ → List ℕ → ℕ → ℕ → ℕ → Res (Option Frame)
+frameWith s B anhd nx a n = frameHeader false B anhd >>= λ y. ok (some (record { start = a; size = n; next = nx; header = y; dlta = take n (drop a s) }))
+
+-- a frame that follows a place
+pub record Rises (s : List ℕ) (at : ℕ) (x : Frame) : Type 0 where
+  pub rises : at < x .next
+  pub ends : x .next ≤ length s
+  pub holds : x .start + x .size ≤ length s

@@ -1,18 +1,19 @@
 // The next frame of an animation: where it stands, and its header.
 ghost use mathlib.Core.Path.{_≡_};
-ghost use Prim.Native.Nat.{_+_, _≤_};
+ghost use Prim.Native.Nat.{ℕ, _+_, _≤_};
 ghost use lib.ListN.{length};
+ghost use mathlib.Core.List.{List};
 ghost use mathlib.Core.Option.{some};
-ghost use Rattle.frame.specs.Frame.{frameOr, frameAt, nextOf};
+ghost use Rattle.frame.specs.Frame.{frameWith, frameOr, frameAt, nextOf};
 use anhd::Anhd;
 use anhd::FrameHeader;
 use form::Form;
-use iff::Both;
+use iff::Found;
 use iff::ids::ANHD;
 use iff::ids::DLTA;
 use refusal::Refusal;
 
-// The next frame: the place after it, its header, and where its chunks stand in FORM ANIM, its DLTA among them.
+// The next frame: the place after it, its header, and where the contents of its DLTA stand in FORM ANIM.
 pub enum Next {
     Later {
         next: usize,
@@ -20,8 +21,24 @@ pub enum Next {
         start: usize,
         len: usize,
     },
-    Last,
+    End,
     Refused(Refusal),
+}
+
+// The frame with this ANHD, where the contents of its DLTA are len bytes from start on.
+fn frame_with(anhd: &[u8], row: usize, next: usize, start: usize, len: usize) -> Next
+    ensures { λ r. ⌜ ((s : List ℕ) → nextOf s r ≡ frameWith s row (now (anhd .entry)) next start len) ⌝ }
+{
+    let h = anhd::read_header(false, row, anhd);
+    match h {
+        Anhd::Refused(why) => Next::Refused(why),
+        Anhd::Header(header) => Next::Later {
+            next,
+            header,
+            start,
+            len,
+        },
+    }
 }
 
 // The frame in a FORM ILBM whose chunks are len bytes from start on.
@@ -31,22 +48,23 @@ fn frame_in(anim: &[u8], start: usize, len: usize, next: usize, row: usize) -> N
 {
     let end = start + len;
     let chunks = &anim[start..end];
-    let b = iff::has_both(chunks, ANHD, DLTA);
-    match b {
-        Both::Broken(why) => Next::Refused(why),
-        Both::Missing => Next::Refused(Refusal::NoDelta),
-        Both::There => {
-            let h = anhd::read_header(false, row, iff::contents(chunks, ANHD));
-            match h {
-                Anhd::Unread(why) => Next::Refused(why),
-                Anhd::Header(header) => Next::Later {
-                    next,
-                    header,
-                    start,
-                    len,
-                },
+    let p = iff::find_pair(chunks, ANHD, DLTA);
+    let h = p.first;
+    let d = p.second;
+    match h {
+        Found::Refused(why) => Next::Refused(why),
+        Found::Missing => Next::Refused(Refusal::NoDelta),
+        Found::At { start: at, len: n } => match d {
+            Found::Refused(why) => Next::Refused(why),
+            Found::Missing => Next::Refused(Refusal::NoDelta),
+            Found::At {
+                start: from,
+                len: size,
+            } => {
+                let stop = at + n;
+                frame_with(&chunks[at..stop], row, next, start + from, size)
             }
-        }
+        },
     }
 }
 
@@ -56,8 +74,8 @@ pub fn frame_at(anim: &[u8], at: usize, row: usize) -> Next
 {
     let f = form::next_form(anim, at);
     match f {
-        Form::Faulty(why) => Next::Refused(why),
-        Form::Last => Next::Last,
+        Form::Refused(why) => Next::Refused(why),
+        Form::End => Next::End,
         Form::Ilbm { start, len, next } => frame_in(anim, start, len, next, row),
     }
 }

@@ -1,18 +1,19 @@
 -- Chunks (document 01, "Chunks"): four id bytes, a big-endian length, the contents, and a pad byte of any value if the
 -- length is odd. Header, contents and pad lie inside the parent. Within a frame the first chunk of each id counts.
-use Prim.Native.Nat.{ℕ, _+_, _-_, _%_}
-use mathlib.Core.List.{List, []}
+use Prim.Native.Nat.{ℕ, _+_, _-_, _%_, _<_, _≤_}
+use mathlib.Core.Bool.{Bool, true, false}
+use mathlib.Core.List.{List, [], _∷_, _++_}
 use mathlib.Core.Option.{Option, none, some}
 use lib.Dec.{leb, eqb}
 use lib.ListN.{length, take, drop}
 use Rattle.laws.specs.Result.{Res, Res.ok, Res.fault, _>>=_, need, pick}
-use Rattle.laws.specs.Loop.{Step, Step.next, Step.done, runs}
+use Rattle.laws.specs.Loop.{Step, Step.next, Step.done, iterate}
 use Rattle.laws.specs.Bytes.{be32}
 use Rattle.refusal.specs.Number.{numberOf}
 use Rattle.iff.specs.declared.Standing.{Standing}
 use Rattle.iff.specs.declared.Standing.the-variants.{Whole, End, Refused}
 use Rattle.iff.specs.declared.Found.{Found}
-use Rattle.iff.specs.declared.Found.the-variants.{At, Missing, Broken}
+use Rattle.iff.specs.declared.Found.the-variants.{At, Missing, Refused as FoundRefused}
 
 -- a whole chunk: its id, where its contents start, their length, and the place after it
 pub record Chunk : Type 0 where
@@ -33,6 +34,24 @@ chunkAt s at =
     need (leb (at + 8 + padded (be32 s (at + 4))) (length s)) 21 >>= λ _.
     ok (some (record { id = be32 s at; start = at + 8; size = be32 s (at + 4); next = at + 8 + padded (be32 s (at + 4)) })))
 
+-- a walk through a parent: the place, and the chunks before it
+pub record Walk : Type 0 where
+  pub at : ℕ
+  pub passed : List Chunk
+
+-- one turn: past a chunk, or to the answer where the parent ends or a chunk passes it
+abbrev pub walkOn : Walk → Res (Option Chunk) → Step Walk (Res (List Chunk))
+walkOn w (ok (some c)) = next (record { at = c .next; passed = w .passed ++ (c ∷ []) })
+walkOn w (ok none) = done (ok (w .passed))
+walkOn w (fault n) = done (fault n)
+
+abbrev pub walkStep : List ℕ → Walk → Step Walk (Res (List Chunk))
+walkStep s w = walkOn w (chunkAt s (w .at))
+
+-- the chunks of a parent in order, or 21: it is walked to its end
+unfoldable pub chunks : List ℕ → Res (List Chunk)
+chunks s = iterate (walkStep s) (λ w. length s - w .at) (fault 21) (record { at = 0; passed = [] })
+
 -- where the contents of a chunk stand in its parent
 pub record Part : Type 0 where
   pub start : ℕ
@@ -41,29 +60,22 @@ pub record Part : Type 0 where
 abbrev pub partOf : Chunk → Part
 partOf c = record { start = c .start; size = c .size }
 
--- a walk through a parent: the place, and the answer if the parent ends there
-pub record Walk : Type 0 where
-  pub at : ℕ
-  pub answer : Res (Option Part)
+-- the first chunk of an id, if there is one
+abbrev pub first : ℕ → List Chunk → Option Part
+first id [] = none
+first id (c ∷ cs) = pick (eqb (c .id) id) (some (partOf c)) (first id cs)
 
--- the part found already, or this one if there is none
-abbrev pub orPart : Res (Option Part) → Part → Res (Option Part)
-orPart (ok none) p = ok (some p)
-orPart (ok (some q)) p = ok (some q)
-orPart (fault n) p = fault n
-
--- one turn: past a chunk, or to the answer where the parent ends or a chunk passes it
-abbrev pub walkOn : ℕ → Walk → Res (Option Chunk) → Step Walk (Res (Option Part))
-walkOn id w (ok (some c)) = next (record { at = c .next; answer = pick (eqb (c .id) id) (orPart (w .answer) (partOf c)) (w .answer) })
-walkOn id w (ok none) = done (w .answer)
-walkOn id w (fault n) = done (fault n)
-
-abbrev pub walkStep : ℕ → List ℕ → Walk → Step Walk (Res (Option Part))
-walkStep id s w = walkOn id w (chunkAt s (w .at))
-
--- the first chunk of an id in a parent, if there is one, or 21: the parent is walked to its end
+-- the same in a parent
 unfoldable pub find : ℕ → List ℕ → Res (Option Part)
-find id s = runs (walkStep id s) (λ w. length s - w .at) (fault 21) (record { at = 0; answer = ok none })
+find id s = chunks s >>= λ cs. ok (first id cs)
+
+-- whether a parent has a chunk of an id
+abbrev pub isThere : Option Part → Bool
+isThere (some p) = true
+isThere none = false
+
+abbrev pub has : ℕ → List ℕ → Res Bool
+has id s = find id s >>= λ o. ok (isThere o)
 
 -- the bytes of a part
 abbrev pub bytesOf : List ℕ → Part → List ℕ
@@ -87,4 +99,21 @@ standingOf (Refused why) = fault (numberOf why)
 abbrev pub foundOf : Found → Res (Option Part)
 foundOf (At start len) = ok (some (record { start = start; size = len }))
 foundOf Missing = ok none
-foundOf (Broken why) = fault (numberOf why)
+foundOf (FoundRefused why) = fault (numberOf why)
+
+-- the part found already, or this one if there is none
+abbrev pub orPart : Res (Option Part) → Part → Res (Option Part)
+orPart (ok none) p = ok (some p)
+orPart (ok (some q)) p = ok (some q)
+orPart (fault n) p = fault n
+
+-- a chunk at a place lies within the parent, and the next place is past it
+pub record Within (s : List ℕ) (at : ℕ) (c : Chunk) : Type 0 where
+  pub starts : at + 8 ≤ c .start
+  pub holds : c .start + c .size ≤ c .next
+  pub rises : at < c .next
+  pub ends : c .next ≤ length s
+
+-- a part lies within the parent
+pub record Lies (s : List ℕ) (p : Part) : Type 0 where
+  pub ends : p .start + p .size ≤ length s

@@ -1,4 +1,2 @@
 pub mod Ids
 pub mod Chunk
-pub mod ChunkLaws
-pub mod Both

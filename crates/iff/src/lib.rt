@@ -1,7 +1,8 @@
 // Chunks of an IFF file: what stands at a place, and the first chunk of an id, whose contents are a part of the lent slice.
 ghost use mathlib.Core.Path.{_≡_};
+ghost use lib.Dec.{eqb};
+ghost use Rattle.laws.specs.Result.{pick};
 ghost use Rattle.iff.specs.Chunk.{chunkAt, standingOf, find, foundOf, orPart, contents};
-ghost use Rattle.iff.specs.Both.{hasBoth, bothOf};
 
 pub mod ids;
 
@@ -25,14 +26,13 @@ pub enum Standing {
 pub enum Found {
     At { start: usize, len: usize },
     Missing,
-    Broken(Refusal),
+    Refused(Refusal),
 }
 
-// Whether a parent has two chunks.
-pub enum Both {
-    There,
-    Missing,
-    Broken(Refusal),
+// What a search for two chunks finds.
+pub struct Pair {
+    pub first: Found,
+    pub second: Found,
 }
 
 // What stands at a place of a parent.
@@ -58,41 +58,62 @@ pub fn chunk_at(s: &[u8], at: usize) -> Standing
     }
 }
 
-// The part found so far, or this one if there is none.
-fn or_part(first: Found, start: usize, len: usize) -> Found
-    ensures { λ r. ⌜ foundOf r ≡ orPart (foundOf first) (record { start = start; size = len }) ⌝ }
+// The part found so far, or else this chunk's, if it has the id.
+fn or_part(found: Found, wanted: usize, id: usize, start: usize, len: usize) -> Found
+    ensures { λ r. ⌜ foundOf r ≡ pick (eqb id wanted) (orPart (foundOf found) (record { start = start; size = len })) (foundOf found) ⌝ }
 {
-    match first {
-        Found::At { start: _, len: _ } => first,
+    if id != wanted {
+        return found;
+    }
+    match found {
+        Found::At { start: _, len: _ } => found,
         Found::Missing => Found::At { start, len },
-        Found::Broken(_) => first,
+        Found::Refused(_) => found,
     }
 }
 
-// The first chunk of an id. The parent is walked to its end, so that a chunk that passes it is found too.
-pub fn find(s: &[u8], wanted: usize) -> Found
-    ensures { λ r. ⌜ foundOf r ≡ find wanted (now (s .entry)) ⌝ }
+// The first chunks of two ids, in one walk. The parent is walked to its end, so that a chunk that passes it is found too.
+pub fn find_pair(s: &[u8], first: usize, second: usize) -> Pair
+    ensures { λ r. ⌜ (foundOf (r .first) ≡ find first (now (s .entry))) × (foundOf (r .second) ≡ find second (now (s .entry))) ⌝ }
 {
     let mut at = 0;
-    let mut first = Found::Missing;
+    let mut p = Found::Missing;
+    let mut q = Found::Missing;
     loop {
         let c = chunk_at(s, at);
         match c {
-            Standing::End => return first,
-            Standing::Refused(why) => return Found::Broken(why),
+            Standing::End => {
+                return Pair {
+                    first: p,
+                    second: q,
+                };
+            }
+            Standing::Refused(why) => {
+                return Pair {
+                    first: Found::Refused(why),
+                    second: Found::Refused(why),
+                };
+            }
             Standing::Whole {
                 id,
                 start,
                 len,
                 next,
             } => {
-                if id == wanted {
-                    first = or_part(first, start, len);
-                }
+                p = or_part(p, first, id, start, len);
+                q = or_part(q, second, id, start, len);
                 at = next;
             }
         }
     }
+}
+
+// The first chunk of an id.
+pub fn find(s: &[u8], wanted: usize) -> Found
+    ensures { λ r. ⌜ foundOf r ≡ find wanted (now (s .entry)) ⌝ }
+{
+    let p = find_pair(s, wanted, wanted);
+    p.first
 }
 
 // The contents of the first chunk of an id, as a part of the parent; an empty part where there is none.
@@ -106,25 +127,6 @@ pub fn contents(s: &[u8], wanted: usize) -> &[u8]
             &s[start..end]
         }
         Found::Missing => &s[..0],
-        Found::Broken(_) => &s[..0],
-    }
-}
-
-// Whether a parent has a chunk of each of two ids.
-pub fn has_both(s: &[u8], first: usize, second: usize) -> Both
-    ensures { λ r. ⌜ bothOf r ≡ hasBoth first second (now (s .entry)) ⌝ }
-{
-    let p = find(s, first);
-    match p {
-        Found::Broken(why) => Both::Broken(why),
-        Found::Missing => Both::Missing,
-        Found::At { start: _, len: _ } => {
-            let q = find(s, second);
-            match q {
-                Found::Broken(why) => Both::Broken(why),
-                Found::Missing => Both::Missing,
-                Found::At { start: _, len: _ } => Both::There,
-            }
-        }
+        Found::Refused(_) => &s[..0],
     }
 }

@@ -1,20 +1,6 @@
 -- What holds of every value of a list.
-use mathlib.Core.List.{List, [], _∷_, _++_}
+use mathlib.Core.List.{List, [], _∷_}
 
 pub data Every {A : Type 0} (P : A → Type 0) : List A → Type 0 where
   every-none : Every P []
   every-cons : {x : A} {xs : List A} → P x → Every P xs → Every P (x ∷ xs)
-
-pub every-head : {A : Type 0} {P : A → Type 0} {x : A} {xs : List A} → Every P (x ∷ xs) → P x
-every-head (every-cons p q) = p
-
-pub every-tail : {A : Type 0} {P : A → Type 0} {x : A} {xs : List A} → Every P (x ∷ xs) → Every P xs
-every-tail (every-cons p q) = q
-
-pub every-append : {A : Type 0} {P : A → Type 0} {xs ys : List A} → Every P xs → Every P ys → Every P (xs ++ ys)
-every-append every-none q = q
-every-append (every-cons p ps) q = every-cons p (every-append ps q)
-
--- one value more
-pub every-more : {A : Type 0} {P : A → Type 0} {xs : List A} {x : A} → Every P xs → P x → Every P (xs ++ (x ∷ []))
-every-more p q = every-append p (every-cons q every-none)

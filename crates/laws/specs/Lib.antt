@@ -1,7 +1,5 @@
 pub mod Result
-pub mod ResultLaws
 pub mod Loop
-pub mod LoopLaws
 pub mod Bytes
 pub mod Store
 pub mod Put

@@ -1,4 +1,5 @@
--- What a definition comes to: a value or a refusal number of document 01, chained so that the first refusal counts.
+-- What a definition comes to: a value or a refusal number of document 01, chained so that the first refusal counts; and what holds of the
+-- value, if there is one.
 use Prim.Native.Nat.{ℕ}
 use mathlib.Core.Bool.{Bool, true, false}
 use mathlib.Core.Option.{Option, none, some}
@@ -28,6 +29,11 @@ abbrev pub orKeep : {A : Type 0} → A → Res A → A
 orKeep b (ok a) = a
 orKeep b (fault n) = b
 
+-- what a call leaves: what is made of the value, or what was there before if there is none
+abbrev pub leaves : {A B : Type 0} → B → (A → B) → Res A → B
+leaves b f (ok a) = f a
+leaves b f (fault n) = b
+
 -- whether there is a value, with the refusal otherwise
 abbrev pub answer : {A : Type 0} → Res A → Res (Unit {0})
 answer (ok a) = ok tt
@@ -48,3 +54,13 @@ _>>?_ none f = none
 abbrev pub given : Bool → Option (Unit {0})
 given true = some tt
 given false = none
+
+-- P holds of the value, or there is none
+pub data Each {A : Type 0} (P : A → Type 0) : Res A → Type 0 where
+  each : {a : A} → P a → Each P (ok a)
+  no-value : {n : ℕ} → Each P (fault n)
+
+-- P holds of what there is, or there is nothing
+pub data All {A : Type 0} (P : A → Type 0) : Option A → Type 0 where
+  all-some : {a : A} → P a → All P (some a)
+  all-none : All P none

@@ -1,1 +1,1 @@
-// Definitions and theorems that several crates cite: see specs/. There is no code here.
+// Definitions and theorems that several crates cite: see specs/ and proofs/. There is no code here.

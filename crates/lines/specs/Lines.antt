@@ -9,7 +9,7 @@ use lib.Dec.{ltb}
 use lib.ListN.{length, take, drop}
 use Rattle.laws.specs.Store.{over}
 use Rattle.state.specs.declared.Sizes.{Sizes}
-use Rattle.state.specs.Outcome.{Report}
+use Rattle.state.specs.declared.Report.{Report}
 use Rattle.refusal.specs.Number.{numberOf}
 use Rattle.lines.specs.declared.Line.{Line}
 use Rattle.lines.specs.declared.Line.the-variants.{TooLarge, Picture, Frame, End, Refused}
@@ -53,13 +53,13 @@ pictureLine z = field "picture " (z .width) ++ field "x" (z .height) ++ field "x
 -- frame n, and what stepping on reported of it
 unfoldable pub frameLine : ℕ → Report → List ℕ
 frameLine n r =
-    field "frame " n ++ field " method " (r .method) ++ field " time " (r .time) ++ field " changed " (r .changed) ++ field " record " (r .length) ++ newline
+    field "frame " n ++ field " method " (r .method) ++ field " time " (r .time) ++ field " changed " (r .changed) ++ field " record " (r .record_length) ++ newline
 
 -- the text of each line
 abbrev pub lineOf : Line → List ℕ
 lineOf TooLarge = tooLarge
 lineOf (Picture z) = pictureLine z
-lineOf (Frame n method time changed size) = frameLine n (record { method = method; time = time; changed = changed; length = size })
+lineOf (Frame n r) = frameLine n r
 lineOf (End n) = endLine n
 lineOf (Refused why) = refusedLine (numberOf why)
 

@@ -5,6 +5,7 @@ ghost use lib.ListN.{length};
 ghost use Rattle.lines.specs.Lines.{decimal, newline, pictureLine, frameLine, lineOf, Adds};
 use buffer::copy;
 use refusal::Refusal;
+use state::Report;
 use state::Sizes;
 
 // A line of a listing.
@@ -12,13 +13,7 @@ pub enum Line {
     TooLarge,
     Picture(Sizes),
     // A frame's number and what stepping on reported of it.
-    Frame {
-        frame: usize,
-        method: usize,
-        time: usize,
-        changed: usize,
-        record: usize,
-    },
+    Frame(usize, Report),
     // The last line of a file that ends at a frame.
     End(usize),
     Refused(Refusal),
@@ -91,23 +86,15 @@ fn put_picture(out: &mut [u8], from: usize, sizes: Sizes) -> usize
 }
 
 // Adds a frame's line: what stepping on reported of it.
-fn put_frame(
-    out: &mut [u8],
-    from: usize,
-    frame: usize,
-    method: usize,
-    time: usize,
-    changed: usize,
-    rec: usize,
-) -> usize
+fn put_frame(out: &mut [u8], from: usize, frame: usize, report: Report) -> usize
     requires { ⌜ from ≤ length (now out) ⌝ }
-    ensures { λ r. ⌜ Adds (now (out .entry)) from (frameLine frame (record { method = method; time = time; changed = changed; length = rec })) (now (out .exit)) r ⌝ }
+    ensures { λ r. ⌜ Adds (now (out .entry)) from (frameLine frame report) (now (out .exit)) r ⌝ }
 {
     let mut at = put_field(out, from, b"frame ", frame);
-    at = put_field(out, at, b" method ", method);
-    at = put_field(out, at, b" time ", time);
-    at = put_field(out, at, b" changed ", changed);
-    at = put_field(out, at, b" record ", rec);
+    at = put_field(out, at, b" method ", report.method);
+    at = put_field(out, at, b" time ", report.time);
+    at = put_field(out, at, b" changed ", report.changed);
+    at = put_field(out, at, b" record ", report.record_length);
     put_byte(out, at, b'\n')
 }
 
@@ -122,13 +109,7 @@ pub fn put_line(out: &mut [u8], at: usize, line: Line) -> usize
     match line {
         Line::TooLarge => put_text(out, at, b"too large\n"),
         Line::Picture(sizes) => put_picture(out, at, sizes),
-        Line::Frame {
-            frame,
-            method,
-            time,
-            changed,
-            record,
-        } => put_frame(out, at, frame, method, time, changed, record),
+        Line::Frame(frame, report) => put_frame(out, at, frame, report),
         Line::End(frame) => put_last(out, at, b"end ", frame),
         Line::Refused(why) => {
             let number = why.number();

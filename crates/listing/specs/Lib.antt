@@ -1,3 +1,1 @@
 pub mod Listing
-pub mod ListLaws
-pub mod FileLaws

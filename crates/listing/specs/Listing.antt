@@ -8,32 +8,25 @@ use mathlib.Core.Path.{_≡_}
 use lib.Dec.{leb}
 use lib.ListN.{length, take, drop}
 use Rattle.laws.specs.Result.{Res, Res.ok, Res.fault, pick}
-use Rattle.laws.specs.Loop.{Step, Step.next, Step.done, runs}
+use Rattle.laws.specs.Loop.{Step, Step.next, Step.done, iterate}
 use Rattle.laws.specs.Store.{over}
-use Rattle.state.specs.State.{opened}
+use Rattle.state.specs.State.{opened, zeros}
 use Rattle.state.specs.Film.{Film}
-use Rattle.opening.specs.Open.{opening, firstSize, zeros}
-use Rattle.state.specs.World.{World}
-use Rattle.state.specs.Outcome.{Answer, Answer.refused, Answer.ended, Answer.tookOn, Answer.tookBack, After}
-use Rattle.player.specs.Step.{stepOn, workAfter}
+use Rattle.state.specs.After.{Answer, Answer.refused, Answer.ended, Answer.tookOn, Answer.tookBack, Lent, lent, lentAfter}
+use Rattle.opening.specs.Open.{opening, firstSize}
+use Rattle.step_on.specs.Step.{stepOn}
 use Rattle.lines.specs.Lines.{refusedLine, endLine, pictureLine, frameLine, tooLarge, lineOf}
 use Rattle.listing.specs.declared.Plan.{Plan}
 use Rattle.listing.specs.declared.Plan.the-variants.{Single, Frames}
 
--- what stands while a file is listed: both pictures and the state, the work and the record buffer, and the text so far
-pub record Scene : Type 0 where
-  pub world : World
-  pub work : List ℕ
-  pub rec : List ℕ
+-- what stands while a file is listed: what a step on is lent, and the text so far
+pub record Listing : Type 0 where
+  pub lent : Lent
   pub text : List ℕ
 
 -- a line more
-abbrev pub says : Scene → List ℕ → Scene
-says c line = record { world = c .world; work = c .work; rec = c .rec; text = c .text ++ line }
-
--- what a step on leaves
-abbrev pub leaves : Scene → After → Scene
-leaves c o = record { world = o .world; work = workAfter (c .work) (o .work); rec = o .bytes ++ drop (length (o .bytes)) (c .rec); text = c .text }
+abbrev pub addLine : Listing → List ℕ → Listing
+addLine c line = record { lent = c .lent; text = c .text ++ line }
 
 -- the line of a step's answer, with the frame reached; no step on answers as a step back
 abbrev pub stepLine : Answer → ℕ → List ℕ
@@ -49,57 +42,60 @@ taken ended = false
 taken (refused k) = false
 taken tookBack = false
 
-abbrev pub lineOn : Answer → Scene → Step Scene Scene
-lineOn x c = pick (taken x) (next (says c (stepLine x (c .world .state .frame)))) (done (says c (stepLine x (c .world .state .frame))))
+abbrev pub lineOn : Answer → Listing → Step Listing Listing
+lineOn x c = pick (taken x) (next (addLine c (stepLine x (c .lent .world .state .frame)))) (done (addLine c (stepLine x (c .lent .world .state .frame))))
 
 -- one step on, with a work buffer of `size` bytes and a record buffer of `room` bytes
-abbrev pub listStep : List ℕ → ℕ → ℕ → Scene → Step Scene Scene
-listStep file size room c = lineOn (stepOn file (c .world) size room .answer) (leaves c (stepOn file (c .world) size room))
+abbrev pub listStep : List ℕ → ℕ → ℕ → Listing → Step Listing Listing
+listStep file size room c =
+    lineOn (stepOn file (c .lent .world) size room .answer) (record { lent = lentAfter (c .lent) (stepOn file (c .lent .world) size room); text = c .text })
 
 -- step on until the end or a refusal: the place rises with each step taken
-unfoldable pub frames : List ℕ → ℕ → ℕ → Scene → Scene
-frames file size room c = runs (listStep file size room) (λ d. length file - d .world .state .next) c c
+unfoldable pub listFrames : List ℕ → ℕ → ℕ → Listing → Listing
+listFrames file size room c = iterate (listStep file size room) (λ d. length file - d .lent .world .state .next) c c
 
--- an opened file: the picture's line, then its frames
-unfoldable pub shows : List ℕ → ℕ → ℕ → Scene → Res Film → Scene
-shows file size room c (ok F) =
-    frames file size room
-    (record { world = record { a = F .first; b = F .first; state = opened (F .sizes) (F .start) (F .end) }; work = c .work; rec = c .rec; text = c .text ++ pictureLine (F .sizes) })
-shows file size room c (fault n) = says c (refusedLine n)
+-- A, B, the work buffer and the record buffer
+pub record Buffers : Type 0 where
+  pub a : List ℕ
+  pub b : List ℕ
+  pub work : List ℕ
+  pub rec : List ℕ
+
+abbrev pub buffersOf : Lent → Buffers
+buffersOf l = record { a = l .world .a; b = l .world .b; work = l .work; rec = l .rec }
 
 -- before anything is listed
-abbrev pub blank : (a b work rec : List ℕ) → Scene
-blank a b work rec = record { world = record { a = a; b = b; state = zeros }; work = work; rec = rec; text = [] }
+abbrev pub unlisted : Buffers → Listing
+unlisted l = record { lent = lent (l .a) (l .b) zeros (l .work) (l .rec); text = [] }
+
+-- an opened file: the picture's line, then its frames
+unfoldable pub listOpened : List ℕ → ℕ → ℕ → Buffers → Res Film → Listing
+listOpened file size room l (ok F) =
+    listFrames file size room (record { lent = lent (F .first) (F .first) (opened (F .sizes) (F .start) (F .end)) (l .work) (l .rec); text = pictureLine (F .sizes) })
+listOpened file size room l (fault n) = addLine (unlisted l) (refusedLine n)
 
 -- a file that is opened with these buffers
-unfoldable pub opens : (file a b work rec : List ℕ) → Scene
-opens file a b work rec = shows file (length work) (length rec) (blank a b work rec) (opening file (length a) (length b))
+unfoldable pub listFilm : List ℕ → Buffers → Listing
+listFilm file l = listOpened file (length (l .work)) (length (l .rec)) l (opening file (length (l .a)) (length (l .b)))
 
 -- the length of the record buffer: a record has at most twice the frame's bytes and 16 more (`record-short`), 32,784 for the longest
 -- frame, so that no longer buffer makes a difference (`room-enough`)
 abbrev pub ROOM : ℕ
 ROOM = 65_536
 
--- with the first n bytes of A, B and the work buffer, and ROOM bytes of the record buffer; the bytes after them stay
-abbrev pub front : ℕ → Scene → Scene
-front n c = record {
-  world = record { a = take n (c .world .a); b = take n (c .world .b); state = c .world .state };
-  work = take n (c .work);
-  rec = take ROOM (c .rec);
-  text = c .text;
-}
+-- the first n bytes of A, B and the work buffer, and ROOM bytes of the record buffer; the bytes after them stay
+abbrev pub frontOf : ℕ → Buffers → Buffers
+frontOf n l = record { a = take n (l .a); b = take n (l .b); work = take n (l .work); rec = take ROOM (l .rec) }
 
-abbrev pub behind : ℕ → Scene → Scene → Scene
-behind n c d = record {
-  world = record { a = d .world .a ++ drop n (c .world .a); b = d .world .b ++ drop n (c .world .b); state = d .world .state };
-  work = d .work ++ drop n (c .work);
-  rec = d .rec ++ drop ROOM (c .rec);
+abbrev pub withRest : ℕ → Buffers → Listing → Listing
+withRest n l d = record {
+  lent = lent (d .lent .world .a ++ drop n (l .a)) (d .lent .world .b ++ drop n (l .b)) (d .lent .world .state) (d .lent .work ++ drop n (l .work)) (d .lent .rec ++ drop ROOM (l .rec));
   text = d .text;
 }
 
 -- a file whose frames have n bytes
-unfoldable pub fronts : List ℕ → ℕ → Scene → Scene
-fronts file n c = behind n c (shows file n ROOM (front n c) (opening file n n))
+unfoldable pub listFront : List ℕ → ℕ → Buffers → Listing
+listFront file n l = withRest n l (listOpened file n ROOM (frontOf n l) (opening file n n))
 
 -- how a file is listed: by one line, or frame by frame with frames of so many bytes
 pub data Planned : Type 0 where
@@ -111,49 +107,50 @@ abbrev pub sized : Res ℕ → Planned
 sized (ok n) = pick (leb n 16_384) (pictures n) (single tooLarge)
 sized (fault n) = single (refusedLine n)
 
-unfoldable pub planned : List ℕ → Planned
-planned file = pick (leb (length file) 65_536) (sized (firstSize file)) (single tooLarge)
+unfoldable pub planFor : List ℕ → Planned
+planFor file = pick (leb (length file) 65_536) (sized (firstSize file)) (single tooLarge)
 
 abbrev pub planOf : Plan → Planned
 planOf (Single line) = single (lineOf line)
 planOf (Frames n) = pictures n
 
-abbrev pub follow : List ℕ → Scene → Planned → Scene
-follow file c (single line) = says c line
-follow file c (pictures n) = fronts file n c
+abbrev pub listPlanned : List ℕ → Buffers → Planned → Listing
+listPlanned file l (single line) = addLine (unlisted l) line
+listPlanned file l (pictures n) = listFront file n l
 
-unfoldable pub listed : List ℕ → Scene → Scene
-listed file c = follow file c (planned file)
+unfoldable pub listFile : List ℕ → Buffers → Listing
+listFile file l = listPlanned file l (planFor file)
 
 -- the text of a file: what the buffers hold makes no difference (`text-same`)
 unfoldable pub listing : List ℕ → List ℕ
-listing file = listed file (blank [] [] [] []) .text
+listing file = listFile file (record { a = []; b = []; work = []; rec = [] }) .text
 
 -- buffers that are long enough for every file; with others nothing is listed
-abbrev pub roomy : (a b work rec : List ℕ) → Bool
-roomy a b work rec = leb 16_384 (length a) && leb 16_384 (length b) && leb 16_384 (length work) && leb ROOM (length rec)
+abbrev pub longEnough : Buffers → Bool
+longEnough l = leb 16_384 (length (l .a)) && leb 16_384 (length (l .b)) && leb 16_384 (length (l .work)) && leb ROOM (length (l .rec))
 
-unfoldable pub lent : (file a b work rec : List ℕ) → Scene
-lent file a b work rec = pick (roomy a b work rec) (listed file (blank a b work rec)) (blank a b work rec)
+unfoldable pub listLent : List ℕ → Buffers → Listing
+listLent file l = pick (longEnough l) (listFile file l) (unlisted l)
 
-unfoldable pub lentText : (file a b work rec : List ℕ) → List ℕ
-lentText file a b work rec = pick (roomy a b work rec) (listing file) []
+unfoldable pub lentText : List ℕ → Buffers → List ℕ
+lentText file l = pick (longEnough l) (listing file) []
 
--- what a scene leaves in the lent buffers: the text stands at the front of `out`, as far as that goes
-pub record Lists (c : Scene) (out : List ℕ) (r : ℕ) (a b work rec out′ : List ℕ) : Type 0 where
+-- what a listing leaves in the lent buffers: the text stands at the front of `out`, as far as that goes
+pub record Lists (c : Listing) (out : List ℕ) (r : ℕ) (l : Buffers) (out′ : List ℕ) : Type 0 where
   pub text : out′ ≡ over (c .text) out
   pub count : r ≡ min (length (c .text)) (length out)
-  pub left : a ≡ c .world .a
-  pub right : b ≡ c .world .b
-  pub drawn : work ≡ c .work
-  pub written : rec ≡ c .rec
+  pub left : l ≡ buffersOf (c .lent)
 
 -- the contract of listing: the file's text stands at the front of `out`, as far as that goes, and the other buffers are as its steps left them
-pub record MeetsList (file a b work rec out : List ℕ) (r : ℕ) (a′ b′ work′ rec′ out′ : List ℕ) : Type 0 where
-  pub text : out′ ≡ over (lentText file a b work rec) out
-  pub count : r ≡ min (length (lentText file a b work rec)) (length out)
+pub record MeetsList (file : List ℕ) (l : Buffers) (out : List ℕ) (r : ℕ) (l′ : Buffers) (out′ : List ℕ) : Type 0 where
+  pub text : out′ ≡ over (lentText file l) out
+  pub count : r ≡ min (length (lentText file l)) (length out)
   pub most : r ≤ length out′
-  pub left : a′ ≡ lent file a b work rec .world .a
-  pub right : b′ ≡ lent file a b work rec .world .b
-  pub drawn : work′ ≡ lent file a b work rec .work
-  pub written : rec′ ≡ lent file a b work rec .rec
+  pub left : l′ ≡ buffersOf (listLent file l .lent)
+
+-- buffers whose front parts a file with frames of n bytes needs
+pub record Holds (n a b work rec : ℕ) : Type 0 where
+  pub left : n ≤ a
+  pub right : n ≤ b
+  pub drawn : n ≤ work
+  pub written : ROOM ≤ rec

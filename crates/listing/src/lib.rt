@@ -4,16 +4,16 @@ ghost use mathlib.Core.Path.{_≡_};
 ghost use lib.Dec.{leb};
 ghost use lib.ListN.{length};
 ghost use Rattle.lines.specs.Lines.{pictureLine, lineOf};
-ghost use Rattle.player.specs.Step.{onOf};
-ghost use Rattle.listing.specs.Listing.{stepLine, taken, frames, opens, planned, planOf, fronts, listed, blank, Lists, MeetsList};
-ghost use Rattle.listing.specs.FileLaws.{Holds};
+ghost use Rattle.state.specs.After.{lent};
+ghost use Rattle.step_on.specs.Step.{onOf};
+ghost use Rattle.listing.specs.Listing.{stepLine, taken, listFrames, listFilm, listFront, planFor, planOf, listFile, Lists, MeetsList, Holds};
 use lines::Line;
 use lines::put_line;
 use opening::Opening;
 use opening::Size;
-use player::On;
-use player::SteppedOn;
 use state::State;
+use step_on::On;
+use step_on::SteppedOn;
 
 // The longest file that is listed.
 pub const FILE: usize = 65536;
@@ -33,18 +33,7 @@ fn step_line(s: SteppedOn) -> Line
     match answer {
         On::Refused(why) => Line::Refused(why),
         On::End => Line::End(state.frame),
-        On::Taken {
-            method,
-            time,
-            changed,
-            record,
-        } => Line::Frame {
-            frame: state.frame,
-            method,
-            time,
-            changed,
-            record,
-        },
+        On::Taken(report) => Line::Frame(state.frame, report),
     }
 }
 
@@ -54,12 +43,7 @@ fn taken(s: SteppedOn) -> bool
 {
     let answer = s.answer;
     match answer {
-        On::Taken {
-            method: _,
-            time: _,
-            changed: _,
-            record: _,
-        } => true,
+        On::Taken(_) => true,
         On::End => false,
         On::Refused(_) => false,
     }
@@ -75,13 +59,15 @@ fn list_frames(
     rec: &mut [u8],
     out: &mut [u8],
 ) -> usize
-    ensures { λ r. ⌜ Lists (frames (now (file .entry)) (length (now (work .entry))) (length (now (rec .entry))) (record { world = record { a = now (a .entry); b = now (b .entry); state = start }; work = now (work .entry); rec = now (rec .entry); text = pictureLine (start .sizes) })) (now (out .entry)) r (now (a .exit)) (now (b .exit)) (now (work .exit)) (now (rec .exit)) (now (out .exit)) ⌝ }
+    ensures { λ r. ⌜ Lists (listFrames (now (file .entry)) (length (now (work .entry))) (length (now (rec .entry)))
+        (record { lent = lent (now (a .entry)) (now (b .entry)) start (now (work .entry)) (now (rec .entry)); text = pictureLine (start .sizes) }))
+        (now (out .entry)) r (record { a = now (a .exit); b = now (b .exit); work = now (work .exit); rec = now (rec .exit) }) (now (out .exit)) ⌝ }
 {
     let mut state = start;
     let sizes = start.sizes;
     let mut at = put_line(out, 0, Line::Picture(sizes));
     loop {
-        let s = player::step_on(file, state, a, b, work, rec);
+        let s = step_on::step_on(file, state, a, b, work, rec);
         at = put_line(out, at, step_line(s));
         if !taken(s) {
             return at;
@@ -99,7 +85,8 @@ fn list_film(
     rec: &mut [u8],
     out: &mut [u8],
 ) -> usize
-    ensures { λ r. ⌜ Lists (opens (now (file .entry)) (now (a .entry)) (now (b .entry)) (now (work .entry)) (now (rec .entry))) (now (out .entry)) r (now (a .exit)) (now (b .exit)) (now (work .exit)) (now (rec .exit)) (now (out .exit)) ⌝ }
+    ensures { λ r. ⌜ Lists (listFilm (now (file .entry)) (record { a = now (a .entry); b = now (b .entry); work = now (work .entry); rec = now (rec .entry) }))
+        (now (out .entry)) r (record { a = now (a .exit); b = now (b .exit); work = now (work .exit); rec = now (rec .exit) }) (now (out .exit)) ⌝ }
 {
     let o = opening::open(file, a, b);
     let state = o.state;
@@ -121,7 +108,8 @@ fn list_front(
     out: &mut [u8],
 ) -> usize
     requires { ⌜ Holds n (length (now a)) (length (now b)) (length (now work)) (length (now rec)) ⌝ }
-    ensures { λ r. ⌜ Lists (fronts (now (file .entry)) n (blank (now (a .entry)) (now (b .entry)) (now (work .entry)) (now (rec .entry)))) (now (out .entry)) r (now (a .exit)) (now (b .exit)) (now (work .exit)) (now (rec .exit)) (now (out .exit)) ⌝ }
+    ensures { λ r. ⌜ Lists (listFront (now (file .entry)) n (record { a = now (a .entry); b = now (b .entry); work = now (work .entry); rec = now (rec .entry) }))
+        (now (out .entry)) r (record { a = now (a .exit); b = now (b .exit); work = now (work .exit); rec = now (rec .exit) }) (now (out .exit)) ⌝ }
 {
     list_film(
         file,
@@ -141,7 +129,7 @@ enum Plan {
 
 // How a file is listed, by its length and its frames' length.
 fn plan_for(file: &[u8]) -> Plan
-    ensures { λ r. ⌜ planOf r ≡ planned (now (file .entry)) ⌝ }
+    ensures { λ r. ⌜ planOf r ≡ planFor (now (file .entry)) ⌝ }
 {
     if FILE < file.len() {
         return Plan::Single(Line::TooLarge);
@@ -168,7 +156,8 @@ fn list_file(
     out: &mut [u8],
 ) -> usize
     requires { ⌜ Holds 16384 (length (now a)) (length (now b)) (length (now work)) (length (now rec)) ⌝ }
-    ensures { λ r. ⌜ Lists (listed (now (file .entry)) (blank (now (a .entry)) (now (b .entry)) (now (work .entry)) (now (rec .entry)))) (now (out .entry)) r (now (a .exit)) (now (b .exit)) (now (work .exit)) (now (rec .exit)) (now (out .exit)) ⌝ }
+    ensures { λ r. ⌜ Lists (listFile (now (file .entry)) (record { a = now (a .entry); b = now (b .entry); work = now (work .entry); rec = now (rec .entry) }))
+        (now (out .entry)) r (record { a = now (a .exit); b = now (b .exit); work = now (work .exit); rec = now (rec .exit) }) (now (out .exit)) ⌝ }
 {
     let p = plan_for(file);
     match p {
@@ -178,7 +167,7 @@ fn list_file(
 }
 
 // Whether buffers of these lengths are long enough for every file.
-fn roomy(a: usize, b: usize, work: usize, rec: usize) -> bool
+fn long_enough(a: usize, b: usize, work: usize, rec: usize) -> bool
     ensures { λ r. ⌜ r ≡ (leb 16384 a && leb 16384 b && leb 16384 work && leb 65536 rec) ⌝ }
 {
     if a < FRAME {
@@ -203,9 +192,10 @@ pub fn list(
     rec: &mut [u8],
     out: &mut [u8],
 ) -> usize
-    ensures { λ r. ⌜ MeetsList (now (file .entry)) (now (a .entry)) (now (b .entry)) (now (work .entry)) (now (rec .entry)) (now (out .entry)) r (now (a .exit)) (now (b .exit)) (now (work .exit)) (now (rec .exit)) (now (out .exit)) ⌝ }
+    ensures { λ r. ⌜ MeetsList (now (file .entry)) (record { a = now (a .entry); b = now (b .entry); work = now (work .entry); rec = now (rec .entry) })
+        (now (out .entry)) r (record { a = now (a .exit); b = now (b .exit); work = now (work .exit); rec = now (rec .exit) }) (now (out .exit)) ⌝ }
 {
-    if !roomy(a.len(), b.len(), work.len(), rec.len()) {
+    if !long_enough(a.len(), b.len(), work.len(), rec.len()) {
         return 0;
     }
     list_file(file, a, b, work, rec, out)

@@ -3,24 +3,22 @@
 use Prim.Native.Nat.{ℕ, zero, suc, _%_}
 use native.Mathlib.Omega.{arith}
 use mathlib.Core.Bool.{Bool, true, false, not}
-use mathlib.Core.List.{List}
-use mathlib.Core.Path.{_≡_, refl, _∙_}
+use mathlib.Core.List.{List, _++_}
+use mathlib.Core.Path.{_≡_, refl, ap, _∙_}
 use lib.Dec.{eqb}
-use lib.ListN.{length}
+use lib.ListN.{length, drop}
 use borrow.Author.Tests.{eq-eqb, ne-eqb}
-use Rattle.laws.specs.Result.{Res.ok}
-use Rattle.laws.specs.ResultLaws.{Each.each, each-any, each-is}
+use Rattle.laws.specs.Result.{Res.ok, Each.each}
+use Rattle.laws.proofs.ResultLaws.{each-any, each-is}
 use Rattle.delta.specs.Reading.{shapeOf}
 use Rattle.delta.specs.Delta.{readDelta}
-use Rattle.delta.specs.DeltaLaws.{draw-length}
+use Rattle.delta.proofs.DeltaLaws.{draw-length}
 use Rattle.frame.specs.Frame.{Frame}
-use Rattle.state.specs.World.{World, isOdd}
-use Rattle.state.specs.Outcome.{After}
+use Rattle.state.specs.World.{isOdd}
+use Rattle.state.specs.After.{After, Lent, workAfter, lentAfter}
 use Rattle.state.specs.Film.{Film}
-use Rattle.player.specs.declared.SteppedOn.{SteppedOn}
-use Rattle.player.specs.Step.{LeavesOn}
-use Rattle.back.specs.declared.SteppedBack.{SteppedBack}
-use Rattle.back.specs.Back.{LeavesBack}
+use Rattle.step_on.specs.declared.SteppedOn.{SteppedOn}
+use Rattle.step_on.specs.Step.{LeavesOn}
 use Rattle.model.specs.Model.{named, built}
 
 -- what a frame's delta makes of two pictures of one length has that length too
@@ -44,8 +42,16 @@ odd-suc n = go (n % 2) refl
     go (suc zero) e = rw (e, ne-eqb (suc n % 2) 1 (λ h. omega arith))
     go (suc (suc r)) e = absurd (omega arith)
 
-pub after-on : {o : After} {work rec : List ℕ} {r : SteppedOn} {a b work′ rec′ : List ℕ} → LeavesOn o work rec r a b work′ rec′ → _≡_ {A = World} (record { a = a; b = b; state = r .state }) (o .world)
-after-on m = λ i. record { a = m .left i; b = m .right i; state = m .state i }
+-- what a step on that met its contract leaves
+module _ {o : After} {l : Lent} {r : SteppedOn} {l′ : Lent} (m : LeavesOn o l r l′) where
+  pub on-world : l′ .world ≡ o .world
+  unfolding lentAfter
+  on-world = ap (λ (k : Lent). k .world) (m .left)
 
-pub after-back : {o : After} {r : SteppedBack} {a b : List ℕ} → LeavesBack o r a b → _≡_ {A = World} (record { a = a; b = b; state = r .state }) (o .world)
-after-back m = λ i. record { a = m .left i; b = m .right i; state = m .state i }
+  pub on-work : l′ .work ≡ workAfter (l .work) (o .work)
+  unfolding lentAfter
+  on-work = ap (λ (k : Lent). k .work) (m .left)
+
+  pub on-rec : l′ .rec ≡ o .bytes ++ drop (length (o .bytes)) (l .rec)
+  unfolding lentAfter
+  on-rec = ap (λ (k : Lent). k .rec) (m .left)

@@ -1,9 +1,13 @@
 pub mod Laws
+pub mod Demand1Laws
 pub mod Demand1
+pub mod Demand2Laws
 pub mod Demand2
+pub mod Demand2FirstLaws
 pub mod Demand2First
 pub mod Opened
 pub mod Reached
 pub mod StepsOn
 pub mod StepsBack
+pub mod Demand3Laws
 pub mod Demand3

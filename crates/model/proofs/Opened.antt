@@ -1,6 +1,6 @@
 -- What an opening that wasn't refused fixes: the model reads the same of the file; sizes within the limits, a picture of a frame's length,
 -- and places within the file.
-use Prim.Native.Nat.{ℕ, _-_, _≤_}
+use Prim.Native.Nat.{ℕ, _≤_}
 use native.Mathlib.Omega.{arith}
 use mathlib.Core.Bool.{Bool, true, false}
 use mathlib.Core.List.{List}
@@ -9,20 +9,19 @@ use mathlib.Core.Path.{_≡_, refl, _∙_}
 use lib.Dec.{leb, eqb}
 use lib.ListN.{length, take}
 use lib.Seq.{length-take-le}
-use Rattle.laws.specs.Result.{Res, Res.ok, _>>=_, need, orRefuse, pick}
-use Rattle.laws.specs.ResultLaws.{Each, Each.each, Each.no-value, each-self, each-any, each-bind, each-need, each-is}
-use Rattle.laws.specs.Store.{part-of-part}
+use Rattle.laws.specs.Result.{Res, Res.ok, _>>=_, need, orRefuse, pick, Each, Each.each, Each.no-value}
+use Rattle.laws.proofs.ResultLaws.{each-self, each-any, each-bind, each-need, each-is}
+use Rattle.laws.proofs.StoreLaws.{part-of-part}
 use Rattle.iff.specs.Ids.{BMHD, BODY, DLTA}
-use Rattle.iff.specs.Chunk.{contents}
-use Rattle.iff.specs.Both.{has}
+use Rattle.iff.specs.Chunk.{has, contents}
 use Rattle.form.specs.Form.{Frame, chunksOf, animEnd, nextFrame}
-use Rattle.form.specs.FormLaws.{anim-closes}
+use Rattle.form.proofs.FormLaws.{anim-closes}
 use Rattle.bmhd.specs.declared.Header.{Header}
 use Rattle.bmhd.specs.Header.{header}
-use Rattle.state.specs.State.{frameBytes, frameLength, opened}
-use Rattle.state.specs.StateLaws.{Sound, sizes-sound}
+use Rattle.state.specs.State.{frameBytes, frameLength, opened, Sound}
+use Rattle.state.proofs.StateLaws.{sizes-sound}
 use Rattle.opening.specs.Open.{Places, bodyIn, placesIn, firstPlaces, firstDelta, firstPicture, First, firstOf, filmOf, opening}
-use Rattle.opening.specs.OpenLaws.{places-lie, header-same, first-long}
+use Rattle.opening.proofs.OpenLaws.{places-lie, header-same, first-long}
 use Rattle.state.specs.Film.{Film}
 use Rattle.model.specs.Model.{onZeros, pictureOne, film}
 

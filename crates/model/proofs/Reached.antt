@@ -1,5 +1,5 @@
 -- A frame m + 1 that can be reached: its pictures have a frame's length, and its place lies within the file.
-use Prim.Native.Nat.{ℕ, zero, suc, _-_, _<_, _≤_}
+use Prim.Native.Nat.{ℕ, zero, suc, _<_, _≤_}
 use native.Mathlib.Omega.{arith}
 use mathlib.Core.Bool.{Bool, true, false, not}
 use mathlib.Core.List.{List, [], _∷_}
@@ -8,12 +8,12 @@ use mathlib.Core.Path.{_≡_, refl, ap}
 use lib.ListN.{length, take, length-take}
 use borrow.Author.Tests.{le-leb}
 use Rattle.laws.specs.Result.{Res.ok, answer, pick, orKeep}
-use Rattle.laws.specs.ResultLaws.{pick-both}
+use Rattle.laws.proofs.ResultLaws.{pick-both}
 use Rattle.state.specs.State.{rowBytes, stateLength}
-use Rattle.frame.specs.Frame.{Frame}
-use Rattle.frame.specs.FrameLaws.{Rises, frame-rises}
-use Rattle.state.specs.World.{isOdd, shownOf, hiddenOf}
-use Rattle.state.specs.Outcome.{Answer, After}
+use Rattle.frame.specs.Frame.{Frame, Rises}
+use Rattle.frame.proofs.FrameLaws.{frame-rises}
+use Rattle.state.specs.World.{isOdd, shownIn, hiddenIn}
+use Rattle.state.specs.After.{Answer, After}
 use Rattle.state.specs.Film.{Film}
 use Rattle.model.specs.Model.{here, past, builtAt, drawn, placeAt, picture, recordAt, stands}
 use Rattle.model.proofs.Laws.{built-length}
@@ -83,12 +83,12 @@ state-good F o m k =
     simp (le-leb 1 (suc m) (omega arith), le-leb (suc m) 1_000_000 (k .few), le-leb 12 (placeAt F m) (k .low), le-leb (placeAt F m) (F .end) (k .high), le-leb (F .end) 2_147_483_647 (o .short)) (o .sizes)
 
 -- the pictures that a call is handed
-pub hidden-is : (F : Film) (m : ℕ) → hiddenOf (stands F m) ≡ picture F m
-unfolding hiddenOf stands
+pub hidden-is : (F : Film) (m : ℕ) → hiddenIn (stands F m) ≡ picture F m
+unfolding hiddenIn stands
 hidden-is F m = pick-same (isOdd (suc m)) (picture F m) (picture F (suc m))
 
-pub shown-is : (F : Film) (m : ℕ) → shownOf (stands F m) ≡ picture F (suc m)
-unfolding shownOf stands
+pub shown-is : (F : Film) (m : ℕ) → shownIn (stands F m) ≡ picture F (suc m)
+unfolding shownIn stands
 shown-is F m = pick-same (isOdd (suc m)) (picture F (suc m)) (picture F m)
 
 pub left-long : (F : Film) (m : ℕ) → Good F m → length (stands F m .a) ≡ size F

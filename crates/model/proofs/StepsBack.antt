@@ -8,24 +8,24 @@ use mathlib.Core.Path.{_≡_, refl, sym, _∙_}
 use lib.Dec.{leb, ltb, eqb}
 use lib.ListN.{length, take}
 use borrow.Author.Tests.{le-leb, lt-ltb, eq-eqb, ne-eqb, leb-true}
-use Rattle.laws.specs.Result.{Res.ok, Res.fault, _>>=_, need, answer}
-use Rattle.state.specs.State.{rowBytes}
+use Rattle.laws.specs.Result.{Res.ok, Res.fault, _>>=_, need}
+use Rattle.state.specs.State.{rowBytes, lentLength}
 use Rattle.record.specs.Record.{Past, pastOf, restored}
-use Rattle.frame.specs.FrameLaws.{Rises, frame-rises}
-use Rattle.state.specs.World.{isOdd, shownOf}
-use Rattle.state.specs.Outcome.{Answer.refused, Answer.tookBack}
-use Rattle.back.specs.Back.{retreat, settleBack, onShown, stepBack}
+use Rattle.frame.specs.Frame.{Rises}
+use Rattle.frame.proofs.FrameLaws.{frame-rises}
+use Rattle.state.specs.World.{isOdd, withShown}
+use Rattle.state.specs.After.{Answer.tookBack}
+use Rattle.step_back.specs.Back.{retreat, settleBack, stepBack}
 use Rattle.state.specs.Film.{Film}
+use Rattle.record.proofs.RoundLaws.{past-record}
 use Rattle.model.specs.Model.{placeAt, picture, recordAt, stands, answerFirst}
-use Rattle.back.specs.BackLaws.{back-kept, back-put}
 use Rattle.model.proofs.Laws.{odd-suc}
-use Rattle.record.specs.RoundLaws.{past-record}
 use Rattle.model.proofs.Opened.{Opened, size}
 use Rattle.model.proofs.Reached.{Reached, place-next, Good, good, state-good, shown-is, left-long, right-long, Comes, Reached.first, Reached.next, pick-back-left, pick-back-right}
 
 -- what is left of the tests of a step back
 pub retreat-is : (F : Film) → Opened F → (m : ℕ) → Good F m → (bytes : List ℕ) → retreat (stands F m) bytes ≡ restored bytes (picture F (suc m)) (suc m) (placeAt F m)
-unfolding retreat
+unfolding retreat lentLength
 retreat-is F o m k bytes =
     let f : stands F m .state .frame ≡ suc m = unfold stands in refl in
     let n : stands F m .state .next ≡ placeAt F m = unfold stands in refl in
@@ -51,20 +51,19 @@ back-first F o bytes = rw (retreat-is F o 0 (good F o first) bytes) (go (pastOf 
     one : picture F 1 ≡ F .first
     one = unfold picture in refl
 
-    go : (q : Option Past) → pastOf bytes (F .first) ≡ q → Comes F 0 0 (answerFirst (pastOf bytes (F .first))) [] (onShown (stands F 0) (settleBack (stands F 0 .state) (shownOf (stands F 0)) (restored bytes (picture F 1) 1 (placeAt F 0))))
-    go none e = rw (one, e, restored-none bytes (F .first) 1 (placeAt F 0) e) (unfold settleBack in rw (back-kept (stands F 0) (refused 61) none) (record { answer = refl; world = refl; bytes = refl; there = first }))
-    go (some p) e = rw (one, e, restored-first bytes (F .first) (placeAt F 0) p e) (unfold settleBack in rw (back-kept (stands F 0) (refused 62) none) (record { answer = refl; world = refl; bytes = refl; there = first }))
+    go : (q : Option Past) → pastOf bytes (F .first) ≡ q → Comes F 0 0 (answerFirst (pastOf bytes (F .first))) [] (settleBack (stands F 0) (restored bytes (picture F 1) 1 (placeAt F 0)))
+    go none e = rw (one, e, restored-none bytes (F .first) 1 (placeAt F 0) e) (unfold settleBack in record { answer = refl; world = refl; bytes = refl; there = first })
+    go (some p) e = rw (one, e, restored-first bytes (F .first) (placeAt F 0) p e) (unfold settleBack in record { answer = refl; world = refl; bytes = refl; there = first })
 
 -- what was put back stands as at the frame before
 pub backTo : Film → ℕ → Past
 backTo F m = record { frame = suc (suc m); place = placeAt F m; picture = picture F m }
 
-pub back-is : (F : Film) (m : ℕ) → onShown (stands F (suc m)) (settleBack (stands F (suc m) .state) (shownOf (stands F (suc m))) (ok (backTo F m))) ≡ record { answer = tookBack; world = stands F m; bytes = []; work = none }
-unfolding settleBack stands backTo
+pub back-is : (F : Film) (m : ℕ) → settleBack (stands F (suc m)) (ok (backTo F m)) ≡ record { answer = tookBack; world = stands F m; bytes = []; work = none }
+unfolding settleBack withShown stands backTo
 back-is F m =
     let e : suc (suc m) - 1 ≡ suc m = omega arith in
-    back-put (stands F (suc m)) (settleBack (stands F (suc m) .state) (shownOf (stands F (suc m))) (ok (backTo F m)))
-    ∙ rw (e, odd-suc (suc m), pick-back-left (isOdd (suc m)) (picture F m) (picture F (suc (suc m))) (picture F (suc m)), pick-back-right (isOdd (suc m)) (picture F m) (picture F (suc (suc m))) (picture F (suc m)))
+    rw (e, odd-suc (suc m), pick-back-left (isOdd (suc m)) (picture F m) (picture F (suc (suc m))) (picture F (suc m)), pick-back-right (isOdd (suc m)) (picture F m) (picture F (suc (suc m))) (picture F (suc m)))
 
 -- stepping back with the unaltered record
 pub restored-ok : (bytes shown : List ℕ) (n k : ℕ) (p : Past) → pastOf bytes shown ≡ some p → 2 ≤ n → p .frame ≡ n → 12 ≤ p .place → p .place < k → restored bytes shown n k ≡ ok p
@@ -75,7 +74,7 @@ pub back-taken : (F : Film) → Opened F → {m : ℕ} → Reached F (suc m) →
 unfolding stepBack
 back-taken F o {m} (next x g p e c h) = go (good F o p) (good F o (next x g p e c h)) (frame-rises (take (F .end) (F .file)) (rowBytes (F .sizes .width)) (placeAt F m) x e)
   where
-    go : Good F m → Good F (suc m) → Rises (take (F .end) (F .file)) (placeAt F m) x → Comes F (suc m) m tookBack [] (onShown (stands F (suc m)) (settleBack (stands F (suc m) .state) (shownOf (stands F (suc m))) (retreat (stands F (suc m)) (recordAt F m))))
+    go : Good F m → Good F (suc m) → Rises (take (F .end) (F .file)) (placeAt F m) x → Comes F (suc m) m tookBack [] (settleBack (stands F (suc m)) (retreat (stands F (suc m)) (recordAt F m)))
     go k k′ r =
         let q : pastOf (recordAt F m) (picture F (suc (suc m))) ≡ some (backTo F m) =
         unfold recordAt backTo in past-record (suc (suc m)) (placeAt F m) (picture F m) (picture F (suc (suc m))) (omega (arith, k′ .few)) (omega (arith, k .high, o .short)) (k .hidden ∙ sym (k′ .shown)) (omega (arith, k .hidden, k′ .shown, o .sound .length-most)) in

@@ -8,10 +8,10 @@ use lib.Dec.{eqb}
 use lib.ListN.{length, take, drop, replicate}
 use Rattle.laws.specs.Result.{Res, Res.ok, Res.fault, pick}
 use Rattle.state.specs.declared.Sizes.{Sizes}
-use Rattle.state.specs.State.{rowBytes, frameBytes}
+use Rattle.state.specs.State.{rowBytes, frameBytes, zeros}
 use Rattle.state.specs.declared.State.{State}
-use Rattle.state.specs.World.{World, shownOf, hiddenOf}
-use Rattle.state.specs.Outcome.{Answer, Answer.refused, Answer.ended, Answer.tookOn, Answer.tookBack}
+use Rattle.state.specs.World.{World, shownIn, hiddenIn}
+use Rattle.state.specs.After.{Answer, Answer.refused, Answer.ended, Answer.tookOn, Answer.tookBack, Lent, lent}
 use Rattle.iff.specs.Ids.{ANHD, DLTA}
 use Rattle.iff.specs.Chunk.{contents}
 use Rattle.form.specs.Form.{chunksOf}
@@ -23,11 +23,11 @@ use Rattle.delta.specs.Delta.{readDelta, draw}
 use Rattle.record.specs.Record.{recordBytes}
 use Rattle.frame.specs.Frame.{Frame, frameAt}
 use Rattle.opening.specs.declared.OpenedFile.{OpenedFile}
-use Rattle.opening.specs.Open.{Places, firstPlaces, firstHeader, zeros, openingOf, MeetsOpen}
-use Rattle.player.specs.declared.SteppedOn.{SteppedOn}
-use Rattle.player.specs.Step.{ready, reportOf, onOf, MeetsOn}
-use Rattle.back.specs.declared.SteppedBack.{SteppedBack}
-use Rattle.back.specs.Back.{backOf, MeetsBack}
+use Rattle.opening.specs.Open.{Places, firstPlaces, firstHeader, openingOf, MeetsOpen}
+use Rattle.step_on.specs.declared.SteppedOn.{SteppedOn}
+use Rattle.step_on.specs.Step.{ready, reportOf, onOf, MeetsOn}
+use Rattle.step_back.specs.declared.SteppedBack.{SteppedBack}
+use Rattle.step_back.specs.Back.{backOf, MeetsBack}
 use Rattle.writer.specs.declared.Delta.{Delta}
 use Rattle.writer.specs.Write.{deltaOf, Writes}
 
@@ -43,23 +43,24 @@ abbrev pub refusalIn : {A : Type 0} → Res A → Option ℕ
 refusalIn (ok a) = none
 refusalIn (fault n) = some n
 
--- a call that met its contract: pictures and state, work and record buffer before it, its refusal if any, and the same after it. Before
--- opening the state is six zeros; opening and stepping back are lent no work buffer, and no record buffer to write to. The writer has no
--- part in pictures and state, and its output buffer stands in the record buffer's place.
-pub data Met : World → (work rec : List ℕ) → Option ℕ → World → (work′ rec′ : List ℕ) → Type 0 where
-  opens : (file a b : List ℕ) (r : OpenedFile) (a′ b′ : List ℕ) → MeetsOpen file a b r a′ b′
-      → Met (record { a = a; b = b; state = zeros }) [] [] (refusalIn (openingOf (r .answer))) (record { a = a′; b = b′; state = r .state }) [] []
-  steps-on : (file : List ℕ) (w : World) (work rec : List ℕ) (r : SteppedOn) (a b work′ rec′ : List ℕ) → MeetsOn file w work rec r a b work′ rec′
-      → Met w work rec (refusalOf (onOf (r .answer))) (record { a = a; b = b; state = r .state }) work′ rec′
-  steps-back : (w : World) (bytes : List ℕ) (r : SteppedBack) (a b : List ℕ) → MeetsBack w bytes r a b
-      → Met w [] [] (refusalOf (backOf (r .answer))) (record { a = a; b = b; state = r .state }) [] []
-  writes : (w : World) (z : Sizes) (old new out : List ℕ) (d : Delta) (out′ : List ℕ) → Writes z old new out (deltaOf d) out′ → Met w [] out (refusalIn (deltaOf d)) w [] out′
+-- a call that met its contract: what it was lent, its refusal if any, and what it left there. Before opening the state is six zeros; opening
+-- and stepping back are lent no work buffer, and no record buffer to write to. The writer has no part in pictures and state, and its output
+-- buffer stands in the record buffer's place.
+pub data Met : Lent → Option ℕ → Lent → Type 0 where
+  opens : (file a b : List ℕ) (r : OpenedFile) (a′ b′ : List ℕ) → MeetsOpen file a b r (record { a = a′; b = b′; state = r .state })
+      → Met (lent a b zeros [] []) (refusalIn (openingOf (r .answer))) (lent a′ b′ (r .state) [] [])
+  steps-on : (file : List ℕ) (l : Lent) (r : SteppedOn) (a b work rec : List ℕ) → MeetsOn file l r (lent a b (r .state) work rec)
+      → Met l (refusalOf (onOf (r .answer))) (lent a b (r .state) work rec)
+  steps-back : (w : World) (bytes : List ℕ) (r : SteppedBack) (a b : List ℕ) → MeetsBack w bytes r (record { a = a; b = b; state = r .state })
+      → Met (record { world = w; work = []; rec = [] }) (refusalOf (backOf (r .answer))) (lent a b (r .state) [] [])
+  writes : (w : World) (z : Sizes) (old new out : List ℕ) (d : Delta) (out′ : List ℕ) → Writes z old new out (deltaOf d) out′
+      → Met (record { world = w; work = []; rec = out }) (refusalIn (deltaOf d)) (record { world = w; work = []; rec = out′ })
 
 -- what a call refused with n leaves: neither picture, nor the state, nor the record buffer is changed, nor the work buffer unless n is 51
-pub record Unchanged (n : ℕ) (w : World) (work rec : List ℕ) (w′ : World) (work′ rec′ : List ℕ) : Type 0 where
-  pub world : w′ ≡ w
-  pub written : rec′ ≡ rec
-  pub drawn : (n ≡ 51 → ⊥) → work′ ≡ work
+pub record Unchanged (n : ℕ) (l l′ : Lent) : Type 0 where
+  pub world : l′ .world ≡ l .world
+  pub written : l′ .rec ≡ l .rec
+  pub drawn : (n ≡ 51 → ⊥) → l′ .work ≡ l .work
 
 -- a step on that only its delta (41 to 43, 45) and its record's length (51) can refuse: the tests of state and buffers passed (11, 12, 53), and
 -- x, the next frame from the next place on, is whole and has a good header (21, 31 to 36)
@@ -73,7 +74,7 @@ deltaOps w x = readDelta (shapeOf (w .state .sizes) (x .header .items)) (x .dlta
 
 -- the picture that frame x builds on, by its own interleave: for 1 the shown one, for 0 and 2 the hidden one
 abbrev pub basisOf : World → Frame → List ℕ
-basisOf w x = pick (eqb (x .header .interleave) 1) (shownOf w) (hiddenOf w)
+basisOf w x = pick (eqb (x .header .interleave) 1) (shownIn w) (hiddenIn w)
 
 -- the picture that the ops of its delta make of that one
 abbrev pub newOf : World → Frame → List Op → List ℕ
@@ -81,17 +82,17 @@ newOf w x ops = draw (shapeOf (w .state .sizes) (x .header .items)) (x .dlta) op
 
 -- the record of a step to a frame whose picture is f
 abbrev pub recordOf : World → List ℕ → List ℕ
-recordOf w f = recordBytes (suc (w .state .frame)) (w .state .next) (hiddenOf w) f
+recordOf w f = recordBytes (suc (w .state .frame)) (w .state .next) (hiddenIn w) f
 
 -- what a taken step to frame x, whose picture is f, answers and leaves: f is in the hidden buffer, which is now the shown one, and in the
 -- work buffer; the shown picture doesn't change; the record stands at the front of its buffer, and the bytes past it stay
-pub record Takes (w : World) (rec : List ℕ) (x : Frame) (f : List ℕ) (y : Answer) (w′ : World) (work′ rec′ : List ℕ) : Type 0 where
-  pub answer : y ≡ tookOn (reportOf (w .state) x (hiddenOf w) f)
-  pub state : w′ .state ≡ record { sizes = w .state .sizes; frame = suc (w .state .frame); next = x .next; end = w .state .end }
-  pub shown : shownOf w′ ≡ f
-  pub hidden : hiddenOf w′ ≡ shownOf w
-  pub drawn : work′ ≡ f
-  pub written : rec′ ≡ recordOf w f ++ drop (length (recordOf w f)) rec
+pub record Takes (w : World) (rec : List ℕ) (x : Frame) (f : List ℕ) (y : Answer) (l : Lent) : Type 0 where
+  pub answer : y ≡ tookOn (reportOf (w .state) (hiddenIn w) (x .header) f)
+  pub state : l .world .state ≡ record { sizes = w .state .sizes; frame = suc (w .state .frame); next = x .next; end = w .state .end }
+  pub shown : shownIn (l .world) ≡ f
+  pub hidden : hiddenIn (l .world) ≡ shownIn w
+  pub drawn : l .work ≡ f
+  pub written : l .rec ≡ recordOf w f ++ drop (length (recordOf w f)) rec
 
 -- an opening that only its delta (41 to 43, 45) can refuse: the walk found a first frame at p (13, 21 to 23), without a BODY but with an
 -- ANHD (31) and a good BMHD z (24), A and B have a frame's length (12), and h is a good header (32, 33, 35, 36)

@@ -14,12 +14,11 @@ use Rattle.state.specs.State.{rowBytes, frameBytes}
 use Rattle.state.specs.declared.Sizes.{Sizes}
 use Rattle.state.specs.Film.{Film}
 use Rattle.iff.specs.Ids.{BMHD, BODY, ANHD, DLTA}
-use Rattle.iff.specs.Chunk.{contents}
-use Rattle.iff.specs.Both.{has}
+use Rattle.iff.specs.Chunk.{has, contents}
 use Rattle.form.specs.Form.{chunksOf, animEnd, nextFrame}
 use Rattle.bmhd.specs.Header.{header}
 use Rattle.bmhd.specs.declared.Header.{Header}
-use Rattle.ilbm.specs.Body.{body}
+use Rattle.body.specs.Body.{body}
 use Rattle.anhd.specs.Anhd.{frameHeader}
 use Rattle.delta.specs.Reading.{shapeOf}
 use Rattle.delta.specs.Delta.{readDelta, draw}
@@ -27,7 +26,8 @@ use Rattle.runs.specs.Runs.{differing}
 use Rattle.record.specs.Record.{recordBytes, Past, pastOf}
 use Rattle.frame.specs.Frame.{Frame, frameAt}
 use Rattle.state.specs.World.{World, isOdd}
-use Rattle.state.specs.Outcome.{Report, Answer, Answer.refused, Answer.ended, Answer.tookOn, Answer.tookBack}
+use Rattle.state.specs.declared.Report.{Report}
+use Rattle.state.specs.After.{Answer, Answer.refused, Answer.ended, Answer.tookOn, Answer.tookBack}
 
 -- a call, with what it is lent besides the file, the pictures and the state: the lengths of the work and record buffers, or bytes
 pub data Call : Type 0 where
@@ -123,7 +123,7 @@ reportAt F m x = record {
   method = x .header .method;
   time = x .header .time;
   changed = differing (picture F m) (picture F (suc (suc m)));
-  length = length (recordAt F m);
+  record_length = length (recordAt F m);
 }
 
 -- a step on from frame m + 1, by the frame at the next place and what its delta comes to: it is taken if its record fits

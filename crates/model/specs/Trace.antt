@@ -4,12 +4,12 @@
 use Prim.Native.Nat.{ℕ}
 use mathlib.Core.List.{List, [], _∷_}
 use lib.ListN.{length, take, drop}
-use Rattle.player.specs.declared.SteppedOn.{SteppedOn}
-use Rattle.back.specs.declared.SteppedBack.{SteppedBack}
+use Rattle.step_on.specs.declared.SteppedOn.{SteppedOn}
+use Rattle.step_back.specs.declared.SteppedBack.{SteppedBack}
 use Rattle.state.specs.World.{World}
-use Rattle.state.specs.Outcome.{Answer, Answer.refused, Answer.ended, Answer.tookOn, Answer.tookBack}
-use Rattle.player.specs.Step.{onOf, MeetsOn}
-use Rattle.back.specs.Back.{backOf, MeetsBack}
+use Rattle.state.specs.After.{Answer, Answer.refused, Answer.ended, Answer.tookOn, Answer.tookBack, lent}
+use Rattle.step_on.specs.Step.{onOf, MeetsOn}
+use Rattle.step_back.specs.Back.{backOf, MeetsBack}
 use Rattle.model.specs.Model.{Call, Call.on, Call.back, Seen}
 
 -- the bytes that a step back may be handed, by the records not yet taken back, the latest first: the latest, or any where there is none
@@ -21,7 +21,7 @@ pub data Handed : List (List ℕ) → List ℕ → Type 0 where
 unfoldable pub recordIn : Answer → List ℕ → List ℕ
 recordIn (refused n) rec = []
 recordIn ended rec = []
-recordIn (tookOn r) rec = take (r .length) rec
+recordIn (tookOn r) rec = take (r .record_length) rec
 recordIn tookBack rec = []
 
 -- the records not yet taken back after a call
@@ -42,11 +42,11 @@ seenBack r a b = record { answer = backOf (r .answer); world = record { a = a; b
 pub data Trace (file : List ℕ) : World → List (List ℕ) → List Call → List Seen → Type 0 where
   none-left : {w : World} {rs : List (List ℕ)} → Trace file w rs [] []
   stepped-on : {w : World} {rs : List (List ℕ)} {cs : List Call} {os : List Seen} (work rec : List ℕ) (r : SteppedOn) (a b work′ rec′ : List ℕ)
-      → MeetsOn file w work rec r a b work′ rec′
+      → MeetsOn file (record { world = w; work = work; rec = rec }) r (lent a b (r .state) work′ rec′)
       → Trace file (seenOn r a b rec′ .world) (untaken (seenOn r a b rec′ .answer) (seenOn r a b rec′ .bytes) rs) cs os
       → Trace file w rs (on (length work) (length rec) ∷ cs) (seenOn r a b rec′ ∷ os)
   stepped-back : {w : World} {rs : List (List ℕ)} {cs : List Call} {os : List Seen} (bytes : List ℕ) (r : SteppedBack) (a b : List ℕ)
       → Handed rs bytes
-      → MeetsBack w bytes r a b
+      → MeetsBack w bytes r (record { a = a; b = b; state = r .state })
       → Trace file (seenBack r a b .world) (untaken (seenBack r a b .answer) [] rs) cs os
       → Trace file w rs (back bytes ∷ cs) (seenBack r a b ∷ os)

@@ -1,2 +1,2 @@
 pub mod Open
-pub mod OpenLaws
+pub mod Parts

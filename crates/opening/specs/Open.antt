@@ -9,17 +9,16 @@ use lib.Dec.{leb, eqb}
 use lib.ListN.{length, take, replicate}
 use Rattle.laws.specs.Result.{Res, Res.ok, Res.fault, _>>=_, need, orRefuse, pick, answer}
 use Rattle.refusal.specs.Number.{numberOf}
-use Rattle.state.specs.State.{rowBytes, frameBytes, opened}
+use Rattle.state.specs.State.{rowBytes, frameBytes, opened, zeros}
+use Rattle.state.specs.World.{World}
 use Rattle.state.specs.Film.{Film}
 use Rattle.state.specs.declared.Sizes.{Sizes}
-use Rattle.state.specs.declared.State.{State}
 use Rattle.iff.specs.Ids.{BMHD, BODY, ANHD, DLTA}
-use Rattle.iff.specs.Chunk.{contents}
-use Rattle.iff.specs.Both.{has}
+use Rattle.iff.specs.Chunk.{has, contents}
 use Rattle.form.specs.Form.{Frame, chunksOf, animEnd, nextFrame}
 use Rattle.bmhd.specs.Header.{header}
 use Rattle.bmhd.specs.declared.Header.{Header}
-use Rattle.ilbm.specs.Body.{body}
+use Rattle.body.specs.Body.{body}
 use Rattle.anhd.specs.Anhd.{frameHeader}
 use Rattle.delta.specs.Reading.{shapeOf}
 use Rattle.delta.specs.Delta.{readDelta, draw}
@@ -109,18 +108,10 @@ opening file a b =
     firstOf (chunksOf file (p .form)) (p .body) a b >>= λ f.
     ok (filmOf file (p .end) (p .form .next) f)
 
--- the state after it: six zeros where it is refused
-abbrev pub zeros : State
-zeros = record { sizes = record { width = 0; height = 0; planes = 0 }; frame = 0; next = 0; end = 0 }
-
-abbrev pub stateAfter : Res Film → State
-stateAfter (ok F) = opened (F .sizes) (F .start) (F .end)
-stateAfter (fault n) = zeros
-
--- both buffers hold frame 1
-abbrev pub pictureAfter : List ℕ → Res Film → List ℕ
-pictureAfter p (ok F) = F .first
-pictureAfter p (fault n) = p
+-- A, B and the state after it: both buffers hold frame 1, or both stay and the state is six zeros
+abbrev pub worldOpened : (a b : List ℕ) → Res Film → World
+worldOpened a b (ok F) = record { a = F .first; b = F .first; state = opened (F .sizes) (F .start) (F .end) }
+worldOpened a b (fault n) = record { a = a; b = b; state = zeros }
 
 -- what the answers say in the paper's terms
 abbrev pub openingOf : Opening → Res (Unit {0})
@@ -131,13 +122,11 @@ abbrev pub sizeOf : Size → Res ℕ
 sizeOf (Bytes n) = ok n
 sizeOf (SizeRefused why) = fault (numberOf why)
 
--- answer, state and both buffers after an opening that comes to q
-pub record Opens (q : Res Film) (a b : List ℕ) (r : OpenedFile) (a′ b′ : List ℕ) : Type 0 where
+-- what an opening answers and leaves, where it comes to q
+pub record Opens (q : Res Film) (a b : List ℕ) (r : OpenedFile) (w : World) : Type 0 where
   pub answer : openingOf (r .answer) ≡ answer q
-  pub state : r .state ≡ stateAfter q
-  pub left : a′ ≡ pictureAfter a q
-  pub right : b′ ≡ pictureAfter b q
+  pub left : w ≡ worldOpened a b q
 
 -- the contract of opening
-abbrev pub MeetsOpen : (file a b : List ℕ) (r : OpenedFile) (a′ b′ : List ℕ) → Type 0
-MeetsOpen file a b r a′ b′ = Opens (opening file (length a) (length b)) a b r a′ b′
+abbrev pub MeetsOpen : (file a b : List ℕ) (r : OpenedFile) (w : World) → Type 0
+MeetsOpen file a b r w = Opens (opening file (length a) (length b)) a b r w

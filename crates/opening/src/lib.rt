@@ -3,16 +3,16 @@ ghost use mathlib.Core.Path.{_≡_};
 ghost use lib.ListN.{length};
 ghost use Rattle.opening.specs.declared.Opening.the-variants.{Refused};
 ghost use Rattle.laws.specs.Result.{Res.ok};
-ghost use Rattle.ilbm.specs.Body.{body as bodyOf};
-ghost use Rattle.state.specs.State.{frameLength};
+ghost use Rattle.body.specs.Body.{body as bodyOf};
+ghost use Rattle.state.specs.State.{frameLength, zeros};
 ghost use Rattle.bmhd.specs.Header.{headerOf};
-ghost use Rattle.opening.specs.Open.{bodyIn, placesIn, firstPlaces, firstHeader, firstSize, firstDelta, firstPicture, firstOf};
-ghost use Rattle.opening.specs.Open.{zeros, sizeOf, MeetsOpen};
-ghost use Rattle.opening.specs.OpenLaws.{givenOf, placesOf, Fills, OpensFirst};
+ghost use Rattle.opening.specs.Open.{bodyIn, placesIn, firstPlaces, firstHeader, firstSize, firstDelta, firstPicture, firstOf, sizeOf, MeetsOpen};
+ghost use Rattle.opening.specs.Parts.{givenOf, placesOf, Fills, OpensFirst};
 use anhd::Anhd;
 use bmhd::Bmhd;
 use bmhd::Header;
-use buffer::copy;
+use body::Unpacked;
+use buffer::copy_long;
 use delta::Applied;
 use form::Form;
 use form::Outer;
@@ -21,7 +21,6 @@ use iff::ids::ANHD;
 use iff::ids::BMHD;
 use iff::ids::BODY;
 use iff::ids::DLTA;
-use ilbm::Unpacked;
 use refusal::Refusal;
 use state::Sizes;
 use state::State;
@@ -47,7 +46,7 @@ pub enum Size {
 // Whether the first picture is given as a BODY, or else as a delta; or why there is none.
 enum Given {
     Picture { body: bool },
-    Nowhere(Refusal),
+    Refused(Refusal),
 }
 
 // Where the first picture stands: the end of FORM ANIM, the place past its FORM, the chunks of that, len bytes from start on, and
@@ -60,7 +59,7 @@ enum Places {
         len: usize,
         body: bool,
     },
-    Nowhere(Refusal),
+    Refused(Refusal),
 }
 
 // Whether A was filled with the first picture.
@@ -72,19 +71,9 @@ enum Filled {
 fn refused(why: Refusal) -> OpenedFile
     ensures { λ r. ⌜ r ≡ record { answer = Refused why; state = zeros } ⌝ }
 {
-    let sizes = Sizes {
-        width: 0,
-        height: 0,
-        planes: 0,
-    };
     OpenedFile {
         answer: Opening::Refused(why),
-        state: State {
-            sizes,
-            frame: 0,
-            next: 0,
-            end: 0,
-        },
+        state: State::zeros(),
     }
 }
 
@@ -92,25 +81,24 @@ fn refused(why: Refusal) -> OpenedFile
 fn body_in(chunks: &[u8]) -> Given
     ensures { λ r. ⌜ givenOf r ≡ bodyIn (now (chunks .entry)) ⌝ }
 {
-    let h = iff::find(chunks, BMHD);
+    let p = iff::find_pair(chunks, BMHD, BODY);
+    let h = p.first;
+    let b = p.second;
     match h {
-        Found::Broken(why) => Given::Nowhere(why),
-        Found::Missing => Given::Nowhere(Refusal::NoPicture),
-        Found::At { start: _, len: _ } => {
-            let b = iff::find(chunks, BODY);
-            match b {
-                Found::At { start: _, len: _ } => Given::Picture { body: true },
-                Found::Broken(why) => Given::Nowhere(why),
-                Found::Missing => {
-                    let d = iff::find(chunks, DLTA);
-                    match d {
-                        Found::Broken(why) => Given::Nowhere(why),
-                        Found::Missing => Given::Nowhere(Refusal::NoPicture),
-                        Found::At { start: _, len: _ } => Given::Picture { body: false },
-                    }
+        Found::Refused(why) => Given::Refused(why),
+        Found::Missing => Given::Refused(Refusal::NoPicture),
+        Found::At { start: _, len: _ } => match b {
+            Found::At { start: _, len: _ } => Given::Picture { body: true },
+            Found::Refused(why) => Given::Refused(why),
+            Found::Missing => {
+                let d = iff::find(chunks, DLTA);
+                match d {
+                    Found::Refused(why) => Given::Refused(why),
+                    Found::Missing => Given::Refused(Refusal::NoPicture),
+                    Found::At { start: _, len: _ } => Given::Picture { body: false },
                 }
             }
-        }
+        },
     }
 }
 
@@ -120,13 +108,13 @@ fn places_in(anim: &[u8]) -> Places
 {
     let f = form::next_form(anim, 12);
     match f {
-        Form::Faulty(why) => Places::Nowhere(why),
-        Form::Last => Places::Nowhere(Refusal::NoPicture),
+        Form::Refused(why) => Places::Refused(why),
+        Form::End => Places::Refused(Refusal::NoPicture),
         Form::Ilbm { start, len, next } => {
             let stop = start + len;
             let g = body_in(&anim[start..stop]);
             match g {
-                Given::Nowhere(why) => Places::Nowhere(why),
+                Given::Refused(why) => Places::Refused(why),
                 Given::Picture { body } => Places::At {
                     end: anim.len(),
                     next,
@@ -144,11 +132,11 @@ fn first_places(file: &[u8]) -> Places
     ensures { λ r. ⌜ placesOf r ≡ firstPlaces (now (file .entry)) ⌝ }
 {
     if State::MAX_PLACE < file.len() {
-        return Places::Nowhere(Refusal::FileTooLong);
+        return Places::Refused(Refusal::FileTooLong);
     }
     let o = form::anim_end(file);
     match o {
-        Outer::Unread(why) => Places::Nowhere(why),
+        Outer::Refused(why) => Places::Refused(why),
         Outer::Ends(end) => places_in(&file[..end]),
     }
 }
@@ -160,8 +148,8 @@ fn first_header(chunks: &[u8], body: bool) -> Bmhd
     if !body {
         let h = iff::find(chunks, ANHD);
         match h {
-            Found::Broken(why) => return Bmhd::Unread(why),
-            Found::Missing => return Bmhd::Unread(Refusal::NoDelta),
+            Found::Refused(why) => return Bmhd::Refused(why),
+            Found::Missing => return Bmhd::Refused(Refusal::NoDelta),
             Found::At { start: _, len: _ } => {}
         }
     }
@@ -174,7 +162,7 @@ pub fn frame_size(file: &[u8]) -> Size
 {
     let p = first_places(file);
     match p {
-        Places::Nowhere(why) => Size::Refused(why),
+        Places::Refused(why) => Size::Refused(why),
         Places::At {
             end: _,
             next: _,
@@ -185,7 +173,7 @@ pub fn frame_size(file: &[u8]) -> Size
             let stop = start + len;
             let h = first_header(&file[start..stop], body);
             match h {
-                Bmhd::Unread(why) => Size::Refused(why),
+                Bmhd::Refused(why) => Size::Refused(why),
                 Bmhd::Picture(picture) => Size::Bytes(picture.length),
             }
         }
@@ -199,7 +187,7 @@ fn first_delta(a: &mut [u8], anhd: &[u8], dlta: &[u8], sizes: Sizes) -> Filled
 {
     let h = anhd::read_header(true, sizes.row_bytes(), anhd);
     match h {
-        Anhd::Unread(why) => Filled::Refused(why),
+        Anhd::Refused(why) => Filled::Refused(why),
         Anhd::Header(header) => {
             let items = header.items;
             let d = delta::apply_first(a, dlta, sizes, items);
@@ -216,7 +204,7 @@ fn first_body(a: &mut [u8], body: &[u8], sizes: Sizes, packed: bool) -> Filled
     requires { ⌜ frameLength sizes ≡ ok (length (now a)) ⌝ }
     ensures { λ r. ⌜ Fills (bodyOf packed sizes (now (body .entry))) (now (a .entry)) r (now (a .exit)) ⌝ }
 {
-    let u = ilbm::unpack(a, body, sizes, packed);
+    let u = body::unpack(a, body, sizes, packed);
     match u {
         Unpacked::Refused(why) => Filled::Refused(why),
         Unpacked::Done => Filled::Done,
@@ -249,11 +237,11 @@ fn open_picture(
     b: &mut [u8],
 ) -> OpenedFile
     ensures { λ r. ⌜ OpensFirst end next (firstOf (now (chunks .entry)) body (length (now (a .entry))) (length (now (b .entry))))
-        (now (a .entry)) (now (b .entry)) r (now (a .exit)) (now (b .exit)) ⌝ }
+        (now (a .entry)) (now (b .entry)) r (record { a = now (a .exit); b = now (b .exit); state = r .state }) ⌝ }
 {
     let h = first_header(chunks, body);
     match h {
-        Bmhd::Unread(why) => refused(why),
+        Bmhd::Refused(why) => refused(why),
         Bmhd::Picture(header) => {
             if a.len() != header.length {
                 return refused(Refusal::BufferLength);
@@ -265,7 +253,7 @@ fn open_picture(
             match f {
                 Filled::Refused(why) => refused(why),
                 Filled::Done => {
-                    copy(b, a);
+                    copy_long(b, a);
                     OpenedFile {
                         answer: Opening::Opened,
                         state: State::opened(header.sizes, next, end),
@@ -278,11 +266,11 @@ fn open_picture(
 
 // Opens a file: A and B get its first picture, all or nothing.
 pub fn open(file: &[u8], a: &mut [u8], b: &mut [u8]) -> OpenedFile
-    ensures { λ r. ⌜ MeetsOpen (now (file .entry)) (now (a .entry)) (now (b .entry)) r (now (a .exit)) (now (b .exit)) ⌝ }
+    ensures { λ r. ⌜ MeetsOpen (now (file .entry)) (now (a .entry)) (now (b .entry)) r (record { a = now (a .exit); b = now (b .exit); state = r .state }) ⌝ }
 {
     let p = first_places(file);
     match p {
-        Places::Nowhere(why) => refused(why),
+        Places::Refused(why) => refused(why),
         Places::At {
             end,
             next,

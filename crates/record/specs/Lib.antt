@@ -1,10 +1,3 @@
 pub mod RunList
 pub mod Record
 pub mod Walk
-pub mod RunLaws
-pub mod PutLaws
-pub mod RecordLaws
-pub mod RoomLaws
-pub mod RoundLaws
-pub mod CommitLaws
-pub mod LengthLaws

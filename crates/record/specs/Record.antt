@@ -6,7 +6,7 @@ use mathlib.Core.Option.{Option, some}
 use mathlib.Core.Path.{_≡_}
 use lib.Dec.{leb, ltb, eqb}
 use lib.ListN.{length, drop}
-use Rattle.laws.specs.Result.{Res, Res.ok, Res.fault, _>>=_, need, orRefuse, _>>?_, given}
+use Rattle.laws.specs.Result.{Res, Res.ok, Res.fault, _>>=_, need, orRefuse, leaves, _>>?_, given}
 use Rattle.number.specs.Number.{readNumber, writeNumber}
 use Rattle.refusal.specs.Number.{numberOf}
 use Rattle.runs.specs.Runs.{runsOf, differing}
@@ -14,9 +14,13 @@ use Rattle.record.specs.RunList.{listBytes, beforeOf}
 use Rattle.record.specs.declared.Recorded.{Recorded}
 use Rattle.record.specs.declared.Recorded.the-variants.{Written, Refused}
 
--- the bytes of a record
+-- the picture part of a record: the two numbers, and the run list of the picture
+unfoldable pub pictureBytes : ℕ → ℕ → List ℕ → List ℕ → List ℕ
+pictureBytes frame place old new = writeNumber frame ++ writeNumber place ++ listBytes (runsOf old new)
+
+-- the bytes of a record: it has no other part
 unfoldable pub recordBytes : ℕ → ℕ → List ℕ → List ℕ → List ℕ
-recordBytes frame place old new = writeNumber frame ++ writeNumber place ++ listBytes (runsOf old new)
+recordBytes frame place old new = pictureBytes frame place old new
 
 -- a record's length and the number of bytes that changed: what a written record is answered with
 pub record Measure : Type 0 where
@@ -34,21 +38,11 @@ written frame place old new room =
     need (leb (length (recordBytes frame place old new)) room) 51 >>= λ _.
     ok (measure frame place old new)
 
--- the buffer after it: bytes past the record stay
-abbrev pub bufferAfter : List ℕ → List ℕ → Res Measure → List ℕ
-bufferAfter bytes out (ok m) = bytes ++ drop (length bytes) out
-bufferAfter bytes out (fault n) = out
-
--- the hidden picture after it
-abbrev pub pictureAfter : List ℕ → List ℕ → Res Measure → List ℕ
-pictureAfter old new (ok m) = new
-pictureAfter old new (fault n) = old
-
--- what recording a step answers and leaves in the record buffer and in the hidden one
+-- what recording a step answers, and what it leaves in the record buffer, whose bytes past the record stay, and in the hidden one
 pub record Commits (frame place : ℕ) (old new out : List ℕ) (r : Res Measure) (out′ old′ : List ℕ) : Type 0 where
   pub answer : r ≡ written frame place old new (length out)
-  pub bytes : out′ ≡ bufferAfter (recordBytes frame place old new) out r
-  pub picture : old′ ≡ pictureAfter old new r
+  pub bytes : out′ ≡ leaves out (λ m. recordBytes frame place old new ++ drop (length (recordBytes frame place old new)) out) r
+  pub picture : old′ ≡ leaves old (λ m. new) r
 
 -- what a record leads back to
 pub record Past : Type 0 where
@@ -74,16 +68,6 @@ restored bytes shown frame next =
     need (leb 12 (p .place)) 62 >>= λ _.
     need (ltb (p .place) next) 62 >>= λ _.
     ok p
-
--- the shown picture after it
-abbrev pub shownAfter : List ℕ → Res Past → List ℕ
-shownAfter shown (ok p) = p .picture
-shownAfter shown (fault n) = shown
-
--- what is answered of it
-abbrev pub placeOf : Res Past → Res ℕ
-placeOf (ok p) = ok (p .place)
-placeOf (fault n) = fault n
 
 -- what the answer says in the paper's terms
 abbrev pub recordedOf : Recorded → Res Measure

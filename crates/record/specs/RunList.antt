@@ -8,11 +8,11 @@ use lib.Dec.{leb, ltb}
 use lib.ListN.{length, take, drop}
 use Rattle.laws.specs.Result.{_>>?_, given}
 use Rattle.number.specs.Number.{readNumber, writeNumber}
-use Rattle.runs.specs.Runs.{Run, differ}
+use Rattle.runs.specs.Runs.{Run, allDiffer, patch}
 
 -- the bytes of one run, of several, and of a run list
 unfoldable pub runBytes : Run → List ℕ
-runBytes r = writeNumber (r .gap) ++ writeNumber (length (r .old)) ++ r .old
+runBytes r = writeNumber (r .gap) ++ writeNumber (length (r .bytes)) ++ r .bytes
 
 unfoldable pub runsBytes : List Run → List ℕ
 runsBytes [] = []
@@ -35,7 +35,7 @@ readRun least room s =
     given (ltb 0 (n .value)) >>? λ _.
     given (leb (g .value + n .value) room) >>? λ _.
     given (leb (n .value) (length (n .rest))) >>? λ _.
-    some (record { run = record { gap = g .value; old = take (n .value) (n .rest) }; rest = drop (n .value) (n .rest) })
+    some (record { run = record { gap = g .value; bytes = take (n .value) (n .rest) }; rest = drop (n .value) (n .rest) })
 
 -- runs that were read, and the bytes after them
 pub record Runs : Type 0 where
@@ -47,29 +47,21 @@ unfoldable pub readRuns : ℕ → ℕ → ℕ → List ℕ → Option Runs
 readRuns zero least room s = some (record { runs = []; rest = s })
 readRuns (suc k) least room s =
     readRun least room s >>? λ f.
-    readRuns k 1 (room - (f .run .gap + length (f .run .old))) (f .rest) >>? λ m.
+    readRuns k 1 (room - (f .run .gap + length (f .run .bytes))) (f .rest) >>? λ m.
     some (record { runs = f .run ∷ m .runs; rest = m .rest })
 
 -- a run list for a buffer of size bytes
 unfoldable pub readList : ℕ → List ℕ → Option Runs
 readList size s = readNumber s >>? λ n. readRuns (n .value) 0 size (n .rest)
 
--- the buffer with the old bytes put back, or none if an old byte equals the one that it replaces
-unfoldable pub putBack : List Run → List ℕ → Option (List ℕ)
-putBack [] f = some f
-putBack (r ∷ rs) f =
-    given (differ (r .old) (drop (r .gap) f)) >>? λ _.
-    putBack rs (drop (r .gap + length (r .old)) f) >>? λ t.
-    some (take (r .gap) f ++ r .old ++ t)
-
 -- what a buffer held before, and the bytes after the run list that leads back to it
 pub record Before : Type 0 where
   pub buffer : List ℕ
   pub rest : List ℕ
 
--- runs that were read, put back into a buffer
+-- runs that were read, put back into a buffer; none if an old byte equals the one that it replaces
 unfoldable pub runsBack : List ℕ → Runs → Option Before
-runsBack shown m = putBack (m .runs) shown >>? λ old. some (record { buffer = old; rest = m .rest })
+runsBack shown m = given (allDiffer (m .runs) shown) >>? λ _. some (record { buffer = patch (m .runs) shown; rest = m .rest })
 
 -- the run list at the front of s, put back into a buffer
 unfoldable pub beforeOf : List ℕ → List ℕ → Option Before

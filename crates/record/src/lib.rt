@@ -1,7 +1,8 @@
 // Step records: what a step on changed in the hidden picture, written so that a step back can put it back.
 ghost use mathlib.Core.Path.{_≡_};
 ghost use Prim.Native.Nat.{_+_, _<_, _≤_, _^_};
-ghost use lib.ListN.{length};
+ghost use lib.ListN.{length, take, drop};
+ghost use lib.Seq.{sets};
 ghost use Rattle.laws.specs.Result.{pick};
 ghost use Rattle.laws.specs.Put.{Put};
 ghost use Rattle.number.specs.Number.{writeNumber};
@@ -9,9 +10,10 @@ ghost use lib.Dec.{leb};
 ghost use Rattle.runs.specs.Runs.{runsOf};
 ghost use Rattle.changes.specs.Count.{countOf};
 ghost use Rattle.record.specs.RunList.{runBytes, runsBytes, listBytes};
-ghost use Rattle.record.specs.Record.{recordBytes, Commits, recordedOf};
-ghost use Rattle.record.specs.Walk.{Counted, Replaced};
+ghost use Rattle.record.specs.Record.{pictureBytes, Commits, recordedOf};
+ghost use Rattle.record.specs.Walk.{Counted};
 use buffer::copy;
+use buffer::copy_long;
 use changes::Counts;
 use changes::count;
 use refusal::Refusal;
@@ -75,35 +77,43 @@ fn put_number(out: &mut [u8], at: usize, n: u32) -> usize
     }
 }
 
-// Writes a run at a place of out where it fits, and answers the place after it.
-fn put_run(out: &mut [u8], at: usize, gap: usize, old: &[u8]) -> usize
-    requires { ⌜ (gap < 2 ^ 32) × (length (now old) < 2 ^ 32) × (at + length (runBytes (record { gap = gap; old = now old })) ≤ length (now out)) ⌝ }
-    ensures { λ r. ⌜ Put (now (out .entry)) at (runBytes (record { gap = gap; old = now (old .entry) })) (now (out .exit)) r ⌝ }
+// Copies count bytes from a place of src to a place of dst, if they are wanted. Unlike `buffer::copy_part` it asks no lengths: a light step
+// would take longer.
+fn replace(dst: &mut [u8], to: usize, src: &[u8], from: usize, count: usize, wanted: bool)
+    requires { ⌜ (to + count ≤ length (now dst)) × (from + count ≤ length (now src)) ⌝ }
+    ensures { λ _. ⌜ now (dst .exit) ≡ pick wanted (sets (now (dst .entry)) to (take count (drop from (now (src .entry))))) (now (dst .entry)) ⌝ }
 {
-    let second = put_number(out, at, gap as u32);
-    let start = put_number(out, second, old.len() as u32);
-    let end = start + old.len();
-    copy(&mut out[start..end], old);
-    end
-}
-
-// Puts count new bytes from a place on into the old picture, where that is asked for.
-fn replace(old: &mut [u8], new: &[u8], start: usize, count: usize, commit: bool)
-    requires { ⌜ (start + count ≤ length (now old)) × (start + count ≤ length (now new)) ⌝ }
-    ensures { λ _. ⌜ Replaced commit (now (old .entry)) (now (new .entry)) start count (now (old .exit)) ⌝ }
-{
-    if !commit {
+    if !wanted {
         return;
     }
-    let end = start + count;
-    copy(&mut old[start..end], &new[start..end]);
+    let end = to + count;
+    let stop = from + count;
+    if count < 32 {
+        copy(&mut dst[to..end], &src[from..stop]);
+        return;
+    }
+    copy_long(&mut dst[to..end], &src[from..stop]);
 }
 
-// Writes the runs of two pictures at a place of out where they fit, and answers the place after them. Where that is asked for, each
-// run's new bytes are put into the old picture.
+// Writes a run, whose bytes stand at a place of the old picture, at a place of out where it fits, and answers the place after it.
+fn put_run(out: &mut [u8], at: usize, gap: usize, old: &[u8], start: usize, count: usize) -> usize
+    requires { ⌜ (gap < 2 ^ 32) × (count < 2 ^ 32) × (start + count ≤ length (now old))
+        × (at + (length (writeNumber gap) + length (writeNumber count) + count) ≤ length (now out)) ⌝ }
+    ensures { λ r. ⌜ Put (now (out .entry)) at (runBytes (record { gap = gap; bytes = take count (drop start (now (old .entry))) })) (now (out .exit)) r ⌝ }
+{
+    let second = put_number(out, at, gap as u32);
+    let first = put_number(out, second, count as u32);
+    replace(out, first, old, start, count, true);
+    first + count
+}
+
+// Writes the runs of two pictures at a place of out where they fit, and answers the place after them. If commit is true, each run's new
+// bytes are put into the old picture.
 fn put_runs(out: &mut [u8], from: usize, old: &mut [u8], new: &[u8], commit: bool) -> usize
-    requires { ⌜ (length (now old) ≡ length (now new)) × (length (now old) ≤ 1048576) × (from + length (runsBytes (runsOf (now old) (now new))) ≤ length (now out)) ⌝ }
-    ensures { λ r. ⌜ Put (now (out .entry)) from (runsBytes (runsOf (now (old .entry)) (now (new .entry)))) (now (out .exit)) r × (now (old .exit) ≡ pick commit (now (new .entry)) (now (old .entry))) ⌝ }
+    requires { ⌜ (length (now old) ≡ length (now new)) × (length (now old) ≤ 1048576)
+        × (from + length (runsBytes (runsOf (now old) (now new))) ≤ length (now out)) ⌝ }
+    ensures { λ r. ⌜ Put (now (out .entry)) from (runsBytes (runsOf (now (old .entry)) (now (new .entry)))) (now (out .exit)) r
+        × (now (old .exit) ≡ pick commit (now (new .entry)) (now (old .entry))) ⌝ }
 {
     let mut at = 0;
     let mut place = from;
@@ -114,8 +124,8 @@ fn put_runs(out: &mut [u8], from: usize, old: &mut [u8], new: &[u8], commit: boo
             Change::Run { gap, count } => {
                 let start = at + gap;
                 let end = start + count;
-                place = put_run(out, place, gap, &old[start..end]);
-                replace(old, new, start, count, commit);
+                place = put_run(out, place, gap, old, start, count);
+                replace(old, start, new, start, count, commit);
                 at = end;
             }
         }
@@ -132,14 +142,15 @@ fn put_list(
     commit: bool,
 ) -> usize
     requires { ⌜ Counted (now old) (now new) runs × (at + length (listBytes (runsOf (now old) (now new))) ≤ length (now out)) ⌝ }
-    ensures { λ r. ⌜ Put (now (out .entry)) at (listBytes (runsOf (now (old .entry)) (now (new .entry)))) (now (out .exit)) r × (now (old .exit) ≡ pick commit (now (new .entry)) (now (old .entry))) ⌝ }
+    ensures { λ r. ⌜ Put (now (out .entry)) at (listBytes (runsOf (now (old .entry)) (now (new .entry)))) (now (out .exit)) r
+        × (now (old .exit) ≡ pick commit (now (new .entry)) (now (old .entry))) ⌝ }
 {
     let first = put_number(out, at, runs as u32);
     put_runs(out, first, old, new, commit)
 }
 
-// Writes a record into out where it fits.
-fn put_record(
+// Writes the picture part of a record into out where it fits.
+fn put_picture(
     out: &mut [u8],
     frame: u32,
     place: u32,
@@ -148,8 +159,9 @@ fn put_record(
     new: &[u8],
     commit: bool,
 ) -> usize
-    requires { ⌜ Counted (now old) (now new) runs × (length (recordBytes frame place (now old) (now new)) ≤ length (now out)) ⌝ }
-    ensures { λ r. ⌜ Put (now (out .entry)) 0 (recordBytes frame place (now (old .entry)) (now (new .entry))) (now (out .exit)) r × (now (old .exit) ≡ pick commit (now (new .entry)) (now (old .entry))) ⌝ }
+    requires { ⌜ Counted (now old) (now new) runs × (length (pictureBytes frame place (now old) (now new)) ≤ length (now out)) ⌝ }
+    ensures { λ r. ⌜ Put (now (out .entry)) 0 (pictureBytes frame place (now (old .entry)) (now (new .entry))) (now (out .exit)) r
+        × (now (old .exit) ≡ pick commit (now (new .entry)) (now (old .entry))) ⌝ }
 {
     let second = put_number(out, 0, frame);
     let list = put_number(out, second, place);
@@ -178,9 +190,9 @@ pub fn commit(out: &mut [u8], frame: u32, place: u32, old: &mut [u8], new: &[u8]
     }
     // Few changes go to the hidden picture run by run, more of them all at once.
     let few = counts.changed < old.len() / 8;
-    let length = put_record(out, frame, place, runs, old, new, few);
+    let length = put_picture(out, frame, place, runs, old, new, few);
     let all = old.len();
-    replace(old, new, 0, all, !few);
+    replace(old, 0, new, 0, all, !few);
     Recorded::Written {
         length,
         changed: counts.changed,

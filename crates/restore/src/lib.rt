@@ -1,22 +1,19 @@
 // Step records put back: read, checked whole, then restored into the shown picture, all or nothing.
 ghost use mathlib.Core.Path.{_≡_};
-ghost use mathlib.Core.Bool.{true};
 ghost use Prim.Native.Nat.{_+_, _≤_};
 ghost use lib.ListN.{length, take, drop};
-ghost use lib.Seq.{sets};
 ghost use Rattle.runs.specs.Runs.{differ};
-ghost use Rattle.record.specs.RunList.{beforeOf};
-ghost use Rattle.record.specs.Record.{restored, shownAfter, placeOf};
-ghost use Rattle.restore.specs.Restored.{restoredOf};
-ghost use Rattle.restore.specs.Walk.{RunAt, runsBefore, restOf, checkedOf, isGood, bufferOr, HeaderAt, belonging, LeadsBack};
-use buffer::copy;
+ghost use Rattle.record.specs.RunList.{readRuns, readList};
+ghost use Rattle.restore.specs.Restored.{Restores, restoredOf};
+ghost use Rattle.restore.specs.Walk.{RunAt, RunTaken, Took, HeaderAt, belonging, LeadsBack};
+use buffer::copy_part;
 use number::Parsed;
 use refusal::Refusal;
 
 // A record that was put back: the next place before its step.
 pub enum Restored {
     Back(usize),
-    Kept(Refusal),
+    Refused(Refusal),
 }
 
 // A run of a record: the unchanged bytes before it, its length, and where its old bytes stand.
@@ -79,15 +76,35 @@ fn differs(bytes: &[u8], start: usize, shown: &[u8], to: usize, count: usize) ->
     all
 }
 
-// A run list that was checked: the place after it.
-enum Checked {
+// Takes the bytes of a run: puts them back, or answers whether each differs from the one that it replaces.
+fn take_run(
+    shown: &mut [u8],
+    to: usize,
+    bytes: &[u8],
+    start: usize,
+    count: usize,
+    putting: bool,
+) -> bool
+    requires { ⌜ (start + count ≤ length (now bytes)) × (to + count ≤ length (now shown)) ⌝ }
+    ensures { λ r. ⌜ RunTaken putting (take count (drop start (now (bytes .entry)))) to (now (shown .entry)) (now (shown .exit)) r ⌝ }
+{
+    if putting {
+        copy_part(shown, to, bytes, start, count, true);
+        return true;
+    }
+    differs(bytes, start, shown, to, count)
+}
+
+// Runs that were taken: the place after them.
+enum Taken {
     Ends(usize),
     Bad,
 }
 
-// Checks so many runs from a place of a record on.
-fn check_runs(bytes: &[u8], from: usize, count: usize, shown: &[u8]) -> Checked
-    ensures { λ r. ⌜ checkedOf (now (bytes .entry)) r ≡ restOf (runsBefore count 0 (drop from (now (bytes .entry))) (now (shown .entry))) ⌝ }
+// Takes so many runs from a place of a record on: puts them back into a buffer, or only checks them against it.
+fn take_runs(shown: &mut [u8], bytes: &[u8], from: usize, count: usize, putting: bool) -> Taken
+    ensures { λ r. ⌜ Took putting (now (bytes .entry)) (now (shown .entry)) (readRuns count 0 (length (now (shown .entry))) (drop from (now (bytes .entry))))
+        (now (shown .exit)) r ⌝ }
 {
     let mut at = from;
     let mut place = 0;
@@ -96,11 +113,11 @@ fn check_runs(bytes: &[u8], from: usize, count: usize, shown: &[u8]) -> Checked
     while 0 < left {
         let s = read_run(bytes, at, least, shown.len() - place);
         match s {
-            Stored::Faulty => return Checked::Bad,
+            Stored::Faulty => return Taken::Bad,
             Stored::Whole { gap, count, start } => {
                 let to = place + gap;
-                if !differs(bytes, start, shown, to, count) {
-                    return Checked::Bad;
+                if !take_run(shown, to, bytes, start, count, putting) {
+                    return Taken::Bad;
                 }
                 place = to + count;
                 at = start + count;
@@ -109,64 +126,18 @@ fn check_runs(bytes: &[u8], from: usize, count: usize, shown: &[u8]) -> Checked
         least = 1;
         left -= 1;
     }
-    Checked::Ends(at)
+    Taken::Ends(at)
 }
 
-// Checks the run list at a place of a record.
-fn check_list(bytes: &[u8], at: usize, shown: &[u8]) -> Checked
-    ensures { λ r. ⌜ checkedOf (now (bytes .entry)) r ≡ restOf (beforeOf (drop at (now (bytes .entry))) (now (shown .entry))) ⌝ }
+// Takes the run list at a place of a record.
+fn take_list(shown: &mut [u8], bytes: &[u8], at: usize, putting: bool) -> Taken
+    ensures { λ r. ⌜ Took putting (now (bytes .entry)) (now (shown .entry)) (readList (length (now (shown .entry))) (drop at (now (bytes .entry))))
+        (now (shown .exit)) r ⌝ }
 {
     let n = number::read(bytes, at);
     match n {
-        Parsed::Malformed => Checked::Bad,
-        Parsed::Number { value, next } => check_runs(bytes, next, value, shown),
-    }
-}
-
-// Puts the old bytes of a run back.
-fn put_old(shown: &mut [u8], to: usize, bytes: &[u8], start: usize, count: usize)
-    requires { ⌜ (to + count ≤ length (now shown)) × (start + count ≤ length (now bytes)) ⌝ }
-    ensures { λ _. ⌜ now (shown .exit) ≡ sets (now (shown .entry)) to (take count (drop start (now (bytes .entry)))) ⌝ }
-{
-    let stop = to + count;
-    let end = start + count;
-    copy(&mut shown[to..stop], &bytes[start..end]);
-}
-
-// Puts back so many runs, which were checked, from a place of a record on.
-fn restore_runs(shown: &mut [u8], bytes: &[u8], from: usize, count: usize)
-    requires { ⌜ isGood (runsBefore count 0 (drop from (now bytes)) (now shown)) ≡ true ⌝ }
-    ensures { λ _. ⌜ now (shown .exit) ≡ bufferOr (now (shown .entry)) (runsBefore count 0 (drop from (now (bytes .entry))) (now (shown .entry))) ⌝ }
-{
-    let mut at = from;
-    let mut place = 0;
-    let mut least = 0;
-    let mut left = count;
-    while 0 < left {
-        let s = read_run(bytes, at, least, shown.len() - place);
-        match s {
-            Stored::Faulty => return,
-            Stored::Whole { gap, count, start } => {
-                let to = place + gap;
-                put_old(shown, to, bytes, start, count);
-                place = to + count;
-                at = start + count;
-            }
-        }
-        least = 1;
-        left -= 1;
-    }
-}
-
-// Puts back the run list, which was checked, at a place of a record.
-fn restore_list(shown: &mut [u8], bytes: &[u8], at: usize)
-    requires { ⌜ isGood (beforeOf (drop at (now bytes)) (now shown)) ≡ true ⌝ }
-    ensures { λ _. ⌜ now (shown .exit) ≡ bufferOr (now (shown .entry)) (beforeOf (drop at (now (bytes .entry))) (now (shown .entry))) ⌝ }
-{
-    let n = number::read(bytes, at);
-    match n {
-        Parsed::Malformed => return,
-        Parsed::Number { value, next } => restore_runs(shown, bytes, next, value),
+        Parsed::Malformed => Taken::Bad,
+        Parsed::Number { value, next } => take_runs(shown, bytes, next, value, putting),
     }
 }
 
@@ -219,30 +190,30 @@ fn belongs(reached: usize, place: usize, frame: usize, next: usize) -> bool
 // Whether a record leads back from a state: the next place before its step, and where its run list stands.
 enum Leads {
     To { place: usize, list: usize },
-    Nowhere(Refusal),
+    Refused(Refusal),
 }
 
-// Checks a whole record against the shown picture, and then that it belongs to the state.
-fn leads_back(bytes: &[u8], shown: &[u8], frame: usize, next: usize) -> Leads
-    ensures { λ r. ⌜ LeadsBack (now (bytes .entry)) (now (shown .entry)) frame next r ⌝ }
+// Checks a whole record against the shown picture, which stays as it is, and then that it belongs to the state.
+fn leads_back(bytes: &[u8], shown: &mut [u8], frame: usize, next: usize) -> Leads
+    ensures { λ r. ⌜ LeadsBack (now (bytes .entry)) (now (shown .entry)) frame next r × (now (shown .exit) ≡ now (shown .entry)) ⌝ }
 {
     let h = read_header(bytes);
     match h {
-        Header::Short => Leads::Nowhere(Refusal::BadRecord),
+        Header::Short => Leads::Refused(Refusal::BadRecord),
         Header::Numbers {
             frame: reached,
             place,
             list,
         } => {
-            let c = check_list(bytes, list, shown);
+            let c = take_list(shown, bytes, list, false);
             match c {
-                Checked::Bad => Leads::Nowhere(Refusal::BadRecord),
-                Checked::Ends(end) => {
+                Taken::Bad => Leads::Refused(Refusal::BadRecord),
+                Taken::Ends(end) => {
                     if end < bytes.len() {
-                        return Leads::Nowhere(Refusal::BadRecord);
+                        return Leads::Refused(Refusal::BadRecord);
                     }
                     if !belongs(reached, place, frame, next) {
-                        return Leads::Nowhere(Refusal::OtherRecord);
+                        return Leads::Refused(Refusal::OtherRecord);
                     }
                     Leads::To { place, list }
                 }
@@ -253,13 +224,13 @@ fn leads_back(bytes: &[u8], shown: &[u8], frame: usize, next: usize) -> Leads
 
 // Puts a record back into the shown picture, at a frame number and a next place, all or nothing.
 pub fn restore(bytes: &[u8], shown: &mut [u8], frame: usize, next: usize) -> Restored
-    ensures { λ r. ⌜ (restoredOf r ≡ placeOf (restored (now (bytes .entry)) (now (shown .entry)) frame next)) × (now (shown .exit) ≡ shownAfter (now (shown .entry)) (restored (now (bytes .entry)) (now (shown .entry)) frame next)) ⌝ }
+    ensures { λ r. ⌜ Restores (now (bytes .entry)) (now (shown .entry)) frame next (restoredOf r) (now (shown .exit)) ⌝ }
 {
     let l = leads_back(bytes, shown, frame, next);
     match l {
-        Leads::Nowhere(why) => Restored::Kept(why),
+        Leads::Refused(why) => Restored::Refused(why),
         Leads::To { place, list } => {
-            restore_list(shown, bytes, list);
+            take_list(shown, bytes, list, true);
             Restored::Back(place)
         }
     }

@@ -1,1 +1,1 @@
-// The theorem about the deltas that are written: see specs/. There is no code here.
+// The theorem about the deltas that are written: see proofs/. There is no code here.

@@ -1,10 +1,4 @@
 pub mod Runs
-pub mod RunLaws
-pub mod PatchLaws
+pub mod Front
 pub mod Stretch
-pub mod StretchLaws
-pub mod NextLaws
-pub mod DifferLaws
 pub mod Word
-pub mod WordLaws
-pub mod StopLaws

@@ -1,29 +1,29 @@
 -- The longest stretches of elements that changed between two lists, in order: the bytes of a picture for a record, the rows of
 -- a column for the writer (document 01, "Opening, stepping on, stepping back" and "The writer").
-use Prim.Native.Nat.{ℕ, suc}
-use mathlib.Core.Bool.{Bool, true, false}
-use mathlib.Core.List.{List, [], _∷_}
+use Prim.Native.Nat.{ℕ, suc, _+_, _-_, _<_, _≤_}
+use mathlib.Core.Bool.{Bool, true, false, _&&_}
+use mathlib.Core.List.{List, [], _∷_, _++_}
 use mathlib.Core.Option.{Option, none, some}
 use lib.Dec.{eqb}
-use lib.ListN.{length, drop}
+use lib.ListN.{length, take, drop}
 use Rattle.laws.specs.Result.{pick, _>>?_, given}
 use Rattle.runs.specs.declared.Change.{Change}
 use Rattle.runs.specs.declared.Change.the-variants.{Run as Changed, Nothing}
 
--- a run: the unchanged elements since the previous run, and the old elements
+-- a run: the unchanged elements since the previous run, and what the first list has in the place of the changed ones
 pub record Run : Type 0 where
   pub gap : ℕ
-  pub old : List ℕ
+  pub bytes : List ℕ
 
 -- one unchanged element in front of the runs
 unfoldable pub kept : List Run → List Run
 kept [] = []
-kept (r ∷ rs) = record { gap = suc (r .gap); old = r .old } ∷ rs
+kept (r ∷ rs) = record { gap = suc (r .gap); bytes = r .bytes } ∷ rs
 
 -- one changed element in front: it joins a run that begins at once
 unfoldable pub changed : ℕ → List Run → List Run
-changed a [] = record { gap = 0; old = a ∷ [] } ∷ []
-changed a (r ∷ rs) = elim (eqb (r .gap) 0) [ true ↦ record { gap = 0; old = a ∷ r .old } ∷ rs | false ↦ record { gap = 0; old = a ∷ [] } ∷ r ∷ rs ]
+changed a [] = record { gap = 0; bytes = a ∷ [] } ∷ []
+changed a (r ∷ rs) = elim (eqb (r .gap) 0) [ true ↦ record { gap = 0; bytes = a ∷ r .bytes } ∷ rs | false ↦ record { gap = 0; bytes = a ∷ [] } ∷ r ∷ rs ]
 
 -- the runs between what was and what is
 unfoldable pub runsOf : List ℕ → List ℕ → List Run
@@ -44,7 +44,7 @@ pub record First : Type 0 where
 
 unfoldable pub firstOf : List Run → Option First
 firstOf [] = none
-firstOf (r ∷ rs) = some (record { gap = r .gap; count = length (r .old) })
+firstOf (r ∷ rs) = some (record { gap = r .gap; count = length (r .bytes) })
 
 -- the next run from a place on; none for lists of two lengths
 unfoldable pub nextRun : List ℕ → List ℕ → ℕ → Option First
@@ -60,3 +60,18 @@ unfoldable pub differ : List ℕ → List ℕ → Bool
 differ [] new = true
 differ (a ∷ old) [] = false
 differ (a ∷ old) (b ∷ new) = elim (eqb a b) [ true ↦ false | false ↦ differ old new ]
+
+-- no element of a run equals the one that it replaces
+unfoldable pub allDiffer : List Run → List ℕ → Bool
+allDiffer [] f = true
+allDiffer (r ∷ rs) f = differ (r .bytes) (drop (r .gap) f) && allDiffer rs (drop (r .gap + length (r .bytes)) f)
+
+-- a list with the elements of runs in their places
+unfoldable pub patch : List Run → List ℕ → List ℕ
+patch [] f = f
+patch (r ∷ rs) f = take (r .gap) f ++ r .bytes ++ patch rs (drop (r .gap + length (r .bytes)) f)
+
+-- runs that a reader takes: gaps from `least` on, later ones from 1 on, no empty run, all within `room` elements
+unfoldable pub Fit : ℕ → ℕ → List Run → Type 0
+Fit least room [] = Unit {0}
+Fit least room (r ∷ rs) = (least ≤ r .gap) × (0 < length (r .bytes)) × (r .gap + length (r .bytes) ≤ room) × Fit 1 (room - (r .gap + length (r .bytes))) rs

@@ -2,22 +2,20 @@
 -- or row that isn't there is 14, after 11 and 12. A refused row is an empty part, and a separate question answers the number.
 use Prim.Native.Nat.{ℕ, _+_, _*_}
 use mathlib.Core.List.{List, []}
-use lib.Dec.{ltb, eqb}
+use lib.Dec.{ltb}
 use lib.ListN.{length, take, drop}
 use Rattle.laws.specs.Result.{Res, Res.ok, Res.fault, _>>=_, need}
 use Rattle.refusal.specs.Number.{numberOf}
-use Rattle.state.specs.State.{rowBytes, stateLength}
+use Rattle.state.specs.State.{rowBytes, lentLength}
 use Rattle.state.specs.declared.State.{State}
-use Rattle.state.specs.World.{World, shownOf}
+use Rattle.state.specs.World.{World, shownIn}
 use Rattle.shown.specs.declared.Place.{Place}
 use Rattle.shown.specs.declared.Place.the-variants.{At, Refused}
 
 -- where the row stands in its buffer, by the lengths of A and B; or 11, 12, 14
 unfoldable pub rowPlace : State → ℕ → ℕ → ℕ → ℕ → Res ℕ
 rowPlace s a b plane row =
-    stateLength s >>= λ n.
-    need (eqb a n) 12 >>= λ _.
-    need (eqb b n) 12 >>= λ _.
+    lentLength s a b >>= λ _.
     need (ltb plane (s .sizes .planes)) 14 >>= λ _.
     need (ltb row (s .sizes .height)) 14 >>= λ _.
     ok ((plane * s .sizes .height + row) * rowBytes (s .sizes .width))
@@ -29,7 +27,7 @@ partAt p B (fault n) = []
 
 -- the row
 unfoldable pub rowOf : World → ℕ → ℕ → List ℕ
-rowOf w plane row = partAt (shownOf w) (rowBytes (w .state .sizes .width)) (rowPlace (w .state) (length (w .a)) (length (w .b)) plane row)
+rowOf w plane row = partAt (shownIn w) (rowBytes (w .state .sizes .width)) (rowPlace (w .state) (length (w .a)) (length (w .b)) plane row)
 
 -- what an answer says in the paper's terms
 abbrev pub placeOf : Place → Res ℕ

@@ -17,16 +17,10 @@ pub fn row_place(state: State, a: &[u8], b: &[u8], plane: usize, row: usize) -> 
     ensures { λ r. ⌜ placeOf r ≡ rowPlace state (length (now (a .entry))) (length (now (b .entry))) plane row ⌝ }
 {
     let sizes = state.sizes;
-    let l = state.frame_length();
+    let l = state.lent_length(a.len(), b.len());
     match l {
         Length::Refused(why) => Place::Refused(why),
-        Length::Bytes(n) => {
-            if a.len() != n {
-                return Place::Refused(Refusal::BufferLength);
-            }
-            if b.len() != n {
-                return Place::Refused(Refusal::BufferLength);
-            }
+        Length::Bytes(_) => {
             if sizes.planes <= plane {
                 return Place::Refused(Refusal::NoSuchRow);
             }

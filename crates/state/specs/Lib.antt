@@ -1,5 +1,4 @@
 pub mod State
-pub mod StateLaws
 pub mod World
-pub mod Outcome
+pub mod After
 pub mod Film

@@ -1,7 +1,8 @@
 -- The state, its limits and the length of a frame (document 01, "Numbers that bound the work"; 11 of "Refusal numbers").
-use Prim.Native.Nat.{ℕ, _+_, _*_, _/_}
+use Prim.Native.Nat.{ℕ, _+_, _*_, _/_, _≤_}
 use mathlib.Core.Bool.{Bool, _&&_}
-use lib.Dec.{leb}
+use mathlib.Core.Path.{_≡_}
+use lib.Dec.{leb, eqb}
 use Rattle.laws.specs.Result.{Res, Res.ok, Res.fault, _>>=_, need}
 use Rattle.refusal.specs.Number.{numberOf}
 use Rattle.state.specs.declared.Sizes.{Sizes}
@@ -37,6 +38,14 @@ stateLength s =
     need (leb (s .end) 2_147_483_647) 11 >>= λ _.
     frameLength (s .sizes)
 
+-- the same where A and B, of so many bytes, are lent: 12 for a buffer of another length than a frame's
+unfoldable pub lentLength : State → ℕ → ℕ → Res ℕ
+lentLength s a b =
+    stateLength s >>= λ n.
+    need (eqb a n) 12 >>= λ _.
+    need (eqb b n) 12 >>= λ _.
+    ok n
+
 -- what an answer says in the paper's terms
 abbrev pub lengthOf : Length → Res ℕ
 lengthOf (Bytes n) = ok n
@@ -45,3 +54,32 @@ lengthOf (Refused why) = fault (numberOf why)
 -- the state after opening
 abbrev pub opened : Sizes → ℕ → ℕ → State
 opened z next end = record { sizes = z; frame = 1; next = next; end = end }
+
+-- the state of nothing opened
+abbrev pub zeros : State
+zeros = record { sizes = record { width = 0; height = 0; planes = 0 }; frame = 0; next = 0; end = 0 }
+
+-- the state after a step to another frame: sizes and end place stay
+abbrev pub moved : State → ℕ → ℕ → State
+moved s frame place = record { sizes = s .sizes; frame = frame; next = place; end = s .end }
+
+-- sizes within the limits, and what follows of the lengths
+pub record Sound (z : Sizes) (n : ℕ) : Type 0 where
+  pub width-least : 1 ≤ z .width
+  pub width-most : z .width ≤ 1024
+  pub height-least : 1 ≤ z .height
+  pub height-most : z .height ≤ 1024
+  pub planes-least : 1 ≤ z .planes
+  pub planes-most : z .planes ≤ 8
+  pub row-least : 2 ≤ rowBytes (z .width)
+  pub row-most : rowBytes (z .width) ≤ 128
+  pub plane-most : z .height * rowBytes (z .width) ≤ 131072
+  pub length : n ≡ frameBytes z
+  pub length-most : n ≤ 1048576
+
+-- what proofs use of a state within the limits
+pub record SoundState (s : State) (n : ℕ) : Type 0 where
+  pub frame-least : 1 ≤ s .frame
+  pub next-most : s .next ≤ s .end
+  pub end-most : s .end ≤ 2147483647
+  pub sizes : Sound (s .sizes) n

@@ -16,10 +16,24 @@ pub record World : Type 0 where
 unfoldable pub isOdd : ℕ → Bool
 isOdd n = eqb (n % 2) 1
 
--- the shown picture: odd frames are shown in A, even ones in B
-unfoldable pub shownOf : World → List ℕ
-shownOf w = pick (isOdd (w .state .frame)) (w .a) (w .b)
+-- which of A and B is shown at a frame: odd frames are shown in A, even ones in B
+abbrev pub shownOf : ℕ → (a b : List ℕ) → List ℕ
+shownOf frame a b = pick (isOdd frame) a b
 
--- the hidden picture, which is in the other buffer
-unfoldable pub hiddenOf : World → List ℕ
-hiddenOf w = pick (isOdd (w .state .frame)) (w .b) (w .a)
+-- the hidden one is the other
+abbrev pub hiddenOf : ℕ → (a b : List ℕ) → List ℕ
+hiddenOf frame a b = pick (isOdd frame) b a
+
+-- the shown and the hidden picture
+unfoldable pub shownIn : World → List ℕ
+shownIn w = shownOf (w .state .frame) (w .a) (w .b)
+
+unfoldable pub hiddenIn : World → List ℕ
+hiddenIn w = hiddenOf (w .state .frame) (w .a) (w .b)
+
+-- the same with another picture in the shown buffer, or in the hidden one, and another state
+unfoldable pub withShown : World → List ℕ → State → World
+withShown w p s = record { a = pick (isOdd (w .state .frame)) p (w .a); b = pick (isOdd (w .state .frame)) (w .b) p; state = s }
+
+unfoldable pub withHidden : World → List ℕ → State → World
+withHidden w p s = record { a = pick (isOdd (w .state .frame)) (w .a) p; b = pick (isOdd (w .state .frame)) p (w .b); state = s }

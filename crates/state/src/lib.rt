@@ -1,6 +1,6 @@
 // The player's state and the sizes of a picture: their limits, and how long a frame of those sizes is.
 ghost use mathlib.Core.Path.{_≡_};
-ghost use Rattle.state.specs.State.{rowBytes, within, lengthOf, frameLength, stateLength, opened};
+ghost use Rattle.state.specs.State.{rowBytes, within, lengthOf, frameLength, stateLength, lentLength, opened, zeros, moved};
 use refusal::Refusal;
 
 // The sizes of a picture.
@@ -16,6 +16,14 @@ pub struct State {
     pub frame: usize,
     pub next: usize,
     pub end: usize,
+}
+
+// What a taken step on reports: the method, the relative time, how many bytes changed, and the record's length.
+pub struct Report {
+    pub method: usize,
+    pub time: usize,
+    pub changed: usize,
+    pub record_length: usize,
 }
 
 // How many bytes a frame has, or that the sizes or the state are outside the limits.
@@ -86,6 +94,36 @@ impl State {
         }
     }
 
+    // The state of nothing opened: six zeros.
+    pub fn zeros() -> State
+        ensures { λ r. ⌜ r ≡ zeros ⌝ }
+    {
+        let sizes = Sizes {
+            width: 0,
+            height: 0,
+            planes: 0,
+        };
+        State {
+            sizes,
+            frame: 0,
+            next: 0,
+            end: 0,
+        }
+    }
+
+    // The state after a step to another frame.
+    pub fn moved(self, frame: usize, place: usize) -> State
+        ensures { λ r. ⌜ r ≡ moved self frame place ⌝ }
+    {
+        let sizes = self.sizes;
+        State {
+            sizes,
+            frame,
+            next: place,
+            end: self.end,
+        }
+    }
+
     // The bytes of a frame, if the whole state is within the limits.
     pub fn frame_length(self) -> Length
         ensures { λ r. ⌜ lengthOf r ≡ stateLength self ⌝ }
@@ -101,5 +139,24 @@ impl State {
         }
         let sizes = self.sizes;
         sizes.frame_length()
+    }
+
+    // The bytes of a frame, if the whole state is within the limits and A and B have the length of one.
+    pub fn lent_length(self, a: usize, b: usize) -> Length
+        ensures { λ r. ⌜ lengthOf r ≡ lentLength self a b ⌝ }
+    {
+        let l = self.frame_length();
+        match l {
+            Length::Refused(why) => Length::Refused(why),
+            Length::Bytes(n) => {
+                if a != n {
+                    return Length::Refused(Refusal::BufferLength);
+                }
+                if b != n {
+                    return Length::Refused(Refusal::BufferLength);
+                }
+                Length::Bytes(n)
+            }
+        }
     }
 }

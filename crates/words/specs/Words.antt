@@ -6,6 +6,8 @@ use mathlib.Core.List.{List, [], _∷_, _++_}
 use lib.Dec.{eqb}
 use lib.ListN.{length, getD}
 use Rattle.laws.specs.Result.{pick}
+use Rattle.state.specs.State.{zeros}
+use Rattle.state.specs.declared.Report.{Report}
 use Rattle.state.specs.declared.State.{State}
 
 -- the number in four bytes and in eight, from a place on
@@ -32,11 +34,15 @@ unfoldable pub stateIn : List ℕ → State
 stateIn s =
     pick (eqb (length s) 48)
     (record { sizes = record { width = le64 s 0; height = le64 s 8; planes = le64 s 16 }; frame = le64 s 24; next = le64 s 32; end = le64 s 40 })
-    (record { sizes = record { width = 0; height = 0; planes = 0 }; frame = 0; next = 0; end = 0 })
+    zeros
 
 -- the six numbers of a state
 unfoldable pub stateWords : State → List ℕ
 stateWords x = x .sizes .width ∷ x .sizes .height ∷ x .sizes .planes ∷ x .frame ∷ x .next ∷ x .end ∷ []
+
+-- the four numbers of a report
+unfoldable pub reportWords : Report → List ℕ
+reportWords r = r .method ∷ r .time ∷ r .changed ∷ r .record_length ∷ []
 
 -- numbers laid into a buffer of their length; a buffer of another length stays
 unfoldable pub lay : List ℕ → List ℕ → List ℕ

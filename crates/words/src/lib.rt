@@ -35,17 +35,7 @@ pub fn read_state(s: &[u8]) -> State
     ensures { λ r. ⌜ r ≡ stateIn (now (s .entry)) ⌝ }
 {
     if s.len() != 48 {
-        let none = Sizes {
-            width: 0,
-            height: 0,
-            planes: 0,
-        };
-        return State {
-            sizes: none,
-            frame: 0,
-            next: 0,
-            end: 0,
-        };
+        return State::zeros();
     }
     let sizes = Sizes {
         width: number64(s, 0),

@@ -4,7 +4,8 @@ ghost use mathlib.Core.Path.{_≡_};
 ghost use Prim.Native.Nat.{_+_, _≤_};
 ghost use lib.ListN.{length};
 ghost use Rattle.laws.specs.Put.{Put};
-ghost use Rattle.words.specs.Words.{le32Bytes, le64Bytes, stateWords, lay};
+ghost use Rattle.words.specs.Words.{le32Bytes, le64Bytes, stateWords, reportWords, lay};
+use state::Report;
 use state::State;
 
 // Puts a number into four bytes, and answers the place after them.
@@ -44,17 +45,17 @@ pub fn write_state(out: &mut [u8], state: State)
     put64(out, sixth, state.end);
 }
 
-// Writes four numbers into a buffer of 32 bytes.
-pub fn write_report(out: &mut [u8], method: usize, time: usize, changed: usize, length: usize)
-    ensures { λ _. ⌜ now (out .exit) ≡ lay (method ∷ time ∷ changed ∷ length ∷ []) (now (out .entry)) ⌝ }
+// Writes a report into a buffer of 32 bytes.
+pub fn write_report(out: &mut [u8], report: Report)
+    ensures { λ _. ⌜ now (out .exit) ≡ lay (reportWords report) (now (out .entry)) ⌝ }
 {
     if out.len() != 32 {
         return;
     }
-    let second = put64(out, 0, method);
-    let third = put64(out, second, time);
-    let fourth = put64(out, third, changed);
-    put64(out, fourth, length);
+    let second = put64(out, 0, report.method);
+    let third = put64(out, second, report.time);
+    let fourth = put64(out, third, report.changed);
+    put64(out, fourth, report.record_length);
 }
 
 // Writes one number into a buffer of eight bytes.

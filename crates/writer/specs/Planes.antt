@@ -1,4 +1,4 @@
--- The writer's walk over planes and their columns.
+-- Columns and planes that lie in two frames, as the writer walks over them.
 use Prim.Native.Nat.{ℕ, _+_, _*_, _≤_, _<_}
 use mathlib.Core.List.{List}
 use mathlib.Core.Path.{_≡_}
@@ -28,8 +28,3 @@ pub record Frames (old new : List ℕ) (row height planes : ℕ) : Type 0 where
   pub oldSize : length old ≡ planes * (height * row)
   pub newSize : length new ≡ planes * (height * row)
   pub most : length new ≤ 1048576
-
--- so many planes are left, from a place on
-pub record Walking (row height planes at left : ℕ) : Type 0 where
-  pub few : left ≤ planes
-  pub place : at + left * (height * row) ≡ planes * (height * row)

@@ -10,7 +10,7 @@ use Rattle.laws.specs.Result.{Res, Res.ok, Res.fault, _>>=_, need}
 use Rattle.refusal.specs.Number.{numberOf}
 use Rattle.state.specs.State.{rowBytes, frameLength}
 use Rattle.state.specs.declared.Sizes.{Sizes}
-use Rattle.column.specs.Column.{columnBytes}
+use Rattle.column_writer.specs.Column.{columnBytes}
 use Rattle.writer.specs.declared.Delta.{Delta}
 use Rattle.writer.specs.declared.Delta.the-variants.{Written, Refused}
 
@@ -90,3 +90,7 @@ pub record Writes (z : Sizes) (old new out : List ℕ) (answer : Res ℕ) (out�
 abbrev pub deltaOf : Delta → Res ℕ
 deltaOf (Written length) = ok length
 deltaOf (Refused why) = fault (numberOf why)
+
+-- the longest column
+abbrev pub longest : ℕ → ℕ
+longest height = height + height / 2 + 2

@@ -85,7 +85,9 @@ fn write_planes(
     planes: usize,
 ) -> usize
     requires { ⌜ Frames (now old) (now new) row height planes × (64 + length (listsBytes (now old) (now new) row height planes 0) ≤ length (now out)) ⌝ }
-    ensures { λ r. ⌜ (r ≡ 64 + length (listsBytes (now (old .entry)) (now (new .entry)) row height planes 0)) × (now (out .exit) ≡ sets (sets (now (out .entry)) 0 (pointersBytes (now (old .entry)) (now (new .entry)) row height planes 0 64)) 64 (listsBytes (now (old .entry)) (now (new .entry)) row height planes 0)) ⌝ }
+    ensures { λ r. ⌜ (r ≡ 64 + length (listsBytes (now (old .entry)) (now (new .entry)) row height planes 0))
+        × (now (out .exit) ≡ sets (sets (now (out .entry)) 0 (pointersBytes (now (old .entry)) (now (new .entry)) row height planes 0 64)) 64
+        (listsBytes (now (old .entry)) (now (new .entry)) row height planes 0)) ⌝ }
 {
     let size = height * row;
     let mut pointer = 0;
@@ -105,8 +107,10 @@ fn write_planes(
 
 // Writes a delta where it fits, and answers its length.
 fn write_delta(out: &mut [u8], old: &[u8], new: &[u8], sizes: Sizes) -> usize
-    requires { ⌜ Frames (now old) (now new) (rowBytes (sizes .width)) (sizes .height) (sizes .planes) × (64 + length (listsBytes (now old) (now new) (rowBytes (sizes .width)) (sizes .height) (sizes .planes) 0) ≤ length (now out)) ⌝ }
-    ensures { λ r. ⌜ (r ≡ 64 + length (listsBytes (now (old .entry)) (now (new .entry)) (rowBytes (sizes .width)) (sizes .height) (sizes .planes) 0)) × (now (out .exit) ≡ sets (now (out .entry)) 0 (deltaBytes sizes (now (old .entry)) (now (new .entry)))) ⌝ }
+    requires { ⌜ Frames (now old) (now new) (rowBytes (sizes .width)) (sizes .height) (sizes .planes)
+        × (64 + length (listsBytes (now old) (now new) (rowBytes (sizes .width)) (sizes .height) (sizes .planes) 0) ≤ length (now out)) ⌝ }
+    ensures { λ r. ⌜ (r ≡ 64 + length (listsBytes (now (old .entry)) (now (new .entry)) (rowBytes (sizes .width)) (sizes .height) (sizes .planes) 0))
+        × (now (out .exit) ≡ sets (now (out .entry)) 0 (deltaBytes sizes (now (old .entry)) (now (new .entry)))) ⌝ }
 {
     let start = 4 * sizes.planes;
     fill(&mut out[start..64], 0);

@@ -29,7 +29,8 @@ fn copy_columns(
     at: usize,
 )
     requires { ⌜ (height ≤ length (now was)) × (height ≤ length (now is)) × InFrame (now old) (now new) row height at ⌝ }
-    ensures { λ _. ⌜ (take height (now (was .exit)) ≡ columnAt (now (old .entry)) row at height) × (take height (now (is .exit)) ≡ columnAt (now (new .entry)) row at height) ⌝ }
+    ensures { λ _. ⌜ (take height (now (was .exit)) ≡ columnAt (now (old .entry)) row at height)
+        × (take height (now (is .exit)) ≡ columnAt (now (new .entry)) row at height) ⌝ }
 {
     copy_column(&mut was[..height], old, row, at);
     copy_column(&mut is[..height], new, row, at);
@@ -49,10 +50,10 @@ fn length_in(
     ensures { λ r. ⌜ (r ≡ length (columnIn (now (old .entry)) (now (new .entry)) row height at)) × (r ≤ 3073) ⌝ }
 {
     copy_columns(was, is, old, new, row, height, at);
-    let l = column::length(&was[..height], &is[..height]);
+    let l = column_writer::length(&was[..height], &is[..height]);
     match l {
-        column::Size::Bytes(n) => n,
-        column::Size::Refused(_) => 0,
+        column_writer::Size::Bytes(n) => n,
+        column_writer::Size::Refused(_) => 0,
     }
 }
 
@@ -78,14 +79,15 @@ fn write_in(
     height: usize,
     at: usize,
 ) -> usize
-    requires { ⌜ (height ≤ length (now was)) × (height ≤ length (now is)) × InFrame (now old) (now new) row height at × (place + length (columnIn (now old) (now new) row height at) ≤ length (now out)) ⌝ }
+    requires { ⌜ (height ≤ length (now was)) × (height ≤ length (now is)) × InFrame (now old) (now new) row height at
+        × (place + length (columnIn (now old) (now new) row height at) ≤ length (now out)) ⌝ }
     ensures { λ r. ⌜ Put (now (out .entry)) place (columnIn (now (old .entry)) (now (new .entry)) row height at) (now (out .exit)) r ⌝ }
 {
     copy_columns(was, is, old, new, row, height, at);
-    let p = column::write(out, place, &was[..height], &is[..height]);
+    let p = column_writer::write(out, place, &was[..height], &is[..height]);
     match p {
-        column::Placed::Next(next) => next,
-        column::Placed::Refused(_) => place,
+        column_writer::Placed::Next(next) => next,
+        column_writer::Placed::Refused(_) => place,
     }
 }
 

@@ -9,7 +9,7 @@ use Rattle.laws.specs.Bytes.{be32}
 use Rattle.anhd.specs.Anhd.{frameHeader, methodOk, interleaveOk, bitsOk, itemsOf, columnsOk}
 use Rattle.anhd.specs.declared.FrameHeader.{FrameHeader}
 use borrow.Author.Tests.{le-leb, lt-leb}
-use Rattle.laws.specs.ResultLaws.{told-true, told-false}
+use Rattle.laws.proofs.ResultLaws.{told-true, told-false}
 use borrow.Author.Needs.{needs}
 use Rattle.anhd.proofs.read_header.Statement.{statement}
 use Rattle.anhd.proofs.read_header.Tie as tie

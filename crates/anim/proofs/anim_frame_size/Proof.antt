@@ -1,5 +1,5 @@
 -- `anim::anim_frame_size`: what opening says of the frame's length, in bytes.
-use Rattle.anim.specs.ExportLaws.{size-unsized, size-sized}
+use Rattle.anim.proofs.ExportLaws.{size-unsized, size-sized}
 use mathlib.Core.Path.{refl}
 use borrow.Author.Needs.{needs}
 use Rattle.anim.proofs.anim_frame_size.Statement.{statement}
@@ -27,13 +27,21 @@ write-number-requires : tie.Need-write-number-requires
 write-number-requires c κs = search needs
 
 returns-2 : tie.Need-returns-2
-returns-2 c = let k = c .before .before .before .before .before .before .before .before .args in size-sized (k .file .now) (k .size .now) (c .before .before .before .before .before .if1 .left) (c .before .before .before .before .frame-size .ensures) (c .before .before .s .given .1) (c .number .ensures) refl
+returns-2 c =
+    let at-if = c .before .before .before .before .before in
+    let at-start = at-if .before .before .before in
+    let k = at-start .args in size-sized (k .file .now) (k .size .now) (at-if .if1 .left) (c .before .before .before .before .frame-size .ensures) (c .before .before .s .given .1) (c .number .ensures) refl
 
 same-length : tie.Need-same-length
 same-length c = search needs
 
 returns-3 : tie.Need-returns-3
-returns-3 c = let k = c .before .before .before .before .before .before .before .before .before .before .before .args in size-sized (k .file .now) (k .size .now) (c .before .before .before .before .before .before .before .before .if1 .left) (c .before .before .before .before .before .before .before .frame-size .ensures) (c .before .before .before .before .before .s2 .given .1) refl (c .before .before .write-number .ensures)
+returns-3 c =
+    let at-s = c .before .before .before .before .before in
+    let at-frame-size = at-s .before .before in
+    let at-if = at-frame-size .before in
+    let at-start = at-if .before .before .before in
+    let k = at-start .args in size-sized (k .file .now) (k .size .now) (at-if .if1 .left) (at-frame-size .frame-size .ensures) (at-s .s2 .given .1) refl (c .before .before .write-number .ensures)
 
 pub anim-frame-size-spec : {M : Type 1} → statement M
 anim-frame-size-spec =

@@ -1,6 +1,6 @@
 -- `anim::anim_row_refusal`: the refusal's number, or 0.
 use Rattle.shown.specs.Row.{placeOf}
-use Rattle.laws.specs.ResultLaws.{told}
+use Rattle.laws.proofs.ResultLaws.{told}
 use borrow.Author.Needs.{needs}
 use Rattle.anim.proofs.anim_row_refusal.Statement.{statement}
 use Rattle.anim.proofs.anim_row_refusal.Tie as tie

@@ -1,5 +1,5 @@
 -- `anim::anim_step_back`: what stepping back answers; the state in bytes where it is taken.
-use Rattle.anim.specs.ExportLaws.{back-unsized, back-sized}
+use Rattle.anim.proofs.ExportLaws.{back-unsized, back-sized}
 use mathlib.Core.Path.{refl}
 use borrow.Author.Needs.{needs}
 use Rattle.anim.proofs.anim_step_back.Statement.{statement}
@@ -9,7 +9,9 @@ wrong-length-requires : tie.Need-wrong-length-requires
 wrong-length-requires c κs = search needs
 
 returns : tie.Need-returns
-returns c = let k = c .before .before .before .before .before .before .args in back-unsized (k .state .now) (k .a .now) (k .b .now) (k .rec .now) (c .wrong-length .ensures) (c .before .if1 .taken)
+returns c =
+    let at-start = c .before .before .before .before .before .before in
+    let k = at-start .args in back-unsized (record { state = k .state .now; a = k .a .now; b = k .b .now }) (k .rec .now) (c .wrong-length .ensures) (c .before .if1 .taken)
 
 read-state-requires : tie.Need-read-state-requires
 read-state-requires c κs = search needs
@@ -39,7 +41,12 @@ same-length-3 : tie.Need-same-length-3
 same-length-3 c = search needs
 
 returns-2 : tie.Need-returns-2
-returns-2 c = let k = c .before .before .before .before .before .before .before .before .before .before .before .before .before .before .before .before .before .before .args in back-sized (k .state .now) (k .a .now) (k .b .now) (k .rec .now) (c .before .before .before .before .before .before .before .before .before .before .before .before .before .if1 .left) (rw (c .before .before .before .before .before .before .before .before .before .before .before .read-state .ensures) at (c .before .before .before .before .before .before .before .before .step-back .ensures)) (c .before .before .answer .given .1) (c .number .ensures) refl
+returns-2 c =
+    let at-step-back = c .before .before .before .before .before .before .before .before in
+    let at-read-state = at-step-back .before .before .before in
+    let at-if = at-read-state .before .before in
+    let at-start = at-if .before .before .before .before .before in
+    let k = at-start .args in back-sized (record { state = k .state .now; a = k .a .now; b = k .b .now }) (k .rec .now) (at-if .if1 .left) (rw (at-read-state .read-state .ensures) at (at-step-back .step-back .ensures)) (c .before .before .answer .given .1) (c .number .ensures) refl
 
 same-length-4 : tie.Need-same-length-4
 same-length-4 c = search needs
@@ -51,7 +58,12 @@ same-length-6 : tie.Need-same-length-6
 same-length-6 c = search needs
 
 returns-3 : tie.Need-returns-3
-returns-3 c = let k = c .before .before .before .before .before .before .before .before .before .before .before .before .before .before .before .before .before .before .before .before .args in back-sized (k .state .now) (k .a .now) (k .b .now) (k .rec .now) (c .before .before .before .before .before .before .before .before .before .before .before .before .before .before .before .if1 .left) (rw (c .before .before .before .before .before .before .before .before .before .before .before .before .before .read-state .ensures) at (c .before .before .before .before .before .before .before .before .before .before .step-back .ensures)) (c .before .before .before .before .enum-told .given .1) refl (c .before .before .write-state .ensures)
+returns-3 c =
+    let at-step-back = c .before .before .before .before .before .before .before .before .before .before in
+    let at-read-state = at-step-back .before .before .before in
+    let at-if = at-read-state .before .before in
+    let at-start = at-if .before .before .before .before .before in
+    let k = at-start .args in back-sized (record { state = k .state .now; a = k .a .now; b = k .b .now }) (k .rec .now) (at-if .if1 .left) (rw (at-read-state .read-state .ensures) at (at-step-back .step-back .ensures)) (c .before .before .before .before .enum-told .given .1) refl (c .before .before .write-state .ensures)
 
 pub anim-step-back-spec : {M : Type 1} → statement M
 anim-step-back-spec =

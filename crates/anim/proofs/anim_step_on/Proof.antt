@@ -1,6 +1,6 @@
 -- `anim::anim_step_on`: the test of the two slices, then what is handed over of the step.
 use borrow.Author.Tests.{not-true, not-false}
-use Rattle.anim.specs.ExportLaws.{on-unsized, on-sized}
+use Rattle.anim.proofs.ExportLaws.{on-unsized, on-sized}
 use borrow.Author.Needs.{needs}
 use Rattle.anim.proofs.anim_step_on.Statement.{statement}
 use Rattle.anim.proofs.anim_step_on.Tie as tie
@@ -12,7 +12,9 @@ wrong-length-requires : tie.Need-wrong-length-requires
 wrong-length-requires c κs = search needs
 
 returns : tie.Need-returns
-returns c = let k = c .before .before .before .before .before .before .before .before .before .before .args in on-unsized (k .file .now) (k .state .now) (k .a .now) (k .b .now) (k .work .now) (k .rec .now) (k .report .now) (c .before .before .sized .ensures) (not-true _ (c .before .if1 .taken)) (c .wrong-length .ensures)
+returns c =
+    let at-start = c .before .before .before .before .before .before .before .before .before .before in
+    let k = at-start .args in on-unsized (k .file .now) (record { world = record { state = k .state .now; a = k .a .now; b = k .b .now }; work = k .work .now; rec = k .rec .now; report = k .report .now }) (c .before .before .sized .ensures) (not-true _ (c .before .if1 .taken)) (c .wrong-length .ensures)
 
 read-state-requires : tie.Need-read-state-requires
 read-state-requires c κs = search needs
@@ -42,7 +44,13 @@ same-length-6 : tie.Need-same-length-6
 same-length-6 c = search needs
 
 returns-2 : tie.Need-returns-2
-returns-2 c = let k = c .before .before .before .before .before .before .before .before .before .before .before .before .before .before .before .before .before .before .before .before .before .before .before .before .before .before .before .before .before .before .before .args in on-sized (k .file .now) (k .state .now) (k .a .now) (k .b .now) (k .work .now) (k .rec .now) (k .report .now) (c .before .before .before .before .before .before .before .before .before .before .before .before .before .before .before .before .before .before .before .before .before .before .before .sized .ensures) (rw (c .before .before .before .before .before .before .before .before .before .before .before .before .before .before .before .before .before .before .before .before .read-state .ensures) at (c .before .before .before .before .before .before .before .before .before .before .before .before .before .before .before .step-on .ensures)) (not-false _ (c .before .before .before .before .before .before .before .before .before .before .before .before .before .before .before .before .before .before .before .before .before .before .if1 .left)) (c .before .before .before .before .hand-on .ensures)
+returns-2 c =
+    let at-step-on = c .before .before .before .before .before .before .before .before .before .before .before .before .before .before .before in
+    let at-read-state = at-step-on .before .before .before .before .before in
+    let at-if = at-read-state .before .before in
+    let at-sized = at-if .before in
+    let at-start = at-sized .before .before .before .before .before .before .before .before in
+    let k = at-start .args in on-sized (k .file .now) (record { world = record { state = k .state .now; a = k .a .now; b = k .b .now }; work = k .work .now; rec = k .rec .now; report = k .report .now }) (at-sized .sized .ensures) (rw (at-read-state .read-state .ensures) at (at-step-on .step-on .ensures)) (not-false _ (at-if .if1 .left)) (c .before .before .before .before .hand-on .ensures)
 
 pub anim-step-on-spec : {M : Type 1} → statement M
 anim-step-on-spec =

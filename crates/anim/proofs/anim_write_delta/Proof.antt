@@ -1,5 +1,6 @@
 -- `anim::anim_write_delta`: what the writer answers, and the length in bytes where it is written.
-use Rattle.anim.specs.ExportLaws.{write-unsized, write-sized}
+use Rattle.anim.specs.Export.{sizesIn}
+use Rattle.anim.proofs.ExportLaws.{write-unsized, write-sized}
 use mathlib.Core.Path.{refl}
 use borrow.Author.Needs.{needs}
 use Rattle.anim.proofs.anim_write_delta.Statement.{statement}
@@ -9,7 +10,9 @@ wrong-length-requires : tie.Need-wrong-length-requires
 wrong-length-requires c κs = search needs
 
 returns : tie.Need-returns
-returns c = let k = c .before .before .before .before .before .before .args in write-unsized (k .width) (k .height) (k .planes) (k .old .now) (k .new .now) (k .out .now) (k .len .now) (c .wrong-length .ensures) (c .before .if1 .taken)
+returns c =
+    let at-start = c .before .before .before .before .before .before in
+    let k = at-start .args in write-unsized (sizesIn (k .width) (k .height) (k .planes)) (k .old .now) (k .new .now) (record { out = k .out .now; len = k .len .now }) (c .wrong-length .ensures) (c .before .if1 .taken)
 
 write-requires : tie.Need-write-requires
 write-requires c κs = search needs
@@ -30,7 +33,11 @@ same-length : tie.Need-same-length
 same-length c = search needs
 
 returns-2 : tie.Need-returns-2
-returns-2 c = let k = c .before .before .before .before .before .before .before .before .before .before .before .before .before .args in write-sized (k .width) (k .height) (k .planes) (k .old .now) (k .new .now) (k .out .now) (k .len .now) (c .before .before .before .before .before .before .before .before .if1 .left) (c .before .before .before .before .before .before .write .ensures) (c .before .before .d .given .1) (c .number .ensures) refl
+returns-2 c =
+    let at-write = c .before .before .before .before .before .before in
+    let at-if = at-write .before .before in
+    let at-start = at-if .before .before .before .before .before in
+    let k = at-start .args in write-sized (sizesIn (k .width) (k .height) (k .planes)) (k .old .now) (k .new .now) (record { out = k .out .now; len = k .len .now }) (at-if .if1 .left) (at-write .write .ensures) (c .before .before .d .given .1) (c .number .ensures) refl
 
 same-length-2 : tie.Need-same-length-2
 same-length-2 c = search needs
@@ -39,7 +46,12 @@ same-length-3 : tie.Need-same-length-3
 same-length-3 c = search needs
 
 returns-3 : tie.Need-returns-3
-returns-3 c = let k = c .before .before .before .before .before .before .before .before .before .before .before .before .before .before .before .before .args in write-sized (k .width) (k .height) (k .planes) (k .old .now) (k .new .now) (k .out .now) (k .len .now) (c .before .before .before .before .before .before .before .before .before .before .before .if1 .left) (c .before .before .before .before .before .before .before .before .before .write .ensures) (c .before .before .before .before .before .d2 .given .1) refl (c .before .before .write-number .ensures)
+returns-3 c =
+    let at-d = c .before .before .before .before .before in
+    let at-write = at-d .before .before .before .before in
+    let at-if = at-write .before .before in
+    let at-start = at-if .before .before .before .before .before in
+    let k = at-start .args in write-sized (sizesIn (k .width) (k .height) (k .planes)) (k .old .now) (k .new .now) (record { out = k .out .now; len = k .len .now }) (at-if .if1 .left) (at-write .write .ensures) (at-d .d2 .given .1) refl (c .before .before .write-number .ensures)
 
 pub anim-write-delta-spec : {M : Type 1} → statement M
 anim-write-delta-spec =

@@ -1,5 +1,5 @@
 -- `anim::hand_on`: the number of each answer; state and report in bytes where the step is taken.
-use Rattle.anim.specs.ExportLaws.{hands-on}
+use Rattle.anim.proofs.ExportLaws.{hands-on}
 use mathlib.Core.Path.{refl}
 use borrow.Author.Needs.{needs}
 use Rattle.anim.proofs.hand_on.Statement.{statement}
@@ -36,7 +36,10 @@ same-length-2 : tie.Need-same-length-2
 same-length-2 c = search needs
 
 returns-3 : tie.Need-returns-3
-returns-3 c = hands-on (c .before .before .before .before .before .before .before .before .before .answer2 .given .1) refl (c .before .before .before .before .before .before .write-state .ensures) (c .before .before .write-report .ensures)
+returns-3 c =
+    let at-write-state = c .before .before .before .before .before .before in
+    let at-answer = at-write-state .before .before .before in
+    hands-on (at-answer .answer2 .given .1) refl (at-write-state .write-state .ensures) (c .before .before .write-report .ensures)
 
 pub hand-on-spec : {M : Type 1} → statement M
 hand-on-spec =

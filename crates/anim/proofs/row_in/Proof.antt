@@ -1,5 +1,5 @@
 -- `anim::row_in`: the state's slice, then the row.
-use Rattle.anim.specs.ExportLaws.{row-unsized, row-sized}
+use Rattle.anim.proofs.ExportLaws.{row-unsized, row-sized}
 use borrow.Author.Needs.{needs}
 use Rattle.anim.proofs.row_in.Statement.{statement}
 use Rattle.anim.proofs.row_in.Tie as tie
@@ -14,7 +14,9 @@ row-place-requires : tie.Need-row-place-requires
 row-place-requires c κs = search needs
 
 returns-2 : tie.Need-returns-2
-returns-2 c = let k = c .before .before .before .before .before .before .args in row-sized _ _ (k .state .now) _ _ (c .before .before .if1 .left) (rw (c .before .read-state .ensures) at (c .row-place .ensures))
+returns-2 c =
+    let at-start = c .before .before .before .before .before .before in
+    let k = at-start .args in row-sized _ _ (k .state .now) _ _ (c .before .before .if1 .left) (rw (c .before .read-state .ensures) at (c .row-place .ensures))
 
 pub row-in-spec : {M : Type 1} → statement M
 row-in-spec = tie.close (tie.spec returns read-state-requires row-place-requires returns-2)

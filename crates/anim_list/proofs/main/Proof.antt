@@ -48,7 +48,9 @@ array-share-prefix-out : tie.Need-array-share-prefix-out
 array-share-prefix-out c = search needs
 
 slice-aggregate-write-all : tie.Need-slice-aggregate-write-all
-slice-aggregate-write-all c = sym (length-take-le _ _ (c .before .before .before .before .before .before .list .ensures .most))
+slice-aggregate-write-all c =
+    let at-list = c .before .before .before .before .before .before in
+    sym (length-take-le _ _ (at-list .list .ensures .most))
 
 write-all-requires : tie.Need-write-all-requires
 write-all-requires c κs = search needs

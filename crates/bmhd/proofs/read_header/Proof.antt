@@ -3,7 +3,7 @@ use Prim.Native.Nat.{_<_}
 use native.Mathlib.Omega.{arith}
 use mathlib.Core.Path.{sym, _∙_}
 use borrow.Author.Tests.{le-leb, lt-leb, eq-eqb, ne-eqb}
-use Rattle.laws.specs.ResultLaws.{told}
+use Rattle.laws.proofs.ResultLaws.{told}
 use Rattle.state.specs.State.{lengthOf}
 use Rattle.bmhd.specs.Header.{header}
 use borrow.Author.Needs.{needs}
@@ -38,9 +38,12 @@ byte-requires c κs = search needs
 returns-3 : tie.Need-returns-3
 unfolding header
 returns-3 c =
-    let f = rw (c .before .before .before .before .before .before .sizes-at .ensures) at (told lengthOf (c .before .before .before .before .before .frame-length .ensures) (c .before .before .before .length .given .1)) in
+    let at-frame-length = c .before .before .before .before .before in
+    let at-sizes-at = at-frame-length .before in
+    let at-if = at-sizes-at .before in
+    let f = rw (at-sizes-at .sizes-at .ensures) at (told lengthOf (at-frame-length .frame-length .ensures) (c .before .before .before .length .given .1)) in
     let m = sym (c .before .byte .ensures .0) ∙ c .if2 .taken in
-    simp (eq-eqb _ _ (c .before .before .before .before .before .before .before .if1 .left), f, eq-eqb _ _ m)
+    simp (eq-eqb _ _ (at-if .if1 .left), f, eq-eqb _ _ m)
 
 byte-requires-2 : tie.Need-byte-requires-2
 byte-requires-2 c κs = search needs

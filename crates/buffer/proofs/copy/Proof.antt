@@ -1,58 +1,20 @@
--- `buffer::copy`: after i turns the first i bytes of dst are those of src.
-use native.Mathlib.Omega.{arith}
-use Prim.Native.Nat.{_-_, _≤_}
-use mathlib.Core.Path.{_≡_, refl}
-use lib.ListN.{length, length-set}
-use Rattle.laws.specs.Store.{Copied, copied-none, copied-more, copied-all}
+-- `buffer::copy`: as many bytes as both have.
+use Rattle.laws.proofs.StoreLaws.{copied-all}
 use borrow.Author.Needs.{needs}
 use Rattle.buffer.proofs.copy.Statement.{statement}
 use Rattle.buffer.proofs.copy.Tie as tie
 
-abbrev Inv-loop : tie.InvT-loop
-Inv-loop dst₀ src n i₀ dst i = (i ≤ n) × (length dst ≡ length dst₀) × Copied src dst₀ i dst
-
-abbrev μ-loop : tie.MeasureT-loop
-μ-loop dst₀ src n i₀ dst i = n - i
-
-smaller-requires : tie.Need-smaller-requires Inv-loop μ-loop
+smaller-requires : tie.Need-smaller-requires
 smaller-requires c κs = search needs
 
-loop-holds : tie.Need-loop-holds Inv-loop μ-loop
-loop-holds c = (omega arith, refl, copied-none)
+copy-front-requires : tie.Need-copy-front-requires
+copy-front-requires c κs = search needs
 
-shared-slice-read-dst : tie.Need-shared-slice-read-dst Inv-loop μ-loop
-shared-slice-read-dst c = search needs
-
-slice-write-dst : tie.Need-slice-write-dst Inv-loop μ-loop
-slice-write-dst c = search needs
-
-add-i : tie.Need-add-i Inv-loop μ-loop
-add-i c = search needs
-
-loop-less : tie.Need-loop-less Inv-loop μ-loop
-loop-less c = search needs
-
-loop-again : tie.Need-loop-again Inv-loop μ-loop
-loop-again c = (omega arith, simp length-set (c .before .before .loop .inv .1), copied-more (c .before .before .loop .inv .2) (omega arith) (omega arith))
-
-same-length : tie.Need-same-length Inv-loop μ-loop
+same-length : tie.Need-same-length
 same-length c = search needs
 
-returns : tie.Need-returns Inv-loop μ-loop
-returns c = copied-all (c .before .loop .inv .2) (omega arith)
+returns : tie.Need-returns
+returns c = copied-all (c .before .before .copy-front .ensures) (c .before .before .before .before .smaller .ensures)
 
 pub copy-spec : {M : Type 1} → statement M
-copy-spec =
-    tie.close
-    (tie.spec
-    Inv-loop
-    μ-loop
-    smaller-requires
-    loop-holds
-    shared-slice-read-dst
-    slice-write-dst
-    add-i
-    loop-less
-    loop-again
-    same-length
-    returns)
+copy-spec = tie.close (tie.spec smaller-requires copy-front-requires same-length returns)

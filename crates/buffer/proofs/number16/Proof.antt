@@ -1,5 +1,5 @@
 -- `buffer::number16`: the two bytes' bounds give the sum's.
-use Rattle.laws.specs.Bytes.{be16-past}
+use Rattle.laws.proofs.BytesLaws.{be16-past}
 use native.Mathlib.Omega.{arith}
 use mathlib.Core.Path.{sym}
 use Rattle.laws.specs.Bytes.{be16}

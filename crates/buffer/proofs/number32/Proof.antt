@@ -1,6 +1,7 @@
 -- `buffer::number32`: the four bytes' bounds give the sum's.
 use mathlib.Core.Path.{sym}
-use Rattle.laws.specs.Bytes.{be32, be32-past}
+use Rattle.laws.specs.Bytes.{be32}
+use Rattle.laws.proofs.BytesLaws.{be32-past}
 use native.Mathlib.Omega.{arith}
 use borrow.Author.Needs.{needs}
 use Rattle.buffer.proofs.number32.Statement.{statement}

@@ -4,7 +4,7 @@ use mathlib.Core.Path.{_≡_}
 use native.Mathlib.Omega.{arith}
 use lib.ListN.{length}
 use Rattle.changes.specs.Count.{Counted}
-use Rattle.changes.specs.CountLaws.{count-two, count-none, count-starts, count-then, all-kept, all-changed}
+use Rattle.changes.proofs.CountLaws.{count-two, count-none, count-starts, count-then, all-kept, all-changed}
 use borrow.Author.Needs.{needs}
 use Rattle.changes.proofs.count.Statement.{statement}
 use Rattle.changes.proofs.count.Tie as tie
@@ -86,23 +86,31 @@ shared-slice-read-if3-2 c = search needs
 
 returns-3 : tie.Need-returns-3 Inv-loop μ-loop
 returns-3 c =
+    let at-count-block = c .before .before .before .before .before in
     let b = c .before .before .before .before .before .before .before in
     let n = length (b .before .before .before .before .before .args .old .now) in
     let e : b .loop .at + (n - b .loop .at - 1) ≡ n - 1 = omega arith in
-    all-kept (rw e at (count-then (b .loop .inv .1) (c .before .before .before .before .before .count-block2 .ensures))) (b .before .before .if1 .left) (omega arith) (c .if3 .taken)
+    all-kept (rw e at (count-then (b .loop .inv .1) (at-count-block .count-block2 .ensures))) (b .before .before .if1 .left) (omega arith) (c .if3 .taken)
 
 add-t9 : tie.Need-add-t9 Inv-loop μ-loop
-add-t9 c = omega (arith, c .before .before .before .before .before .before .before .loop .inv .1 .few-runs, c .before .before .before .before .before .count-block2 .ensures .few-runs)
+add-t9 c =
+    let at-count-block = c .before .before .before .before .before in
+    let at-loop = at-count-block .before .before in
+    omega (arith, at-loop .loop .inv .1 .few-runs, at-count-block .count-block2 .ensures .few-runs)
 
 add-t13 : tie.Need-add-t13 Inv-loop μ-loop
-add-t13 c = omega (arith, c .before .before .before .before .before .before .before .loop .inv .1 .few-bytes, c .before .before .before .before .before .count-block2 .ensures .few-bytes)
+add-t13 c =
+    let at-count-block = c .before .before .before .before .before in
+    let at-loop = at-count-block .before .before in
+    omega (arith, at-loop .loop .inv .1 .few-bytes, at-count-block .count-block2 .ensures .few-bytes)
 
 returns-4 : tie.Need-returns-4 Inv-loop μ-loop
 returns-4 c =
+    let at-count-block = c .before .before .before .before .before in
     let b = c .before .before .before .before .before .before .before in
     let n = length (b .before .before .before .before .before .args .old .now) in
     let e : b .loop .at + (n - b .loop .at - 1) ≡ n - 1 = omega arith in
-    all-changed (rw e at (count-then (b .loop .inv .1) (c .before .before .before .before .before .count-block2 .ensures))) (b .before .before .if1 .left) (omega arith) (c .if3 .left)
+    all-changed (rw e at (count-then (b .loop .inv .1) (at-count-block .count-block2 .ensures))) (b .before .before .if1 .left) (omega arith) (c .if3 .left)
 
 pub count-spec : {M : Type 1} → statement M
 count-spec =

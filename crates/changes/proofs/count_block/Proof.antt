@@ -4,7 +4,7 @@ use mathlib.Core.Path.{_≡_}
 use native.Mathlib.Omega.{arith}
 use native.Mathlib.Nat.{add-zero, add-assoc}
 use Rattle.changes.specs.Count.{Counted}
-use Rattle.changes.specs.CountLaws.{byte-most, count-starts, count-then, count-byte}
+use Rattle.changes.proofs.CountLaws.{byte-most, count-starts, count-then, count-byte}
 use borrow.Author.Needs.{needs}
 use Rattle.changes.proofs.count_block.Statement.{statement}
 use Rattle.changes.proofs.count_block.Tie as tie
@@ -52,13 +52,17 @@ cast-ends : tie.Need-cast-ends Inv-loop μ-loop
 cast-ends c = search needs
 
 add-ends : tie.Need-add-ends Inv-loop μ-loop
-add-ends c = rw byte-most (omega (arith, c .before .before .before .before .before .loop .inv .1 .few-runs))
+add-ends c =
+    let at-loop = c .before .before .before .before .before in
+    rw byte-most (omega (arith, at-loop .loop .inv .1 .few-runs))
 
 cast-changed : tie.Need-cast-changed Inv-loop μ-loop
 cast-changed c = search needs
 
 add-changed : tie.Need-add-changed Inv-loop μ-loop
-add-changed c = rw byte-most (omega (arith, c .before .before .before .before .before .loop .inv .1 .few-bytes))
+add-changed c =
+    let at-loop = c .before .before .before .before .before in
+    rw byte-most (omega (arith, at-loop .loop .inv .1 .few-bytes))
 
 add-i : tie.Need-add-i Inv-loop μ-loop
 add-i c = search needs

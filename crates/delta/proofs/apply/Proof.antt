@@ -1,7 +1,7 @@
 -- `delta::apply`: a walk that only checks, and then the same walk that draws into a copy of the picture.
 use mathlib.Core.Path.{refl, sym, _∙_}
-use Rattle.laws.specs.Store.{over-whole}
-use Rattle.delta.specs.ApplyLaws.{plane-for, planes-for, applies-refused, applies-drawn}
+use Rattle.laws.proofs.StoreLaws.{over-whole}
+use Rattle.delta.proofs.ApplyLaws.{plane-for, planes-for, applies-refused, applies-drawn}
 use borrow.Author.Needs.{needs}
 use Rattle.delta.proofs.apply.Statement.{statement}
 use Rattle.delta.proofs.apply.Tie as tie
@@ -15,8 +15,8 @@ enum-known-checked c = search needs
 enum-known-checked-2 : tie.Need-enum-known-checked-2
 enum-known-checked-2 c = search needs
 
-copy-requires : tie.Need-copy-requires
-copy-requires c κs = search needs
+copy-long-requires : tie.Need-copy-long-requires
+copy-long-requires c κs = search needs
 
 shape-of-requires : tie.Need-shape-of-requires
 shape-of-requires c κs =
@@ -26,7 +26,7 @@ shape-of-requires c κs =
 take-delta-requires : tie.Need-take-delta-requires
 take-delta-requires c κs =
     let t = c .before .before .before .before .before .before .before in
-    planes-for (t .before .before .before .before .check .ensures) (t .checked2 .given .1) (c .shape-of .ensures) (c .before .before .before .before .copy .kept .0)
+    planes-for (t .before .before .before .before .check .ensures) (t .checked2 .given .1) (c .shape-of .ensures) (c .before .before .before .before .copy-long .kept .0)
 
 same-length : tie.Need-same-length
 same-length c = search needs
@@ -45,7 +45,7 @@ returns-2 c =
     let y = d .before .before .before .before in
     let t = y .before .before .before in
     let k = t .before .before .before .before in
-    applies-drawn refl (k .check .ensures) (t .checked2 .given .1) (d .shape-of .ensures) (λ _ n. y .copy .ensures ∙ over-whole _ _ (k .check .kept .0 ∙ sym n)) (c .before .before .take-delta .ensures)
+    applies-drawn refl (k .check .ensures) (t .checked2 .given .1) (d .shape-of .ensures) (λ _ n. y .copy-long .ensures ∙ over-whole _ _ (k .check .kept .0 ∙ sym n)) (c .before .before .take-delta .ensures)
 
 pub apply-spec : {M : Type 1} → statement M
 apply-spec =
@@ -54,7 +54,7 @@ apply-spec =
     check-requires
     enum-known-checked
     enum-known-checked-2
-    copy-requires
+    copy-long-requires
     shape-of-requires
     take-delta-requires
     same-length

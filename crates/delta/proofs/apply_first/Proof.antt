@@ -2,7 +2,7 @@
 use mathlib.Core.Path.{refl, sym, _∙_}
 use lib.ListN.{length-replicate}
 use Prim.Native.Nat.{ℕ}
-use Rattle.delta.specs.ApplyLaws.{plane-for, planes-for, applies-refused, applies-drawn}
+use Rattle.delta.proofs.ApplyLaws.{plane-for, planes-for, applies-refused, applies-drawn}
 use borrow.Author.Needs.{needs}
 use Rattle.delta.proofs.apply_first.Statement.{statement}
 use Rattle.delta.proofs.apply_first.Tie as tie

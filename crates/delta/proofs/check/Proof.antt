@@ -1,9 +1,9 @@
 -- `delta::check`: the checks of the sizes, the two lengths and the columns, in the definition's order; then a walk that only checks.
 use mathlib.Core.Path.{refl, sym, _∙_}
-use Rattle.laws.specs.ResultLaws.{told, told-false, told-true, each-is}
+use Rattle.laws.proofs.ResultLaws.{told, told-false, told-true, each-is}
 use Rattle.state.specs.State.{lengthOf}
-use Rattle.state.specs.StateLaws.{sizes-sound}
-use Rattle.delta.specs.ApplyLaws.{planes-sound, frame-limits, frame-picture, frame-work, frame-columns, frame-delta, check-stops, check-walked}
+use Rattle.state.proofs.StateLaws.{sizes-sound}
+use Rattle.delta.proofs.ApplyLaws.{planes-sound, frame-limits, frame-picture, frame-work, frame-columns, frame-delta, check-stops, check-walked}
 use borrow.Author.Needs.{needs}
 use Rattle.delta.proofs.check.Statement.{statement}
 use Rattle.delta.proofs.check.Tie as tie

@@ -3,10 +3,10 @@ use Prim.Native.Nat.{_+_, _-_, _*_, _≤_}
 use mathlib.Core.Path.{_≡_, refl, _∙_}
 use lib.ListN.{length}
 use Rattle.delta.specs.Column.{readColumns}
-use Rattle.delta.specs.DeltaLaws.{columns-more, columns-none}
-use Rattle.delta.specs.FillLaws.{columns-first, columns-next}
+use Rattle.delta.proofs.DeltaLaws.{columns-more, columns-none}
+use Rattle.delta.proofs.FillLaws.{columns-first, columns-next}
 use Rattle.delta.specs.Walk.{Columns, reading, Walked}
-use Rattle.delta.specs.WalkLaws.{walked-none, walked-more, walked-refused, walked-all, took-next, took-faulty, next-here, faulty-here}
+use Rattle.delta.proofs.WalkLaws.{walked-none, walked-more, walked-refused, walked-all, took-next, took-faulty, next-here, faulty-here}
 use borrow.Author.Needs.{needs}
 use native.Mathlib.Omega.{arith}
 use Rattle.delta.proofs.take_columns.Statement.{statement}

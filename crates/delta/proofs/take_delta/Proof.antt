@@ -4,9 +4,9 @@ use mathlib.Core.Path.{_≡_, refl, _∙_}
 use lib.ListN.{length}
 use Rattle.refusal.specs.declared.Refusal.the-variants.{BadPointer}
 use Rattle.delta.specs.Delta.{readPlanes, readPicture}
-use Rattle.delta.specs.DeltaLaws.{planes-more, planes-none, picture-short, picture-planes}
+use Rattle.delta.proofs.DeltaLaws.{planes-more, planes-none, picture-short, picture-planes}
 use Rattle.delta.specs.Walk.{top, reading, Walked}
-use Rattle.delta.specs.WalkLaws.{refused-here, walked-none, walked-more, walked-refused, walked-all, took-next, took-faulty, next-here, faulty-here}
+use Rattle.delta.proofs.WalkLaws.{refused-here, walked-none, walked-more, walked-refused, walked-all, took-next, took-faulty, next-here, faulty-here}
 use borrow.Author.Needs.{needs}
 use native.Mathlib.Omega.{arith}
 use Rattle.delta.proofs.take_delta.Statement.{statement}

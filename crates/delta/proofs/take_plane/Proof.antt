@@ -3,14 +3,14 @@ use Prim.Native.Nat.{_/_, _*_, _≤_}
 use native.Mathlib.Nat.{mul-le-mul-right}
 use mathlib.Core.Bool.{false}
 use mathlib.Core.Path.{_≡_, refl, sym, _∙_}
-use Rattle.laws.specs.ResultLaws.{told, each-is}
+use Rattle.laws.proofs.ResultLaws.{told, each-is}
 use Rattle.refusal.specs.declared.Refusal.the-variants.{BadPointer}
 use Rattle.delta.specs.Column.{readColumns}
 use Rattle.delta.specs.Words.{readWords}
-use Rattle.delta.specs.DeltaLaws.{plane-same, plane-bad, plane-bad-data, plane-columns, plane-words, pointer-most, data-pointer-most}
-use Rattle.delta.specs.FillLaws.{plane-inside, words-inside, columns-most}
+use Rattle.delta.proofs.DeltaLaws.{plane-same, plane-bad, plane-bad-data, plane-columns, plane-words, pointer-most, data-pointer-most}
+use Rattle.delta.proofs.FillLaws.{plane-inside, words-inside, columns-most}
 use Rattle.delta.specs.Walk.{pointerOf, reading}
-use Rattle.delta.specs.WalkLaws.{refused-here, next-here, walked-none, took-as}
+use Rattle.delta.proofs.WalkLaws.{refused-here, next-here, walked-none, took-as}
 use native.Mathlib.Omega.{arith}
 use borrow.Author.Needs.{needs}
 use Rattle.delta.proofs.take_plane.Statement.{statement}

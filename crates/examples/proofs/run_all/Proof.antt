@@ -29,10 +29,15 @@ run-requires : tie.Need-run-requires Inv-loop μ-loop
 run-requires c κs = search needs
 
 loop-less : tie.Need-loop-less Inv-loop μ-loop
-loop-less c = omega (arith, c .before .before .before .before .before .before .before .before .before .after .ensures (c .before .before .before .before .before .before .before .before .before .before .loop-test .taken))
+loop-less c =
+    let at-after = c .before .before .before .before .before .before .before .before .before in
+    let at-loop-test = at-after .before in
+    omega (arith, at-after .after .ensures (at-loop-test .loop-test .taken))
 
 loop-again : tie.Need-loop-again Inv-loop μ-loop
-loop-again c = (c .before .before .before .before .run .kept .1 .1 .0 ∙ c .before .before .before .before .before .before .before .before .before .before .before .loop .inv .0, c .before .before .before .before .run .kept .1 .1 .1 .0 ∙ c .before .before .before .before .before .before .before .before .before .before .before .loop .inv .1)
+loop-again c =
+    let at-loop = c .before .before .before .before .before .before .before .before .before .before .before in
+    (c .before .before .before .before .run .kept .1 .1 .0 ∙ at-loop .loop .inv .0, c .before .before .before .before .run .kept .1 .1 .1 .0 ∙ at-loop .loop .inv .1)
 
 same-length : tie.Need-same-length Inv-loop μ-loop
 same-length c = c .before .loop .inv .0

@@ -31,7 +31,10 @@ number32-requires-3 c κs = search needs
 
 returns-4 : tie.Need-returns-4
 unfolding animEnd
-returns-4 c = simp (le-leb _ _ (c .before .before .before .before .before .before .if1 .left), ← c .before .before .before .before .before .number32 .ensures .0, eq-eqb _ _ (c .before .before .before .before .if2 .left), ← c .before .before .before .number322 .ensures .0, eq-eqb _ _ (c .before .before .if3 .left), ← c .before .number323 .ensures .0, lt-leb _ _ (c .if4 .taken))
+returns-4 c =
+    let at-number = c .before .before .before .before .before in
+    let at-if = at-number .before in
+    simp (le-leb _ _ (at-if .if1 .left), ← at-number .number32 .ensures .0, eq-eqb _ _ (c .before .before .before .before .if2 .left), ← c .before .before .before .number322 .ensures .0, eq-eqb _ _ (c .before .before .if3 .left), ← c .before .number323 .ensures .0, lt-leb _ _ (c .if4 .taken))
 
 sub-if5 : tie.Need-sub-if5
 sub-if5 c = search needs
@@ -39,8 +42,12 @@ sub-if5 c = search needs
 returns-5 : tie.Need-returns-5
 unfolding animEnd
 returns-5 c =
-    let h : length (c .before .before .before .before .before .before .before .before .before .args .file .now) < c .before .before .number323 .result + 8 = omega arith in
-    simp (le-leb _ _ (c .before .before .before .before .before .before .before .if1 .left), ← c .before .before .before .before .before .before .number32 .ensures .0, eq-eqb _ _ (c .before .before .before .before .before .if2 .left), ← c .before .before .before .before .number322 .ensures .0, eq-eqb _ _ (c .before .before .before .if3 .left), ← c .before .before .number323 .ensures .0, le-leb _ _ (c .before .if4 .left), lt-leb _ _ h)
+    let at-if = c .before .before .before .before .before in
+    let at-number = at-if .before in
+    let at-if-2 = at-number .before in
+    let at-start = at-if-2 .before .before in
+    let h : length (at-start .args .file .now) < c .before .before .number323 .result + 8 = omega arith in
+    simp (le-leb _ _ (at-if-2 .if1 .left), ← at-number .number32 .ensures .0, eq-eqb _ _ (at-if .if2 .left), ← c .before .before .before .before .number322 .ensures .0, eq-eqb _ _ (c .before .before .before .if3 .left), ← c .before .before .number323 .ensures .0, le-leb _ _ (c .before .if4 .left), lt-leb _ _ h)
 
 add-t3 : tie.Need-add-t3
 add-t3 c = search needs
@@ -48,8 +55,12 @@ add-t3 c = search needs
 returns-6 : tie.Need-returns-6
 unfolding animEnd
 returns-6 c =
-    let h : c .before .before .number323 .result + 8 ≤ length (c .before .before .before .before .before .before .before .before .before .args .file .now) = omega arith in
-    simp (le-leb _ _ (c .before .before .before .before .before .before .before .if1 .left), ← c .before .before .before .before .before .before .number32 .ensures .0, eq-eqb _ _ (c .before .before .before .before .before .if2 .left), ← c .before .before .before .before .number322 .ensures .0, eq-eqb _ _ (c .before .before .before .if3 .left), ← c .before .before .number323 .ensures .0, le-leb _ _ (c .before .if4 .left), le-leb _ _ h)
+    let at-if = c .before .before .before .before .before in
+    let at-number = at-if .before in
+    let at-if-2 = at-number .before in
+    let at-start = at-if-2 .before .before in
+    let h : c .before .before .number323 .result + 8 ≤ length (at-start .args .file .now) = omega arith in
+    simp (le-leb _ _ (at-if-2 .if1 .left), ← at-number .number32 .ensures .0, eq-eqb _ _ (at-if .if2 .left), ← c .before .before .before .before .number322 .ensures .0, eq-eqb _ _ (c .before .before .before .if3 .left), ← c .before .before .number323 .ensures .0, le-leb _ _ (c .before .if4 .left), le-leb _ _ h)
 
 pub anim-end-spec : {M : Type 1} → statement M
 anim-end-spec =

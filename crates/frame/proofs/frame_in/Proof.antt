@@ -1,8 +1,12 @@
--- `frame::frame_in`: whether the two chunks of the FORM are there, then the header.
-use Rattle.frame.specs.FrameLaws.{in-broken, in-missing, in-unread, in-later}
-use Rattle.anhd.specs.Anhd.{anhdOf}
-use Rattle.iff.specs.Both.{bothOf}
-use Rattle.laws.specs.ResultLaws.{told}
+-- `frame::frame_in`: what the two searches find in the chunks of the FORM.
+use native.Mathlib.Nat.{add-sub-cancel-left}
+use native.Mathlib.Omega.{arith}
+use lib.ListN.{length-take, length-drop}
+use Rattle.laws.proofs.ResultLaws.{told, each-some}
+use Rattle.iff.specs.Chunk.{foundOf, Lies}
+use Rattle.iff.proofs.ChunkLaws.{find-lies}
+use Rattle.frame.specs.Frame.{frameIn}
+use Rattle.frame.proofs.FrameLaws.{in-with}
 use borrow.Author.Needs.{needs}
 use Rattle.frame.proofs.frame_in.Statement.{statement}
 use Rattle.frame.proofs.frame_in.Tie as tie
@@ -19,41 +23,81 @@ part-chunks-start c = search needs
 part-chunks-end : tie.Need-part-chunks-end
 part-chunks-end c = search needs
 
-has-both-requires : tie.Need-has-both-requires
-has-both-requires c κs = search needs
-
-enum-known-b : tie.Need-enum-known-b
-enum-known-b c = search needs
-
-enum-told : tie.Need-enum-told
-enum-told c = search needs
-
-enum-told-2 : tie.Need-enum-told-2
-enum-told-2 c = search needs
-
-contents-requires : tie.Need-contents-requires
-contents-requires c κs = search needs
-
-read-header-requires : tie.Need-read-header-requires
-read-header-requires c κs = search needs
+find-pair-requires : tie.Need-find-pair-requires
+find-pair-requires c κs = search needs
 
 enum-known-h : tie.Need-enum-known-h
 enum-known-h c = search needs
 
+enum-told : tie.Need-enum-told
+enum-told c = search needs
+
 enum-known-h-2 : tie.Need-enum-known-h-2
 enum-known-h-2 c = search needs
 
+enum-known-d : tie.Need-enum-known-d
+enum-known-d c = search needs
+
+enum-told-2 : tie.Need-enum-told-2
+enum-told-2 c = search needs
+
+enum-known-d-2 : tie.Need-enum-known-d-2
+enum-known-d-2 c = search needs
+
+add-stop : tie.Need-add-stop
+add-stop c =
+    let h = c .before .before .before .before in
+    omega (arith, each-some (told foundOf (h .before .before .find-pair .ensures .0) (h .h2 .given .1)) (find-lies _ _))
+
+sub-frame-with : tie.Need-sub-frame-with
+sub-frame-with c = search needs
+
+part-frame-with-start : tie.Need-part-frame-with-start
+part-frame-with-start c = search needs
+
+part-frame-with-end : tie.Need-part-frame-with-end
+part-frame-with-end c =
+    let h = c .before .before .before .before in
+    omega (arith, each-some (told foundOf (h .before .before .find-pair .ensures .0) (h .h2 .given .1)) (find-lies _ _))
+
+add-frame-with : tie.Need-add-frame-with
+add-frame-with c =
+    let h = c .before .before .before .before .before in
+    let l : Lies _ _ = each-some (told foundOf (h .before .before .find-pair .ensures .1) (c .before .before .d2 .given .1)) (find-lies _ _) in
+    omega (arith, simp (length-take, length-drop) at (l .ends))
+
+frame-with-requires : tie.Need-frame-with-requires
+frame-with-requires c κs = search needs
+
 returns : tie.Need-returns
-returns c = let k = c .before .before .before .before .before .before .args in in-broken (k .anim .now) (k .row) (k .start) (k .len) (k .next) (told bothOf (c .before .before .before .has-both .ensures) (c .before .b .given .1))
+unfolding frameIn
+returns c = rw (told foundOf (rw add-sub-cancel-left at (c .before .before .before .find-pair .ensures .0)) (c .before .h .given .1))
 
 returns-2 : tie.Need-returns-2
-returns-2 c = let k = c .before .before .before .before .before .args in in-missing (k .anim .now) (k .row) (k .start) (k .len) (k .next) (told bothOf (c .before .before .has-both .ensures) (c .enum-told .given .1))
+unfolding frameIn
+returns-2 c = rw (told foundOf (rw add-sub-cancel-left at (c .before .before .find-pair .ensures .0)) (c .enum-told .given .1))
 
 returns-3 : tie.Need-returns-3
-returns-3 c = let k = c .before .before .before .before .before .before .before .before .before .before .args in in-unread (k .anim .now) (k .row) (k .start) (k .len) (k .next) (told bothOf (c .before .before .before .before .before .before .before .has-both .ensures) (c .before .before .before .before .before .enum-told2 .given .1)) (c .before .before .before .before .contents .ensures) (told anhdOf (c .before .before .before .read-header .ensures) (c .before .h .given .1))
+unfolding frameIn
+returns-3 c =
+    let h = c .before .before .before .before in
+    let f = h .before .before .find-pair .ensures in
+    rw (told foundOf (rw add-sub-cancel-left at (f .0)) (h .h2 .given .1)) (rw (told foundOf (rw add-sub-cancel-left at (f .1)) (c .before .d .given .1)))
 
 returns-4 : tie.Need-returns-4
-returns-4 c = let k = c .before .before .before .before .before .before .before .before .before .before .args in in-later (k .anim .now) (k .row) (k .start) (k .len) (k .next) (told bothOf (c .before .before .before .before .before .before .before .has-both .ensures) (c .before .before .before .before .before .enum-told2 .given .1)) (c .before .before .before .before .contents .ensures) (told anhdOf (c .before .before .before .read-header .ensures) (c .before .h2 .given .1))
+unfolding frameIn
+returns-4 c =
+    let h = c .before .before .before in
+    let f = h .before .before .find-pair .ensures in
+    rw (told foundOf (rw add-sub-cancel-left at (f .0)) (h .h2 .given .1)) (rw (told foundOf (rw add-sub-cancel-left at (f .1)) (c .enum-told2 .given .1)))
+
+returns-5 : tie.Need-returns-5
+returns-5 c =
+    let h = c .before .before .before .before .before .before in
+    let f = h .before .before .find-pair .ensures in
+    let k = h .before .before .before .before .before .args in
+    in-with (k .anim .now) (k .row) (record { start = k .start; size = k .len; next = k .next }) (told foundOf (rw add-sub-cancel-left at (f .0)) (h .h2 .given .1))
+    (told foundOf (rw add-sub-cancel-left at (f .1)) (c .before .before .before .d2 .given .1)) (simp add-sub-cancel-left at (c .frame-with .ensures (k .anim .now)))
 
 pub frame-in-spec : {M : Type 1} → statement M
 frame-in-spec =
@@ -63,15 +107,21 @@ frame-in-spec =
     sub-chunks
     part-chunks-start
     part-chunks-end
-    has-both-requires
-    enum-known-b
-    enum-told
-    enum-told-2
-    contents-requires
-    read-header-requires
+    find-pair-requires
     enum-known-h
+    enum-told
     enum-known-h-2
+    enum-known-d
+    enum-told-2
+    enum-known-d-2
+    add-stop
+    sub-frame-with
+    part-frame-with-start
+    part-frame-with-end
+    add-frame-with
+    frame-with-requires
     returns
     returns-2
     returns-3
-    returns-4)
+    returns-4
+    returns-5)

@@ -39,8 +39,9 @@ sub-if3-2 c = search needs
 returns-3 : tie.Need-returns-3
 unfolding chunkAt
 returns-3 c =
-    let h : c .before .before .before .before .before .args .at + 8 ≤ length (c .before .before .before .before .before .args .s .now) = omega arith in
-    let k : length (c .before .before .before .before .before .args .s .now) < c .before .before .before .before .before .args .at + 8 + padded (c .before .number32 .result) = omega arith in
+    let at-start = c .before .before .before .before .before in
+    let h : at-start .args .at + 8 ≤ length (at-start .args .s .now) = omega arith in
+    let k : length (at-start .args .s .now) < at-start .args .at + 8 + padded (c .before .number32 .result) = omega arith in
     simp (← c .before .number32 .ensures .0, lt-leb _ _ (c .before .before .before .if1 .left), le-leb _ _ h, lt-leb _ _ k)
 
 number32-requires-2 : tie.Need-number32-requires-2
@@ -58,8 +59,9 @@ add-t11 c = search needs
 returns-4 : tie.Need-returns-4
 unfolding chunkAt
 returns-4 c =
-    let h : c .before .before .before .before .before .before .args .at + 8 ≤ length (c .before .before .before .before .before .before .args .s .now) = omega arith in
-    let k : c .before .before .before .before .before .before .args .at + 8 + padded (c .before .before .number32 .result) ≤ length (c .before .before .before .before .before .before .args .s .now) = omega arith in
+    let at-start = c .before .before .before .before .before .before in
+    let h : at-start .args .at + 8 ≤ length (at-start .args .s .now) = omega arith in
+    let k : at-start .args .at + 8 + padded (c .before .before .number32 .result) ≤ length (at-start .args .s .now) = omega arith in
     simp (← c .before .before .number32 .ensures .0, ← c .number322 .ensures .0, lt-leb _ _ (c .before .before .before .before .if1 .left), le-leb _ _ h, le-leb _ _ k)
 
 pub chunk-at-spec : {M : Type 1} → statement M

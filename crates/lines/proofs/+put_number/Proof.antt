@@ -1,6 +1,6 @@
 -- `lines::put_number`: the digits before the last one, then that one. The measure is the number.
 use native.Mathlib.Omega.{arith}
-use Rattle.lines.specs.TextLaws.{adds-room, adds-then, adds-as, decimal-digit, decimal-more}
+use Rattle.lines.proofs.TextLaws.{adds-room, adds-then, adds-as, decimal-digit, decimal-more}
 use borrow.Author.Needs.{needs}
 use Prim.Native.Nat.{ℕ, _<_}
 use borrow.Fn.Kinds.{In}

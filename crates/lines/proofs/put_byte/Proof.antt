@@ -1,5 +1,5 @@
 -- `lines::put_byte`: a byte where there is room for it.
-use Rattle.lines.specs.TextLaws.{adds-byte, adds-nothing}
+use Rattle.lines.proofs.TextLaws.{adds-byte, adds-nothing}
 use borrow.Author.Needs.{needs}
 use Rattle.lines.proofs.put_byte.Statement.{statement}
 use Rattle.lines.proofs.put_byte.Tie as tie

@@ -1,5 +1,5 @@
 -- `lines::put_field`: a text, then a number.
-use Rattle.lines.specs.TextLaws.{adds-then}
+use Rattle.lines.proofs.TextLaws.{adds-then}
 use borrow.Author.Needs.{needs}
 use Rattle.lines.proofs.put_field.Statement.{statement}
 use Rattle.lines.proofs.put_field.Tie as tie
@@ -14,7 +14,9 @@ same-length : tie.Need-same-length
 same-length c = search needs
 
 returns : tie.Need-returns
-returns c = adds-then (c .before .before .before .before .before .before .put-text .ensures) (c .before .before .put-number .ensures)
+returns c =
+    let at-put-text = c .before .before .before .before .before .before in
+    adds-then (at-put-text .put-text .ensures) (c .before .before .put-number .ensures)
 
 pub put-field-spec : {M : Type 1} → statement M
 put-field-spec = tie.close (tie.spec put-text-requires put-number-requires same-length returns)

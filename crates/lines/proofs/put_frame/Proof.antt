@@ -1,6 +1,6 @@
 -- `lines::put_frame`: five words and numbers, then the line's end.
 use Rattle.lines.specs.Lines.{frameLine}
-use Rattle.lines.specs.TextLaws.{adds-then}
+use Rattle.lines.proofs.TextLaws.{adds-then}
 use borrow.Author.Needs.{needs}
 use Rattle.lines.proofs.put_frame.Statement.{statement}
 use Rattle.lines.proofs.put_frame.Tie as tie
@@ -43,7 +43,13 @@ same-length c = search needs
 
 returns : tie.Need-returns
 unfolding frameLine
-returns c = adds-then (adds-then (adds-then (adds-then (adds-then (c .before .before .before .before .before .before .before .before .before .before .before .before .before .before .before .before .before .before .before .before .before .before .before .before .before .before .put-field .ensures) (c .before .before .before .before .before .before .before .before .before .before .before .before .before .before .before .before .before .before .before .before .before .put-field2 .ensures)) (c .before .before .before .before .before .before .before .before .before .before .before .before .before .before .before .before .put-field3 .ensures)) (c .before .before .before .before .before .before .before .before .before .before .before .put-field4 .ensures)) (c .before .before .before .before .before .before .put-field5 .ensures)) (c .before .before .put-byte .ensures)
+returns c =
+    let at-put-field = c .before .before .before .before .before .before in
+    let at-put-field-2 = at-put-field .before .before .before .before .before in
+    let at-put-field-3 = at-put-field-2 .before .before .before .before .before in
+    let at-put-field-4 = at-put-field-3 .before .before .before .before .before in
+    let at-put-field-5 = at-put-field-4 .before .before .before .before .before in
+    adds-then (adds-then (adds-then (adds-then (adds-then (at-put-field-5 .put-field .ensures) (at-put-field-4 .put-field2 .ensures)) (at-put-field-3 .put-field3 .ensures)) (at-put-field-2 .put-field4 .ensures)) (at-put-field .put-field5 .ensures)) (c .before .before .put-byte .ensures)
 
 pub put-frame-spec : {M : Type 1} → statement M
 put-frame-spec =

@@ -1,5 +1,5 @@
 -- `lines::put_last`: a word and a number, then the line's end.
-use Rattle.lines.specs.TextLaws.{adds-then}
+use Rattle.lines.proofs.TextLaws.{adds-then}
 use borrow.Author.Needs.{needs}
 use Rattle.lines.proofs.put_last.Statement.{statement}
 use Rattle.lines.proofs.put_last.Tie as tie
@@ -14,7 +14,9 @@ same-length : tie.Need-same-length
 same-length c = search needs
 
 returns : tie.Need-returns
-returns c = adds-then (c .before .before .before .before .before .before .put-field .ensures) (c .before .before .put-byte .ensures)
+returns c =
+    let at-put-field = c .before .before .before .before .before .before in
+    adds-then (at-put-field .put-field .ensures) (c .before .before .put-byte .ensures)
 
 pub put-last-spec : {M : Type 1} → statement M
 put-last-spec =

@@ -1,6 +1,6 @@
 -- `lines::put_line`: a place past the end, then the line by its case.
 use Rattle.lines.specs.Lines.{endLine, refusedLine}
-use Rattle.lines.specs.TextLaws.{adds-within, adds-past}
+use Rattle.lines.proofs.TextLaws.{adds-within, adds-past}
 use borrow.Author.Needs.{needs}
 use Rattle.lines.proofs.put_line.Statement.{statement}
 use Rattle.lines.proofs.put_line.Tie as tie
@@ -54,33 +54,49 @@ same-length : tie.Need-same-length
 same-length c = search needs
 
 returns-2 : tie.Need-returns-2
-returns-2 c = rw (c .before .before .before .before .before .enum-told .given .1) (adds-within (c .before .before .before .before .before .before .before .if1 .left) (c .before .before .put-text .ensures))
+returns-2 c =
+    let at-enum-told = c .before .before .before .before .before in
+    let at-if = at-enum-told .before .before in
+    rw (at-enum-told .enum-told .given .1) (adds-within (at-if .if1 .left) (c .before .before .put-text .ensures))
 
 same-length-2 : tie.Need-same-length-2
 same-length-2 c = search needs
 
 returns-3 : tie.Need-returns-3
-returns-3 c = rw (c .before .before .before .before .before .line .given .1) (adds-within (c .before .before .before .before .before .before .before .if1 .left) (c .before .before .put-picture .ensures))
+returns-3 c =
+    let at-line = c .before .before .before .before .before in
+    let at-if = at-line .before .before in
+    rw (at-line .line .given .1) (adds-within (at-if .if1 .left) (c .before .before .put-picture .ensures))
 
 same-length-3 : tie.Need-same-length-3
 same-length-3 c = search needs
 
 returns-4 : tie.Need-returns-4
-returns-4 c = rw (c .before .before .before .before .before .line2 .given .1) (adds-within (c .before .before .before .before .before .before .before .if1 .left) (c .before .before .put-frame .ensures))
+returns-4 c =
+    let at-line = c .before .before .before .before .before in
+    let at-if = at-line .before .before in
+    rw (at-line .line2 .given .1) (adds-within (at-if .if1 .left) (c .before .before .put-frame .ensures))
 
 same-length-4 : tie.Need-same-length-4
 same-length-4 c = search needs
 
 returns-5 : tie.Need-returns-5
 unfolding endLine
-returns-5 c = rw (c .before .before .before .before .before .before .line3 .given .1) (adds-within (c .before .before .before .before .before .before .before .before .if1 .left) (c .before .before .put-last .ensures))
+returns-5 c =
+    let at-line = c .before .before .before .before .before .before in
+    let at-if = at-line .before .before in
+    rw (at-line .line3 .given .1) (adds-within (at-if .if1 .left) (c .before .before .put-last .ensures))
 
 same-length-5 : tie.Need-same-length-5
 same-length-5 c = search needs
 
 returns-6 : tie.Need-returns-6
 unfolding refusedLine
-returns-6 c = rw (c .before .before .before .before .before .before .before .line4 .given .1) (adds-within (c .before .before .before .before .before .before .before .before .before .if1 .left) (rw (c .before .before .before .before .before .number .ensures) at (c .before .before .put-last2 .ensures)))
+returns-6 c =
+    let at-number = c .before .before .before .before .before in
+    let at-line = at-number .before .before in
+    let at-if = at-line .before .before in
+    rw (at-line .line4 .given .1) (adds-within (at-if .if1 .left) (rw (at-number .number .ensures) at (c .before .before .put-last2 .ensures)))
 
 pub put-line-spec : {M : Type 1} → statement M
 put-line-spec =

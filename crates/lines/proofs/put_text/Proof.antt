@@ -1,7 +1,7 @@
 -- `lines::put_text`: a copy to the rest of the buffer.
 use mathlib.Core.Path.{refl}
 use native.Mathlib.Omega.{arith}
-use Rattle.lines.specs.TextLaws.{adds-text}
+use Rattle.lines.proofs.TextLaws.{adds-text}
 use borrow.Author.Needs.{needs}
 use Rattle.lines.proofs.put_text.Statement.{statement}
 use Rattle.lines.proofs.put_text.Tie as tie
@@ -25,7 +25,9 @@ same-length : tie.Need-same-length
 same-length c = search needs
 
 returns : tie.Need-returns
-returns c = adds-text _ _ _ _ (c .before .before .before .before .before .before .before .pre) refl (c .before .before .before .copy .ensures) (omega arith)
+returns c =
+    let at-start = c .before .before .before .before .before .before .before in
+    adds-text _ _ _ _ (at-start .pre) refl (c .before .before .before .copy .ensures) (omega arith)
 
 add-result : tie.Need-add-result
 add-result c = search needs
@@ -34,7 +36,9 @@ same-length-2 : tie.Need-same-length-2
 same-length-2 c = search needs
 
 returns-2 : tie.Need-returns-2
-returns-2 c = adds-text _ _ _ _ (c .before .before .before .before .before .before .before .pre) refl (c .before .before .before .copy .ensures) (omega arith)
+returns-2 c =
+    let at-start = c .before .before .before .before .before .before .before in
+    adds-text _ _ _ _ (at-start .pre) refl (c .before .before .before .copy .ensures) (omega arith)
 
 pub put-text-spec : {M : Type 1} → statement M
 put-text-spec =

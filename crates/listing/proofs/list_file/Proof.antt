@@ -1,7 +1,7 @@
 -- `listing::list_file`: the file's plan, then its line or its frames.
-use Rattle.laws.specs.ResultLaws.{told}
+use Rattle.laws.proofs.ResultLaws.{told}
 use Rattle.listing.specs.Listing.{planOf}
-use Rattle.listing.specs.FileLaws.{lists-single, lists-pictures, pictures-fit, holds-less}
+use Rattle.listing.proofs.FileLaws.{lists-single, lists-pictures, pictures-fit, holds-less}
 use borrow.Author.Needs.{needs}
 use Rattle.listing.proofs.list_file.Statement.{statement}
 use Rattle.listing.proofs.list_file.Tie as tie
@@ -19,31 +19,52 @@ enum-known-p-2 : tie.Need-enum-known-p-2
 enum-known-p-2 c = search needs
 
 list-front-requires : tie.Need-list-front-requires
-list-front-requires c κs = holds-less (pictures-fit _ (told planOf (c .before .before .before .before .before .before .before .before .plan-for .ensures) (c .before .before .before .before .before .before .p2 .given .1))) (c .before .before .before .before .before .before .before .before .before .before .before .before .before .before .before .pre)
+list-front-requires c κs =
+    let at-p = c .before .before .before .before .before .before in
+    let at-plan-for = at-p .before .before in
+    let at-start = at-plan-for .before .before .before .before .before .before .before in
+    holds-less (pictures-fit _ (told planOf (at-plan-for .plan-for .ensures) (at-p .p2 .given .1))) (at-start .pre)
 
 same-length : tie.Need-same-length
 same-length c = c .before .before .put-line .kept .0
 
 returns : tie.Need-returns
-returns c = lists-single _ _ _ _ _ (told planOf (c .before .before .before .before .before .before .before .plan-for .ensures) (c .before .before .before .before .before .p .given .1)) (c .before .before .put-line .ensures)
+returns c =
+    let at-p = c .before .before .before .before .before in
+    let at-plan-for = at-p .before .before in
+    lists-single _ _ (told planOf (at-plan-for .plan-for .ensures) (at-p .p .given .1)) (c .before .before .put-line .ensures)
 
 same-length-2 : tie.Need-same-length-2
-same-length-2 c = c .before .before .before .before .before .before .before .before .before .before .list-front .kept .1 .1 .0
+same-length-2 c =
+    let at-list-front = c .before .before .before .before .before .before .before .before .before .before in
+    at-list-front .list-front .kept .1 .1 .0
 
 same-length-3 : tie.Need-same-length-3
-same-length-3 c = c .before .before .before .before .before .before .before .before .before .before .list-front .kept .1 .1 .1 .0
+same-length-3 c =
+    let at-list-front = c .before .before .before .before .before .before .before .before .before .before in
+    at-list-front .list-front .kept .1 .1 .1 .0
 
 same-length-4 : tie.Need-same-length-4
-same-length-4 c = c .before .before .before .before .before .before .before .before .before .before .list-front .kept .1 .1 .1 .1 .0
+same-length-4 c =
+    let at-list-front = c .before .before .before .before .before .before .before .before .before .before in
+    at-list-front .list-front .kept .1 .1 .1 .1 .0
 
 same-length-5 : tie.Need-same-length-5
-same-length-5 c = c .before .before .before .before .before .before .before .before .before .before .list-front .kept .1 .1 .1 .1 .1 .0
+same-length-5 c =
+    let at-list-front = c .before .before .before .before .before .before .before .before .before .before in
+    at-list-front .list-front .kept .1 .1 .1 .1 .1 .0
 
 same-length-6 : tie.Need-same-length-6
-same-length-6 c = c .before .before .before .before .before .before .before .before .before .before .list-front .kept .1 .1 .1 .1 .1 .1 .0
+same-length-6 c =
+    let at-list-front = c .before .before .before .before .before .before .before .before .before .before in
+    at-list-front .list-front .kept .1 .1 .1 .1 .1 .1 .0
 
 returns-2 : tie.Need-returns-2
-returns-2 c = lists-pictures _ _ (told planOf (c .before .before .before .before .before .before .before .before .before .before .before .before .before .before .before .before .before .before .before .plan-for .ensures) (c .before .before .before .before .before .before .before .before .before .before .before .before .before .before .before .before .before .p2 .given .1)) (c .before .before .before .before .before .before .before .before .before .before .list-front .ensures)
+returns-2 c =
+    let at-list-front = c .before .before .before .before .before .before .before .before .before .before in
+    let at-p = at-list-front .before .before .before .before .before .before .before in
+    let at-plan-for = at-p .before .before in
+    lists-pictures _ _ (told planOf (at-plan-for .plan-for .ensures) (at-p .p2 .given .1)) (at-list-front .list-front .ensures)
 
 pub list-file-spec : {M : Type 1} → statement M
 list-file-spec =

@@ -1,5 +1,5 @@
 -- `listing::list_film`: an opening, then its frames.
-use Rattle.listing.specs.FileLaws.{opens-refused, opens-opened}
+use Rattle.listing.proofs.FileLaws.{film-refused, film-opened}
 use Rattle.opening.specs.Open.{openingOf}
 use mathlib.Core.Path.{ap}
 use borrow.Author.Needs.{needs}
@@ -31,7 +31,10 @@ same-length-3 : tie.Need-same-length-3
 same-length-3 c = search needs
 
 returns : tie.Need-returns
-returns c = opens-refused _ _ _ _ _ (c .before .before .before .before .before .before .before .before .before .before .before .before .«open» .ensures) (ap openingOf (c .before .before .before .before .before .answer .given .1)) (c .before .before .put-line .ensures)
+returns c =
+    let at-answer = c .before .before .before .before .before in
+    let at-open = at-answer .before .before .before .before .before .before .before in
+    film-refused _ _ (at-open .«open» .ensures) (ap openingOf (at-answer .answer .given .1)) (c .before .before .put-line .ensures)
 
 same-length-4 : tie.Need-same-length-4
 same-length-4 c = search needs
@@ -49,7 +52,11 @@ same-length-8 : tie.Need-same-length-8
 same-length-8 c = search needs
 
 returns-2 : tie.Need-returns-2
-returns-2 c = opens-opened _ _ _ _ _ (c .before .before .before .before .before .before .before .before .before .before .before .before .before .before .before .before .before .before .before .before .before .before .before .«open» .ensures) (ap openingOf (c .before .before .before .before .before .before .before .before .before .before .before .before .before .before .before .before .enum-told .given .1)) (c .before .before .before .before .before .before .before .before .before .before .list-frames .ensures)
+returns-2 c =
+    let at-list-frames = c .before .before .before .before .before .before .before .before .before .before in
+    let at-enum-told = at-list-frames .before .before .before .before .before .before in
+    let at-open = at-enum-told .before .before .before .before .before .before .before in
+    film-opened _ _ (at-open .«open» .ensures) (ap openingOf (at-enum-told .enum-told .given .1)) (at-list-frames .list-frames .ensures)
 
 pub list-film-spec : {M : Type 1} → statement M
 list-film-spec =

@@ -1,7 +1,8 @@
 -- `listing::list_frames`: each turn steps on and adds the line of what was answered.
 use borrow.Author.Needs.{needs}
 use borrow.Author.Tests.{not-true, not-false}
-use Rattle.listing.specs.ListLaws.{Showing, showing-starts, showing-size, showing-stops, showing-less, showing-turns}
+use Rattle.state.specs.After.{lent}
+use Rattle.listing.proofs.ListLaws.{Showing, showing-starts, showing-size, showing-stops, showing-less, showing-turns}
 use Rattle.lines.specs.Lines.{pictureLine, Adds}
 use lib.ListN.{length}
 use mathlib.Core.Path.{_∙_}
@@ -13,7 +14,7 @@ use Rattle.listing.proofs.list_frames.Tie as tie
 abbrev Inv-loop : tie.InvT-loop
 Inv-loop file a₀ b₀ work₀ rec₀ out₀ state₀ at₀ a b work rec out state at =
     (o : List ℕ) → Adds o (min 0 (length o)) (pictureLine (state₀ .sizes)) out₀ at₀
-    → Showing file (length work₀) (length rec₀) (record { world = record { a = a₀; b = b₀; state = state₀ }; work = work₀; rec = rec₀; text = pictureLine (state₀ .sizes) }) o a b work rec out state at
+    → Showing file (length work₀) (length rec₀) (record { lent = lent a₀ b₀ state₀ work₀ rec₀; text = pictureLine (state₀ .sizes) }) o a b work rec out state at
 
 abbrev μ-loop : tie.MeasureT-loop
 μ-loop file a₀ b₀ work₀ rec₀ out₀ state₀ at₀ a b work rec out state at = length file - state .next
@@ -37,28 +38,72 @@ taken-requires : tie.Need-taken-requires Inv-loop μ-loop
 taken-requires c κs = search needs
 
 same-length : tie.Need-same-length Inv-loop μ-loop
-same-length c = c .before .before .before .before .before .before .before .before .before .before .before .before .before .before .before .step-on .kept .1 .1 .0 ∙ (c .before .before .before .before .before .before .before .before .before .before .before .before .before .before .before .before .before .before .before .before .loop .inv) (c .before .before .before .before .before .before .before .before .before .before .before .before .before .before .before .before .before .before .before .before .before .before .before .before .before .before .before .before .before .before .before .before .args .out .now) (c .before .before .before .before .before .before .before .before .before .before .before .before .before .before .before .before .before .before .before .before .before .before .before .put-line .ensures) .left
+same-length c =
+    let at-step-on = c .before .before .before .before .before .before .before .before .before .before .before .before .before .before .before in
+    let at-loop = at-step-on .before .before .before .before .before in
+    let at-put-line = at-loop .before .before .before in
+    let at-start = at-put-line .before .before .before .before .before .before .before .before .before in
+    at-step-on .step-on .kept .1 .1 .0 ∙ (at-loop .loop .inv) (at-start .args .out .now) (at-put-line .put-line .ensures) .left
 
 same-length-2 : tie.Need-same-length-2 Inv-loop μ-loop
-same-length-2 c = c .before .before .before .before .before .before .before .before .before .before .before .before .before .before .before .step-on .kept .1 .1 .1 .0 ∙ (c .before .before .before .before .before .before .before .before .before .before .before .before .before .before .before .before .before .before .before .before .loop .inv) (c .before .before .before .before .before .before .before .before .before .before .before .before .before .before .before .before .before .before .before .before .before .before .before .before .before .before .before .before .before .before .before .before .args .out .now) (c .before .before .before .before .before .before .before .before .before .before .before .before .before .before .before .before .before .before .before .before .before .before .before .put-line .ensures) .right
+same-length-2 c =
+    let at-step-on = c .before .before .before .before .before .before .before .before .before .before .before .before .before .before .before in
+    let at-loop = at-step-on .before .before .before .before .before in
+    let at-put-line = at-loop .before .before .before in
+    let at-start = at-put-line .before .before .before .before .before .before .before .before .before in
+    at-step-on .step-on .kept .1 .1 .1 .0 ∙ (at-loop .loop .inv) (at-start .args .out .now) (at-put-line .put-line .ensures) .right
 
 same-length-3 : tie.Need-same-length-3 Inv-loop μ-loop
-same-length-3 c = c .before .before .before .before .before .before .before .before .before .before .before .before .before .before .before .step-on .kept .1 .1 .1 .1 .0 ∙ (c .before .before .before .before .before .before .before .before .before .before .before .before .before .before .before .before .before .before .before .before .loop .inv) (c .before .before .before .before .before .before .before .before .before .before .before .before .before .before .before .before .before .before .before .before .before .before .before .before .before .before .before .before .before .before .before .before .args .out .now) (c .before .before .before .before .before .before .before .before .before .before .before .before .before .before .before .before .before .before .before .before .before .before .before .put-line .ensures) .drawn
+same-length-3 c =
+    let at-step-on = c .before .before .before .before .before .before .before .before .before .before .before .before .before .before .before in
+    let at-loop = at-step-on .before .before .before .before .before in
+    let at-put-line = at-loop .before .before .before in
+    let at-start = at-put-line .before .before .before .before .before .before .before .before .before in
+    at-step-on .step-on .kept .1 .1 .1 .1 .0 ∙ (at-loop .loop .inv) (at-start .args .out .now) (at-put-line .put-line .ensures) .drawn
 
 same-length-4 : tie.Need-same-length-4 Inv-loop μ-loop
-same-length-4 c = c .before .before .before .before .before .before .before .before .before .before .before .before .before .before .before .step-on .kept .1 .1 .1 .1 .1 .0 ∙ (c .before .before .before .before .before .before .before .before .before .before .before .before .before .before .before .before .before .before .before .before .loop .inv) (c .before .before .before .before .before .before .before .before .before .before .before .before .before .before .before .before .before .before .before .before .before .before .before .before .before .before .before .before .before .before .before .before .args .out .now) (c .before .before .before .before .before .before .before .before .before .before .before .before .before .before .before .before .before .before .before .before .before .before .before .put-line .ensures) .written
+same-length-4 c =
+    let at-step-on = c .before .before .before .before .before .before .before .before .before .before .before .before .before .before .before in
+    let at-loop = at-step-on .before .before .before .before .before in
+    let at-put-line = at-loop .before .before .before in
+    let at-start = at-put-line .before .before .before .before .before .before .before .before .before in
+    at-step-on .step-on .kept .1 .1 .1 .1 .1 .0 ∙ (at-loop .loop .inv) (at-start .args .out .now) (at-put-line .put-line .ensures) .written
 
 same-length-5 : tie.Need-same-length-5 Inv-loop μ-loop
-same-length-5 c = showing-size ((c .before .before .before .before .before .before .before .before .before .before .before .before .before .before .before .before .before .before .before .before .loop .inv) (c .before .before .before .before .before .before .before .before .before .before .before .before .before .before .before .before .before .before .before .before .before .before .before .before .before .before .before .before .before .before .before .before .args .out .now) (c .before .before .before .before .before .before .before .before .before .before .before .before .before .before .before .before .before .before .before .before .before .before .before .put-line .ensures)) (c .before .before .before .before .before .before .before .before .before .before .before .before .before .before .before .step-on .ensures) (c .before .before .before .before .before .step-line .ensures) (c .before .before .before .before .put-line2 .ensures)
+same-length-5 c =
+    let at-step-line = c .before .before .before .before .before in
+    let at-step-on = at-step-line .before .before .before .before .before .before .before .before .before .before in
+    let at-loop = at-step-on .before .before .before .before .before in
+    let at-put-line = at-loop .before .before .before in
+    let at-start = at-put-line .before .before .before .before .before .before .before .before .before in
+    showing-size ((at-loop .loop .inv) (at-start .args .out .now) (at-put-line .put-line .ensures)) (at-step-on .step-on .ensures) (at-step-line .step-line .ensures) (c .before .before .before .before .put-line2 .ensures)
 
 returns : tie.Need-returns Inv-loop μ-loop
-returns c = showing-stops ((c .before .before .before .before .before .before .before .before .before .before .before .before .before .before .before .before .before .before .before .before .loop .inv) (c .before .before .before .before .before .before .before .before .before .before .before .before .before .before .before .before .before .before .before .before .before .before .before .before .before .before .before .before .before .before .before .before .args .out .now) (c .before .before .before .before .before .before .before .before .before .before .before .before .before .before .before .before .before .before .before .before .before .before .before .put-line .ensures)) (c .before .before .before .before .before .before .before .before .before .before .before .before .before .before .before .step-on .ensures) (c .before .before .before .before .before .step-line .ensures) (c .before .before .before .before .put-line2 .ensures) (c .before .taken .ensures) (not-true _ (c .if1 .taken))
+returns c =
+    let at-step-line = c .before .before .before .before .before in
+    let at-step-on = at-step-line .before .before .before .before .before .before .before .before .before .before in
+    let at-loop = at-step-on .before .before .before .before .before in
+    let at-put-line = at-loop .before .before .before in
+    let at-start = at-put-line .before .before .before .before .before .before .before .before .before in
+    showing-stops ((at-loop .loop .inv) (at-start .args .out .now) (at-put-line .put-line .ensures)) (at-step-on .step-on .ensures) (at-step-line .step-line .ensures) (c .before .before .before .before .put-line2 .ensures) (c .before .taken .ensures) (not-true _ (c .if1 .taken))
 
 loop-less : tie.Need-loop-less Inv-loop μ-loop
-loop-less c = showing-less ((c .before .before .before .before .before .before .before .before .before .before .before .before .before .before .before .before .before .before .before .before .before .loop .inv) (c .before .before .before .before .before .before .before .before .before .before .before .before .before .before .before .before .before .before .before .before .before .before .before .before .before .before .before .before .before .before .before .before .before .args .out .now) (c .before .before .before .before .before .before .before .before .before .before .before .before .before .before .before .before .before .before .before .before .before .before .before .before .put-line .ensures)) (c .before .before .before .before .before .before .before .before .before .before .before .before .before .before .before .before .step-on .ensures) (c .before .before .before .before .before .before .step-line .ensures) (c .before .before .before .before .before .put-line2 .ensures) (c .before .before .taken .ensures) (not-false _ (c .before .if1 .left))
+loop-less c =
+    let at-put-line = c .before .before .before .before .before in
+    let at-step-line = at-put-line .before in
+    let at-step-on = at-step-line .before .before .before .before .before .before .before .before .before .before in
+    let at-loop = at-step-on .before .before .before .before .before in
+    let at-put-line-2 = at-loop .before .before .before in
+    let at-start = at-put-line-2 .before .before .before .before .before .before .before .before .before in
+    showing-less ((at-loop .loop .inv) (at-start .args .out .now) (at-put-line-2 .put-line .ensures)) (at-step-on .step-on .ensures) (at-step-line .step-line .ensures) (at-put-line .put-line2 .ensures) (c .before .before .taken .ensures) (not-false _ (c .before .if1 .left))
 
 loop-again : tie.Need-loop-again Inv-loop μ-loop
-loop-again c = λ o h. showing-turns ((c .before .before .before .before .before .before .before .before .before .before .before .before .before .before .before .before .before .before .before .before .before .loop .inv) o h) (c .before .before .before .before .before .before .before .before .before .before .before .before .before .before .before .before .step-on .ensures) (c .before .before .before .before .before .before .step-line .ensures) (c .before .before .before .before .before .put-line2 .ensures) (c .before .before .taken .ensures) (not-false _ (c .before .if1 .left)) (c .before .before .before .before .before .before .before .before .before .before .before .before .before .before .before .before .step-on .kept .1 .1 .0) (c .before .before .before .before .before .before .before .before .before .before .before .before .before .before .before .before .step-on .kept .1 .1 .1 .0) (c .before .before .before .before .before .before .before .before .before .before .before .before .before .before .before .before .step-on .kept .1 .1 .1 .1 .0) (c .before .before .before .before .before .before .before .before .before .before .before .before .before .before .before .before .step-on .kept .1 .1 .1 .1 .1 .0)
+loop-again c =
+    let at-put-line = c .before .before .before .before .before in
+    let at-step-line = at-put-line .before in
+    let at-step-on = at-step-line .before .before .before .before .before .before .before .before .before .before in
+    let at-loop = at-step-on .before .before .before .before .before in
+    λ o h. showing-turns ((at-loop .loop .inv) o h) (at-step-on .step-on .ensures) (at-step-line .step-line .ensures) (at-put-line .put-line2 .ensures) (c .before .before .taken .ensures) (not-false _ (c .before .if1 .left)) (at-step-on .step-on .kept .1 .1 .0) (at-step-on .step-on .kept .1 .1 .1 .0) (at-step-on .step-on .kept .1 .1 .1 .1 .0) (at-step-on .step-on .kept .1 .1 .1 .1 .1 .0)
 
 pub list-frames-spec : {M : Type 1} → statement M
 list-frames-spec =

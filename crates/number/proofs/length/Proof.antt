@@ -1,6 +1,6 @@
 -- `number::length`: a number takes one byte for each power of 128 that it reaches, and one more.
 use mathlib.Core.Path.{sym}
-use Rattle.number.specs.NumberLaws.{length-last, length-more}
+use Rattle.number.proofs.NumberLaws.{length-last, length-more}
 use native.Mathlib.Omega.{arith}
 use Rattle.number.proofs.length.Statement.{statement}
 use Rattle.number.proofs.length.Tie as tie

@@ -8,7 +8,7 @@ use lib.ListN.{length, getD, drop, drop-of-length-le}
 use lib.Seq.{drop-cons}
 use Rattle.number.specs.Number.{readNumber, ReadAt}
 use Rattle.number.specs.declared.Parsed.the-variants.{Number, Malformed}
-use Rattle.number.specs.GroupLaws.{groups-end, groups-last, last-ok}
+use Rattle.number.proofs.GroupLaws.{groups-end, groups-last, last-ok}
 use borrow.Author.Needs.{needs}
 use native.Mathlib.Omega.{arith}
 use Rattle.number.proofs.read.Statement.{statement}

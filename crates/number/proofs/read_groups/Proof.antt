@@ -10,7 +10,7 @@ use lib.ListN.{length, getD, drop, drop-of-length-le}
 use lib.Seq.{drop-cons}
 use Rattle.number.specs.Number.{groups, lastGroup, readNumber, ReadAt}
 use Rattle.number.specs.declared.Parsed.the-variants.{Number}
-use Rattle.number.specs.GroupLaws.{groups-none, groups-end, groups-last, groups-more, last-ok, last-big, last-zero}
+use Rattle.number.proofs.GroupLaws.{groups-none, groups-end, groups-last, groups-more, last-ok, last-big, last-zero}
 use borrow.Author.Needs.{needs}
 use native.Mathlib.Omega.{arith}
 use Rattle.number.proofs.read_groups.Statement.{statement}

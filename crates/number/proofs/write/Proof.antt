@@ -1,5 +1,5 @@
 -- `number::write`: the two tests say whether the bytes fit.
-use Rattle.number.specs.NumberLaws.{fitting, not-fitting}
+use Rattle.number.proofs.NumberLaws.{fitting, not-fitting}
 use native.Mathlib.Omega.{arith}
 use borrow.Author.Needs.{needs}
 use Rattle.number.proofs.write.Statement.{statement}
@@ -24,7 +24,9 @@ same-length : tie.Need-same-length
 same-length c = search needs
 
 returns-3 : tie.Need-returns-3
-returns-3 c = fitting (c .before .before .before .before .before .before .before .before .args .out .now) _ _ (omega arith) (c .before .before .write-groups .ensures)
+returns-3 c =
+    let at-start = c .before .before .before .before .before .before .before .before in
+    fitting (at-start .args .out .now) _ _ (omega arith) (c .before .before .write-groups .ensures)
 
 pub write-spec : {M : Type 1} → statement M
 write-spec =

@@ -6,7 +6,7 @@ use mathlib.Core.Path.{_≡_, refl}
 use lib.ListN.{length, set, length-set}
 use lib.Seq.{sets}
 use Rattle.number.specs.Number.{writeNumber}
-use Rattle.number.specs.NumberLaws.{write-last, write-more, write-length}
+use Rattle.number.proofs.NumberLaws.{write-last, write-more, write-length}
 use borrow.Author.Needs.{needs}
 use native.Mathlib.Omega.{arith}
 use Rattle.number.proofs.write_groups.Statement.{statement}

@@ -1,14 +1,14 @@
 -- `opening::body_in`: what each search comes to.
 use mathlib.Core.Path.{refl}
-use Rattle.laws.specs.ResultLaws.{told}
+use Rattle.laws.proofs.ResultLaws.{told}
 use Rattle.iff.specs.Chunk.{foundOf}
 use Rattle.opening.specs.Open.{bodyIn}
 use borrow.Author.Needs.{needs}
 use Rattle.opening.proofs.body_in.Statement.{statement}
 use Rattle.opening.proofs.body_in.Tie as tie
 
-find-requires : tie.Need-find-requires
-find-requires c κs = search needs
+find-pair-requires : tie.Need-find-pair-requires
+find-pair-requires c κs = search needs
 
 enum-known-h : tie.Need-enum-known-h
 enum-known-h c = search needs
@@ -19,9 +19,6 @@ enum-told c = search needs
 enum-told-2 : tie.Need-enum-told-2
 enum-told-2 c = search needs
 
-find-requires-2 : tie.Need-find-requires-2
-find-requires-2 c κs = search needs
-
 enum-told-3 : tie.Need-enum-told-3
 enum-told-3 c = search needs
 
@@ -31,8 +28,8 @@ enum-known-b c = search needs
 enum-told-4 : tie.Need-enum-told-4
 enum-told-4 c = search needs
 
-find-requires-3 : tie.Need-find-requires-3
-find-requires-3 c κs = search needs
+find-requires : tie.Need-find-requires
+find-requires c κs = search needs
 
 enum-known-d : tie.Need-enum-known-d
 enum-known-d c = search needs
@@ -45,58 +42,62 @@ enum-told-6 c = search needs
 
 returns : tie.Need-returns
 unfolding bodyIn
-returns c = rw (told foundOf (c .before .before .before .find .ensures) (c .before .h .given .1)) refl
+returns c = rw (told foundOf (c .before .before .before .find-pair .ensures .0) (c .before .h .given .1)) refl
 
 returns-2 : tie.Need-returns-2
 unfolding bodyIn
-returns-2 c = rw (told foundOf (c .before .before .find .ensures) (c .enum-told .given .1)) refl
+returns-2 c = rw (told foundOf (c .before .before .find-pair .ensures .0) (c .enum-told .given .1)) refl
 
 returns-3 : tie.Need-returns-3
 unfolding bodyIn
 returns-3 c =
-    let m = c .before .before .before in
-    rw (told foundOf (m .before .before .find .ensures) (m .enum-told2 .given .1)) (rw (told foundOf (c .before .before .find2 .ensures) (c .enum-told3 .given .1)) refl)
+    let m = c .before .before in
+    let f = m .before .before .find-pair .ensures in
+    rw (told foundOf (f .0) (m .enum-told2 .given .1)) (rw (told foundOf (f .1) (c .enum-told3 .given .1)) refl)
 
 returns-4 : tie.Need-returns-4
 unfolding bodyIn
 returns-4 c =
-    let m = c .before .before .before .before in
-    rw (told foundOf (m .before .before .find .ensures) (m .enum-told2 .given .1)) (rw (told foundOf (c .before .before .before .find2 .ensures) (c .before .b .given .1)) refl)
+    let m = c .before .before .before in
+    let f = m .before .before .find-pair .ensures in
+    rw (told foundOf (f .0) (m .enum-told2 .given .1)) (rw (told foundOf (f .1) (c .before .b .given .1)) refl)
 
 returns-5 : tie.Need-returns-5
 unfolding bodyIn
 returns-5 c =
     let n = c .before .before .before .before in
-    let m = n .before .before .before in
-    rw (told foundOf (m .before .before .find .ensures) (m .enum-told2 .given .1)) (rw (told foundOf (n .before .before .find2 .ensures) (n .enum-told4 .given .1)) (rw (told foundOf (c .before .before .before .find3 .ensures) (c .before .d .given .1)) refl))
+    let m = n .before .before in
+    let f = m .before .before .find-pair .ensures in
+    rw (told foundOf (f .0) (m .enum-told2 .given .1)) (rw (told foundOf (f .1) (n .enum-told4 .given .1)) (rw (told foundOf (c .before .before .before .find .ensures) (c .before .d .given .1)) refl))
 
 returns-6 : tie.Need-returns-6
 unfolding bodyIn
 returns-6 c =
     let n = c .before .before .before in
-    let m = n .before .before .before in
-    rw (told foundOf (m .before .before .find .ensures) (m .enum-told2 .given .1)) (rw (told foundOf (n .before .before .find2 .ensures) (n .enum-told4 .given .1)) (rw (told foundOf (c .before .before .find3 .ensures) (c .enum-told5 .given .1)) refl))
+    let m = n .before .before in
+    let f = m .before .before .find-pair .ensures in
+    rw (told foundOf (f .0) (m .enum-told2 .given .1)) (rw (told foundOf (f .1) (n .enum-told4 .given .1)) (rw (told foundOf (c .before .before .find .ensures) (c .enum-told5 .given .1)) refl))
 
 returns-7 : tie.Need-returns-7
 unfolding bodyIn
 returns-7 c =
     let n = c .before .before .before in
-    let m = n .before .before .before in
-    rw (told foundOf (m .before .before .find .ensures) (m .enum-told2 .given .1)) (rw (told foundOf (n .before .before .find2 .ensures) (n .enum-told4 .given .1)) (rw (told foundOf (c .before .before .find3 .ensures) (c .enum-told6 .given .1)) refl))
+    let m = n .before .before in
+    let f = m .before .before .find-pair .ensures in
+    rw (told foundOf (f .0) (m .enum-told2 .given .1)) (rw (told foundOf (f .1) (n .enum-told4 .given .1)) (rw (told foundOf (c .before .before .find .ensures) (c .enum-told6 .given .1)) refl))
 
 pub body-in-spec : {M : Type 1} → statement M
 body-in-spec =
     tie.close
     (tie.spec
-    find-requires
+    find-pair-requires
     enum-known-h
     enum-told
     enum-told-2
-    find-requires-2
     enum-told-3
     enum-known-b
     enum-told-4
-    find-requires-3
+    find-requires
     enum-known-d
     enum-told-5
     enum-told-6

@@ -1,7 +1,7 @@
 -- `opening::first_body`: what unpacking it comes to.
-use Rattle.laws.specs.ResultLaws.{told}
-use Rattle.ilbm.specs.Body.{unpackedOf}
-use Rattle.opening.specs.OpenLaws.{body-bad, body-done}
+use Rattle.laws.proofs.ResultLaws.{told}
+use Rattle.body.specs.Body.{unpackedOf}
+use Rattle.opening.proofs.OpenLaws.{body-bad, body-done}
 use borrow.Author.Needs.{needs}
 use Rattle.opening.proofs.first_body.Statement.{statement}
 use Rattle.opening.proofs.first_body.Tie as tie

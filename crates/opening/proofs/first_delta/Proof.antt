@@ -1,8 +1,8 @@
 -- `opening::first_delta`: the header, then the delta into zeros.
 use mathlib.Core.Path.{refl, _∙_}
-use Rattle.laws.specs.ResultLaws.{told}
+use Rattle.laws.proofs.ResultLaws.{told}
 use Rattle.anhd.specs.Anhd.{anhdOf}
-use Rattle.opening.specs.OpenLaws.{delta-unread, delta-bad, delta-done}
+use Rattle.opening.proofs.OpenLaws.{delta-unread, delta-bad, delta-done}
 use borrow.Author.Needs.{needs}
 use Rattle.opening.proofs.first_delta.Statement.{statement}
 use Rattle.opening.proofs.first_delta.Tie as tie

@@ -2,7 +2,7 @@
 use mathlib.Core.Logic.{⊎-elim}
 use mathlib.Core.Bool.{true, false}
 use mathlib.Core.Path.{_≡_, refl, _∙_}
-use Rattle.laws.specs.ResultLaws.{told, told-true, told-false}
+use Rattle.laws.proofs.ResultLaws.{told, told-true, told-false}
 use Rattle.iff.specs.Chunk.{foundOf}
 use Rattle.opening.specs.Open.{firstHeader}
 use borrow.Author.Needs.{needs}

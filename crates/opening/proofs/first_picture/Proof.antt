@@ -15,7 +15,9 @@ same-length c = search needs
 
 returns : tie.Need-returns
 unfolding firstPicture
-returns c = rw (c .before .before .before .before .before .if1 .taken) (rw (c .before .before .before .contents .ensures) at (c .before .before .first-body .ensures))
+returns c =
+    let at-if = c .before .before .before .before .before in
+    rw (at-if .if1 .taken) (rw (c .before .before .before .contents .ensures) at (c .before .before .first-body .ensures))
 
 contents-requires-2 : tie.Need-contents-requires-2
 contents-requires-2 c κs = search needs
@@ -32,7 +34,8 @@ same-length-2 c = search needs
 returns-2 : tie.Need-returns-2
 unfolding firstPicture
 returns-2 c =
-    rw (c .before .before .before .before .before .before .if1 .left)
+    let at-if = c .before .before .before .before .before .before in
+    rw (at-if .if1 .left)
     (rw (c .before .before .before .before .contents2 .ensures, c .before .before .before .contents3 .ensures) at (c .before .before .first-delta .ensures))
 
 pub first-picture-spec : {M : Type 1} → statement M

@@ -1,10 +1,10 @@
 -- `opening::first_places`: the file's length, FORM ANIM, then what is in it.
 use mathlib.Core.Path.{sym, _∙_}
 use lib.Seq.{length-take-le}
-use Rattle.laws.specs.ResultLaws.{told, each-is}
+use Rattle.laws.proofs.ResultLaws.{told, each-is}
 use Rattle.form.specs.Form.{outerOf}
-use Rattle.form.specs.FormLaws.{anim-closes}
-use Rattle.opening.specs.OpenLaws.{too-long, no-anim, anim-is}
+use Rattle.form.proofs.FormLaws.{anim-closes}
+use Rattle.opening.proofs.OpenLaws.{too-long, no-anim, anim-is}
 use borrow.Author.Needs.{needs}
 use Rattle.opening.proofs.first_places.Statement.{statement}
 use Rattle.opening.proofs.first_places.Tie as tie
@@ -31,7 +31,10 @@ returns-2 : tie.Need-returns-2
 returns-2 c = sym (no-anim _ (c .before .before .before .before .if1 .left) (told outerOf (c .before .before .before .anim-end .ensures) (c .before .o .given .1)))
 
 returns-3 : tie.Need-returns-3
-returns-3 c = c .places-in .ensures ∙ anim-is _ (c .before .before .before .before .before .before .if1 .left) _ (told outerOf (c .before .before .before .before .before .anim-end .ensures) (c .before .before .before .o2 .given .1))
+returns-3 c =
+    let at-anim-end = c .before .before .before .before .before in
+    let at-if = at-anim-end .before in
+    c .places-in .ensures ∙ anim-is _ (at-if .if1 .left) _ (told outerOf (at-anim-end .anim-end .ensures) (c .before .before .before .o2 .given .1))
 
 pub first-places-spec : {M : Type 1} → statement M
 first-places-spec =

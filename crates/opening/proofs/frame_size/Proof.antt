@@ -2,9 +2,10 @@
 use native.Mathlib.Nat.{add-sub-cancel-left}
 use native.Mathlib.Omega.{arith}
 use mathlib.Core.Path.{refl, sym}
-use Rattle.laws.specs.ResultLaws.{told}
+use Rattle.laws.proofs.ResultLaws.{told}
 use Rattle.bmhd.specs.Header.{headerOf}
-use Rattle.opening.specs.OpenLaws.{placesOf, chunks-inside, size-nowhere, size-header}
+use Rattle.opening.specs.Parts.{placesOf}
+use Rattle.opening.proofs.OpenLaws.{chunks-inside, size-nowhere, size-header}
 use borrow.Author.Needs.{needs}
 use Rattle.opening.proofs.frame_size.Statement.{statement}
 use Rattle.opening.proofs.frame_size.Tie as tie

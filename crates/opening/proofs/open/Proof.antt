@@ -2,8 +2,9 @@
 use native.Mathlib.Nat.{add-sub-cancel-left}
 use native.Mathlib.Omega.{arith}
 use mathlib.Core.Path.{refl}
-use Rattle.laws.specs.ResultLaws.{told}
-use Rattle.opening.specs.OpenLaws.{placesOf, chunks-inside, opens-nowhere, opens-at}
+use Rattle.laws.proofs.ResultLaws.{told}
+use Rattle.opening.specs.Parts.{placesOf}
+use Rattle.opening.proofs.OpenLaws.{chunks-inside, opens-nowhere, opens-at}
 use borrow.Author.Needs.{needs}
 use Rattle.opening.proofs.open.Statement.{statement}
 use Rattle.opening.proofs.open.Tie as tie

@@ -1,10 +1,11 @@
 -- `opening::open_picture`: the header, the buffers' lengths, then the picture into A and a copy of A into B.
 use mathlib.Core.Path.{refl, sym, _∙_}
 use lib.ListN.{length}
-use Rattle.laws.specs.ResultLaws.{told}
-use Rattle.laws.specs.Store.{over-whole}
+use Rattle.laws.proofs.ResultLaws.{told}
+use Rattle.laws.proofs.StoreLaws.{over-whole}
 use Rattle.bmhd.specs.Header.{headerOf}
-use Rattle.opening.specs.OpenLaws.{filledOf, first-refused, first-opened, first-unread, first-left, first-right, first-fits, first-bad, first-taken, fills-kept}
+use Rattle.opening.specs.Parts.{filledOf}
+use Rattle.opening.proofs.OpenLaws.{first-refused, first-opened, first-unread, first-left, first-right, first-fits, first-bad, first-taken, fills-kept}
 use borrow.Author.Needs.{needs}
 use Rattle.opening.proofs.open_picture.Statement.{statement}
 use Rattle.opening.proofs.open_picture.Tie as tie
@@ -55,8 +56,8 @@ refused-requires-4 c κs = search needs
 enum-told : tie.Need-enum-told
 enum-told c = search needs
 
-copy-requires : tie.Need-copy-requires
-copy-requires c κs = search needs
+copy-long-requires : tie.Need-copy-long-requires
+copy-long-requires c κs = search needs
 
 opened-requires : tie.Need-opened-requires
 opened-requires c κs = search needs
@@ -84,14 +85,15 @@ same-length-3 c = search needs
 
 returns-5 : tie.Need-returns-5
 returns-5 c =
+    let at-enum-told = c .before .before .before .before .before .before in
     let u = c .before .before .before .before .before .before .before .before .before .before in
     let l = u .before .before in
     let h = l .before .before .before .before .before in
     let z = h .before .before .before .before .before .before .args in
     let m = l .before .before .if1 .left in
-    let e = told filledOf (u .first-picture .ensures .answer) (c .before .before .before .before .before .before .enum-told .given .1) in
+    let e = told filledOf (u .first-picture .ensures .answer) (at-enum-told .enum-told .given .1) in
     first-opened {end = z .end} {start = z .next} (first-taken _ _ _ _ (told headerOf (h .before .before .first-header .ensures) (h .h2 .given .1)) m (l .if2 .left) _ _ e (u .first-picture .ensures .left))
-    (c .opened .ensures) refl (c .before .before .before .copy .ensures ∙ over-whole _ _ (l .if2 .left ∙ sym (u .first-picture .kept .0 ∙ m)))
+    (c .opened .ensures) refl (c .before .before .before .copy-long .ensures ∙ over-whole _ _ (l .if2 .left ∙ sym (u .first-picture .kept .0 ∙ m)))
 
 pub open-picture-spec : {M : Type 1} → statement M
 open-picture-spec =
@@ -109,7 +111,7 @@ open-picture-spec =
     enum-known-f
     refused-requires-4
     enum-told
-    copy-requires
+    copy-long-requires
     opened-requires
     returns-3
     same-length

@@ -1,10 +1,11 @@
 -- `opening::places_in`: the walk to the first FORM ILBM, then how it gives the picture.
 use native.Mathlib.Omega.{arith}
 use mathlib.Core.Path.{sym}
-use Rattle.laws.specs.ResultLaws.{told, each-some}
-use Rattle.form.specs.Form.{formOf}
-use Rattle.form.specs.FormLaws.{Follows, frame-follows}
-use Rattle.opening.specs.OpenLaws.{givenOf, anim-broken, anim-empty, form-broken, form-given}
+use Rattle.laws.proofs.ResultLaws.{told, each-some}
+use Rattle.form.specs.Form.{formOf, Follows}
+use Rattle.form.proofs.FormLaws.{frame-follows}
+use Rattle.opening.specs.Parts.{givenOf}
+use Rattle.opening.proofs.OpenLaws.{anim-broken, anim-empty, form-broken, form-given}
 use borrow.Author.Needs.{needs}
 use Rattle.opening.proofs.places_in.Statement.{statement}
 use Rattle.opening.proofs.places_in.Tie as tie

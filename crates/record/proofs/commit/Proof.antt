@@ -6,39 +6,59 @@ use mathlib.Core.Path.{_≡_, sym, _∙_}
 use lib.Dec.{ltb}
 use lib.ListN.{length}
 use borrow.Author.Tests.{leb-true, leb-false, not-true, not-false}
-use Rattle.number.specs.NumberLaws.{write-length}
-use Rattle.changes.specs.CountLaws.{changed-counted}
+use Rattle.number.proofs.NumberLaws.{write-length}
+use Rattle.changes.proofs.CountLaws.{changed-counted}
 use Rattle.runs.specs.Runs.{runsOf}
 use Rattle.record.specs.RunList.{runsBytes}
 use Rattle.record.specs.Record.{recordBytes}
-use Rattle.record.specs.RecordLaws.{counted, head-length, two-lengths, too-long, no-room, is-written}
-use Rattle.record.specs.CommitLaws.{committed-all}
+use Rattle.record.proofs.RecordLaws.{counted, record-is, head-length, two-lengths, too-long, no-room, is-written}
+use Rattle.record.proofs.CommitLaws.{committed-all}
 use Rattle.record.specs.Walk.{Counted}
 use borrow.Author.Needs.{needs}
 use Rattle.record.proofs.commit.Statement.{statement}
 use Rattle.record.proofs.commit.Tie as tie
 
+-- where the pictures are counted, and where the call begins
+abbrev begin : tie.After-count → tie.Start
+begin c =
+    let at-node = c .before .before .before .before .before .before .before in
+    at-node
+
+abbrev counting : tie.After-runs-fit → tie.After-count
+counting c =
+    let at-node = c .before .before .before .before .before .before in
+    at-node
+
 -- the pictures with the number of their runs
-pictures : (c : tie.After-count) → Counted (c .before .before .before .before .before .before .before .args .old .now) (c .before .before .before .before .before .before .before .args .new .now) (c .count .result .runs)
+pictures : (c : tie.After-count) → Counted (begin c .args .old .now) (begin c .args .new .now) (c .count .result .runs)
 pictures c = counted _ _ (c .before .before .before .if1 .left) (c .before .before .if2 .left) (c .count .ensures)
 
+-- how long the runs and the whole record are
+abbrev bytes : tie.Start → ℕ
+bytes b = length (runsBytes (runsOf (b .args .old .now) (b .args .new .now)))
+
+abbrev whole : tie.Start → ℕ
+whole b = length (recordBytes (b .args .frame) (b .args .place) (b .args .old .now) (b .args .new .now))
+
 -- the numbers in front of the runs, and the runs, are the record
-head : (c : tie.After-length3) → c .before .before .length .result + c .before .length2 .result + c .length3 .result + length (runsBytes (runsOf (c .before .before .before .before .before .before .before .before .before .before .args .old .now) (c .before .before .before .before .before .before .before .before .before .before .args .new .now))) ≡ length (recordBytes (c .before .before .before .before .before .before .before .before .before .before .args .frame) (c .before .before .before .before .before .before .before .before .before .before .args .place) (c .before .before .before .before .before .before .before .before .before .before .args .old .now) (c .before .before .before .before .before .before .before .before .before .before .args .new .now))
-head c = omega (arith, head-length (c .before .before .before .before .before .before .before .before .before .before .args .frame) (c .before .before .before .before .before .before .before .before .before .before .args .place) (c .before .before .before .before .before .before .before .before .before .before .args .old .now) (c .before .before .before .before .before .before .before .before .before .before .args .new .now) (pictures (c .before .before .before)), c .before .before .length .ensures, c .before .length2 .ensures, c .length3 .ensures)
+head : (c : tie.After-length3) → c .before .before .length .result + c .before .length2 .result + c .length3 .result + bytes (begin (c .before .before .before)) ≡ whole (begin (c .before .before .before))
+head c =
+    let b = begin (c .before .before .before) in
+    omega (arith, head-length (b .args .frame) (b .args .place) (b .args .old .now) (b .args .new .now) (pictures (c .before .before .before)), c .before .before .length .ensures, c .before .length2 .ensures, c .length3 .ensures)
 
 -- what the answer of `runs_fit` tells of the whole record
 module _ (c : tie.After-runs-fit) where
-  abbrev bytes : ℕ
-  bytes = length (runsBytes (runsOf (c .before .before .before .before .before .before .before .before .before .before .before .before .before .args .old .now) (c .before .before .before .before .before .before .before .before .before .before .before .before .before .args .new .now)))
+  abbrev front : tie.After-length3
+  front = c .before .before .before
 
   abbrev room : ℕ
-  room = length (c .before .before .before .before .before .before .before .before .before .before .before .before .before .args .out .now) - (c .before .before .before .before .before .length .result + c .before .before .before .before .length2 .result + c .before .before .before .length3 .result)
+  room = length (begin (counting c) .args .out .now) - (front .before .before .length .result + front .before .length2 .result + front .length3 .result)
 
-  too-much : not (c .runs-fit .result) ≡ true → length (c .before .before .before .before .before .before .before .before .before .before .before .before .before .args .out .now) < length (recordBytes (c .before .before .before .before .before .before .before .before .before .before .before .before .before .args .frame) (c .before .before .before .before .before .before .before .before .before .before .before .before .before .args .place) (c .before .before .before .before .before .before .before .before .before .before .before .before .before .args .old .now) (c .before .before .before .before .before .before .before .before .before .before .before .before .before .args .new .now))
-  too-much t = let h : room < bytes = leb-false bytes room (sym (c .runs-fit .ensures) ∙ not-true _ t) in omega (arith, head (c .before .before .before), h)
+  too-much : not (c .runs-fit .result) ≡ true → length (begin (counting c) .args .out .now) < whole (begin (counting c))
+  too-much t = let h : room < bytes (begin (counting c)) = leb-false _ room (sym (c .runs-fit .ensures) ∙ not-true _ t) in omega (arith, head front, h)
 
-  fits : not (c .runs-fit .result) ≡ false → length (recordBytes (c .before .before .before .before .before .before .before .before .before .before .before .before .before .args .frame) (c .before .before .before .before .before .before .before .before .before .before .before .before .before .args .place) (c .before .before .before .before .before .before .before .before .before .before .before .before .before .args .old .now) (c .before .before .before .before .before .before .before .before .before .before .before .before .before .args .new .now)) ≤ length (c .before .before .before .before .before .before .before .before .before .before .before .before .before .args .out .now)
-  fits t = let h : bytes ≤ room = leb-true bytes room (sym (c .runs-fit .ensures) ∙ not-false _ t) in omega (arith, head (c .before .before .before), h)
+  fits : not (c .runs-fit .result) ≡ false → whole (begin (counting c)) ≤ length (begin (counting c) .args .out .now)
+  fits t = let h : bytes (begin (counting c)) ≤ room = leb-true _ room (sym (c .runs-fit .ensures) ∙ not-false _ t) in omega (arith, head front, h)
 
 returns : tie.Need-returns
 returns c = two-lengths _ _ _ _ _ (c .if1 .taken)
@@ -56,7 +76,7 @@ length-requires-2 : tie.Need-length-requires-2
 length-requires-2 c κs = search needs
 
 add-head : tie.Need-add-head
-add-head c = let b = c .before .before .before .before .before .before .before .before .before in omega (arith, write-length (b .args .frame) (omega arith), write-length (b .args .place) (omega arith))
+add-head c = let b = begin (c .before .before) in omega (arith, write-length (b .args .frame) (omega arith), write-length (b .args .place) (omega arith))
 
 cast-length : tie.Need-cast-length
 cast-length c = omega (arith, pictures (c .before .before) .few, pictures (c .before .before) .short)
@@ -66,7 +86,7 @@ length-requires-3 c κs = search needs
 
 add-head-2 : tie.Need-add-head-2
 add-head-2 c =
-    let b = c .before .before .before .before .before .before .before .before .before .before in
+    let b = begin (c .before .before .before) in
     let p = pictures (c .before .before .before) in
     omega (arith, write-length (b .args .frame) (omega arith), write-length (b .args .place) (omega arith), write-length (c .before .before .before .count .result .runs) (omega (arith, p .few, p .short)))
 
@@ -74,7 +94,7 @@ same-length : tie.Need-same-length
 same-length c = search needs
 
 returns-3 : tie.Need-returns-3
-returns-3 c = no-room _ _ _ _ _ (c .before .before .before .before .before .before .before .if1 .left) (c .before .before .before .before .before .before .if2 .left) (omega (arith, head (c .before), c .if3 .taken))
+returns-3 c = let k = c .before .before .before .before in no-room _ _ _ _ _ (k .before .before .before .if1 .left) (k .before .before .if2 .left) (omega (arith, head (c .before), c .if3 .taken))
 
 sub-runs-fit : tie.Need-sub-runs-fit
 sub-runs-fit c = search needs
@@ -86,10 +106,13 @@ same-length-2 : tie.Need-same-length-2
 same-length-2 c = search needs
 
 returns-4 : tie.Need-returns-4
-returns-4 c = no-room _ _ _ _ _ (c .before .before .before .before .before .before .before .before .before .before .if1 .left) (c .before .before .before .before .before .before .before .before .before .if2 .left) (too-much (c .before) (c .if4 .taken))
+returns-4 c = let k = counting (c .before) in no-room _ _ _ _ _ (k .before .before .before .if1 .left) (k .before .before .if2 .left) (too-much (c .before) (c .if4 .taken))
 
-put-record-requires : tie.Need-put-record-requires
-put-record-requires c κs = (pictures (c .before .before .before .before .before .before .before .before .before .before), fits (c .before .before .before .before) (c .before .before .before .if4 .left))
+put-picture-requires : tie.Need-put-picture-requires
+put-picture-requires c κs =
+    let f = c .before .before .before .before in
+    let b = begin (counting f) in
+    (pictures (counting f), rw (← (record-is (b .args .frame) (b .args .place) (b .args .old .now) (b .args .new .now))) (fits f (c .before .before .before .if4 .left)))
 
 replace-requires : tie.Need-replace-requires
 replace-requires c κs = search needs
@@ -102,9 +125,15 @@ same-length-4 c = search needs
 
 returns-5 : tie.Need-returns-5
 returns-5 c =
-    let l = c .before .before .before .before .before .before .before .before .before .before .before .before .before .before .before .before .before .before .before .before .before .before .if1 .left in
-    let p = c .before .before .before .before .before .before .before .before .put-record .ensures in
-    is-written _ _ _ _ _ l (c .before .before .before .before .before .before .before .before .before .before .before .before .before .before .before .before .before .before .before .before .before .if2 .left) _ _ _ _ (fits (c .before .before .before .before .before .before .before .before .before .before .before .before .before) (c .before .before .before .before .before .before .before .before .before .before .before .before .if4 .left)) (changed-counted _ _ l (c .before .before .before .before .before .before .before .before .before .before .before .before .before .before .before .before .before .before .before .count .ensures)) (p .0) (committed-all (ltb (c .before .before .before .before .before .before .before .before .before .before .before .before .before .before .before .before .before .before .before .count .result .changed) (length (c .before .before .before .before .before .before .before .before .before .before .before .before .before .before .before .before .before .before .before .before .before .before .before .before .before .before .args .old .now) / 8)) (c .before .before .before .before .before .before .before .before .before .before .before .before .before .before .before .before .before .before .before .before .before .before .before .before .before .before .args .old .now) l (p .1) (c .before .before .replace .ensures))
+    let put = c .before .before .before .before .before .before .before .before in
+    let f = put .before .before .before .before .before in
+    let k = counting f in
+    let b = begin k in
+    let l = k .before .before .before .if1 .left in
+    let p = put .put-picture .ensures in
+    is-written _ _ _ _ _ l (k .before .before .if2 .left) _ _ _ _ (fits f (put .before .before .before .before .if4 .left)) (changed-counted _ _ l (k .count .ensures))
+    (rw (record-is (b .args .frame) (b .args .place) (b .args .old .now) (b .args .new .now)) (p .0))
+    (committed-all (ltb (k .count .result .changed) (length (b .args .old .now) / 8)) (b .args .old .now) l (p .1) (c .before .before .replace .ensures))
 
 pub commit-spec : {M : Type 1} → statement M
 commit-spec =
@@ -125,7 +154,7 @@ commit-spec =
     runs-fit-requires
     same-length-2
     returns-4
-    put-record-requires
+    put-picture-requires
     replace-requires
     same-length-3
     same-length-4

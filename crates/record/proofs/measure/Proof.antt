@@ -4,11 +4,11 @@ use mathlib.Core.List.{List, []}
 use mathlib.Core.Path.{_≡_}
 use lib.ListN.{length, drop}
 use Rattle.number.specs.Number.{writeNumber}
-use Rattle.laws.specs.ResultLaws.{told}
+use Rattle.laws.proofs.ResultLaws.{told}
 use Rattle.runs.specs.Runs.{runsOf, changeOf}
-use Rattle.runs.specs.NextLaws.{RunAhead, ahead-of, none-ahead}
+use Rattle.runs.proofs.NextLaws.{RunAhead, ahead-of, none-ahead}
 use Rattle.record.specs.RunList.{runsBytes}
-use Rattle.record.specs.RunLaws.{ahead-bytes-length}
+use Rattle.record.proofs.RunLaws.{ahead-bytes-length}
 use borrow.Author.Needs.{needs}
 use native.Mathlib.Omega.{arith}
 use Rattle.record.proofs.measure.Statement.{statement}
@@ -54,7 +54,9 @@ enum-told : tie.Need-enum-told Inv-loop μ-loop
 enum-told c = search needs
 
 returns : tie.Need-returns Inv-loop μ-loop
-returns c = all (c .before .before .before .loop .inv) (none-ahead _ _ _ (c .before .before .before .before .before .before .pre .0) (told changeOf (c .before .before .next-run .ensures) (c .enum-told .given .1)))
+returns c =
+    let at-start = c .before .before .before .before .before .before in
+    all (c .before .before .before .loop .inv) (none-ahead _ _ _ (at-start .pre .0) (told changeOf (c .before .before .next-run .ensures) (c .enum-told .given .1)))
 
 enum-known-c : tie.Need-enum-known-c Inv-loop μ-loop
 enum-known-c c = search needs
@@ -75,7 +77,9 @@ loop-less : tie.Need-loop-less Inv-loop μ-loop
 loop-less c = omega (arith, ahead (c .before) .inside, ahead (c .before) .filled)
 
 loop-again : tie.Need-loop-again Inv-loop μ-loop
-loop-again c = more (c .before .before .before .before .before .loop .inv) (ahead (c .before)) (c .run-length .ensures)
+loop-again c =
+    let at-loop = c .before .before .before .before .before in
+    more (at-loop .loop .inv) (ahead (c .before)) (c .run-length .ensures)
 
 pub measure-spec : {M : Type 1} → statement M
 measure-spec =

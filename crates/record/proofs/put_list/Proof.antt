@@ -1,6 +1,6 @@
 -- `record::put_list`: the number of runs, then the runs.
 use native.Mathlib.Omega.{arith}
-use Rattle.record.specs.RecordLaws.{list-length, list-put}
+use Rattle.record.proofs.RecordLaws.{list-length, list-put}
 use borrow.Author.Needs.{needs}
 use Rattle.record.proofs.put_list.Statement.{statement}
 use Rattle.record.proofs.put_list.Tie as tie
@@ -12,7 +12,10 @@ put-number-requires : tie.Need-put-number-requires
 put-number-requires c κs = omega (arith, list-length (c .before .before .before .before .pre .0))
 
 put-runs-requires : tie.Need-put-runs-requires
-put-runs-requires c κs = let p = c .before .before .before .before .before .before .before .before .before .pre in (p .0 .one-length, p .0 .short, omega (arith, list-length (p .0)))
+put-runs-requires c κs =
+    let first = c .before .before .before .before in
+    let p = first .before .before .before .before .before .pre in
+    (p .0 .one-length, p .0 .short, omega (arith, list-length (p .0)))
 
 same-length : tie.Need-same-length
 same-length c = search needs
@@ -21,7 +24,11 @@ same-length-2 : tie.Need-same-length-2
 same-length-2 c = search needs
 
 returns : tie.Need-returns
-returns c = let r = c .before .before .before .before .put-runs .ensures in (list-put (c .before .before .before .before .before .before .before .before .before .before .before .before .before .before .pre .0) (c .before .before .before .before .before .before .before .before .before .put-number .ensures) (r .0), r .1)
+returns c =
+    let runs = c .before .before .before .before in
+    let first = runs .before .before .before .before .before in
+    let p = first .before .before .before .before .before .pre in
+    (list-put (p .0) (first .put-number .ensures) (runs .put-runs .ensures .0), runs .put-runs .ensures .1)
 
 pub put-list-spec : {M : Type 1} → statement M
 put-list-spec =

@@ -1,5 +1,5 @@
 -- `record::run_length`: a number takes at most five bytes.
-use Rattle.number.specs.NumberLaws.{write-length}
+use Rattle.number.proofs.NumberLaws.{write-length}
 use native.Mathlib.Omega.{arith}
 use borrow.Author.Needs.{needs}
 use Rattle.record.proofs.run_length.Statement.{statement}

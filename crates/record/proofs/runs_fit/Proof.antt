@@ -6,12 +6,12 @@ use mathlib.Core.Path.{_≡_, sym}
 use lib.ListN.{length}
 use borrow.Author.Tests.{le-leb}
 use Rattle.runs.specs.Runs.{runsOf}
+use Rattle.runs.proofs.PatchLaws.{count-runs}
 use Rattle.changes.specs.Count.{countOf}
-use Rattle.changes.specs.CountLaws.{runs-counted, changed-counted, differing-short}
+use Rattle.changes.proofs.CountLaws.{runs-counted, changed-counted, differing-short}
 use Rattle.changes.specs.declared.Counts.{Counts}
 use Rattle.record.specs.RunList.{runsBytes}
-use Rattle.record.specs.RoundLaws.{count-runs}
-use Rattle.record.specs.RoomLaws.{runs-room}
+use Rattle.record.proofs.RoomLaws.{runs-room}
 use borrow.Author.Needs.{needs}
 use Rattle.record.proofs.runs_fit.Statement.{statement}
 use Rattle.record.proofs.runs_fit.Tie as tie

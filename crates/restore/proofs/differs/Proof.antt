@@ -6,7 +6,7 @@ use mathlib.Core.Path.{_≡_, refl, _∙_}
 use borrow.Author.Tests.{eq-eqb, ne-eqb}
 use lib.ListN.{length, take, drop}
 use Rattle.runs.specs.Runs.{differ}
-use Rattle.restore.specs.ReadLaws.{differs-on, differs-off}
+use Rattle.restore.proofs.ReadLaws.{differs-on, differs-off}
 use borrow.Author.Needs.{needs}
 use Rattle.restore.proofs.differs.Statement.{statement}
 use Rattle.restore.proofs.differs.Tie as tie

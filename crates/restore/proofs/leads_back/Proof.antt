@@ -1,11 +1,27 @@
 -- `restore::leads_back`: the two numbers, the run list checked whole, then whose record it is.
-use mathlib.Core.Path.{sym, subst}
-use Rattle.laws.specs.ResultLaws.{told, told-false, told-true}
-use Rattle.restore.specs.Walk.{HeaderAt, checkedOf}
-use Rattle.restore.specs.RestoreLaws.{bad-record, bad-runs, left-over, not-its-own, leads-to}
+use Prim.Native.Nat.{ℕ}
+use mathlib.Core.Path.{_≡_, refl, subst}
+use lib.ListN.{drop}
+use Rattle.laws.proofs.ResultLaws.{told-false, told-true}
+use Rattle.record.specs.RunList.{beforeOf}
+use Rattle.record.specs.Record.{pastOf}
+use Rattle.restore.specs.Walk.{HeaderAt, Took, pastFrom}
+use Rattle.restore.proofs.RestoreLaws.{bad-record, bad-runs, left-over, not-its-own, leads-to}
 use borrow.Author.Needs.{needs}
 use Rattle.restore.proofs.leads_back.Statement.{statement}
 use Rattle.restore.proofs.leads_back.Tie as tie
+
+-- where the call begins, and the header that was read before the list
+abbrev begin : tie.After-take-list → tie.Start
+begin t = t .before .before .before .before .before .before .before .before
+
+abbrev list : tie.After-take-list → ℕ
+list t = t .before .before .before .h .given .0 .1 .1 .0
+
+header : (t : tie.After-take-list)
+    → pastOf (begin t .args .bytes .now) (begin t .args .shown .now)
+    ≡ pastFrom (t .before .before .before .h .given .0 .0) (t .before .before .before .h .given .0 .1 .0) (beforeOf (drop (list t) (begin t .args .bytes .now)) (begin t .args .shown .now))
+header t = subst (HeaderAt _) (t .before .before .before .h .given .1) (t .before .before .before .before .before .read-header .ensures) (begin t .args .shown .now)
 
 read-header-requires : tie.Need-read-header-requires
 read-header-requires c κs = search needs
@@ -16,8 +32,8 @@ enum-told c = search needs
 enum-known-h : tie.Need-enum-known-h
 enum-known-h c = search needs
 
-check-list-requires : tie.Need-check-list-requires
-check-list-requires c κs = search needs
+take-list-requires : tie.Need-take-list-requires
+take-list-requires c κs = search needs
 
 enum-told-2 : tie.Need-enum-told-2
 enum-told-2 c = search needs
@@ -25,38 +41,54 @@ enum-told-2 c = search needs
 enum-known-c : tie.Need-enum-known-c
 enum-known-c c = search needs
 
+same-length : tie.Need-same-length
+same-length c = search needs
+
 returns : tie.Need-returns
 returns c =
-    let a = c .before .before .before .before .before .before .before .before .before .before .before .args in
-    let h = subst (HeaderAt (a .bytes .now)) (c .before .before .before .before .before .before .h .given .1) (c .before .before .before .before .before .before .before .before .read-header .ensures) (a .shown .now) in
-    let e = sym (told (checkedOf (a .bytes .now)) (c .before .before .before .before .check-list .ensures) (c .before .before .c .given .1)) in
-    left-over (a .bytes .now) (a .shown .now) (a .frame) (a .next) _ _ (c .before .before .before .before .before .before .h .given .0 .1 .1 .0) h _ e (c .if1 .taken)
+    let t = c .before .before .before .before .before .before in
+    let a = begin t .args in
+    let w = subst (Took _ _ _ _ _) (c .before .before .c .given .1) (t .take-list .ensures) in
+    (left-over (a .bytes .now) (a .shown .now) (a .frame) (a .next) _ _ (list t) (header t) w (c .if1 .taken), w .left)
 
 belongs-requires : tie.Need-belongs-requires
 belongs-requires c κs = search needs
 
+same-length-2 : tie.Need-same-length-2
+same-length-2 c = search needs
+
 returns-2 : tie.Need-returns-2
 returns-2 c =
-    let a = c .before .before .before .before .before .before .before .before .before .before .before .before .before .args in
-    let h = subst (HeaderAt (a .bytes .now)) (c .before .before .before .before .before .before .before .before .h .given .1) (c .before .before .before .before .before .before .before .before .before .before .read-header .ensures) (a .shown .now) in
-    let e = sym (told (checkedOf (a .bytes .now)) (c .before .before .before .before .before .before .check-list .ensures) (c .before .before .before .before .c .given .1)) in
-    not-its-own (a .bytes .now) (a .shown .now) (a .frame) (a .next) _ _ (c .before .before .before .before .before .before .before .before .h .given .0 .1 .1 .0) h _ e (c .before .before .if1 .left) (told-false (c .before .belongs .ensures) (c .if2 .taken))
+    let t = c .before .before .before .before .before .before .before .before in
+    let a = begin t .args in
+    let w = subst (Took _ _ _ _ _) (c .before .before .before .before .c .given .1) (t .take-list .ensures) in
+    (not-its-own (a .bytes .now) (a .shown .now) (a .frame) (a .next) _ _ (list t) (header t) w (c .before .before .if1 .left) (told-false (c .before .belongs .ensures) (c .if2 .taken)), w .left)
 
 returns-3 : tie.Need-returns-3
-returns-3 c = let a = c .before .before .before .before .before .args in bad-record (a .bytes .now) (a .shown .now) (a .frame) (a .next) (subst (HeaderAt (a .bytes .now)) (c .enum-told .given .1) (c .before .before .read-header .ensures) (a .shown .now))
+returns-3 c =
+    let at-start = c .before .before .before .before .before in
+    let a = at-start .args in
+    (bad-record (a .bytes .now) (a .shown .now) (a .frame) (a .next) (subst (HeaderAt _) (c .enum-told .given .1) (c .before .before .read-header .ensures) (a .shown .now)), refl)
+
+same-length-3 : tie.Need-same-length-3
+same-length-3 c = search needs
 
 returns-4 : tie.Need-returns-4
 returns-4 c =
-    let a = c .before .before .before .before .before .before .before .before .before .args in
-    let h = subst (HeaderAt (a .bytes .now)) (c .before .before .before .before .h .given .1) (c .before .before .before .before .before .before .read-header .ensures) (a .shown .now) in
-    bad-runs (a .bytes .now) (a .shown .now) (a .frame) (a .next) _ _ (c .before .before .before .before .h .given .0 .1 .1 .0) h (sym (told (checkedOf (a .bytes .now)) (c .before .before .check-list .ensures) (c .enum-told2 .given .1)))
+    let t = c .before .before .before .before in
+    let a = begin t .args in
+    let w = subst (Took _ _ _ _ _) (c .enum-told2 .given .1) (t .take-list .ensures) in
+    (bad-runs (a .bytes .now) (a .shown .now) (a .frame) (a .next) _ _ (list t) (header t) w, w .kept refl)
+
+same-length-4 : tie.Need-same-length-4
+same-length-4 c = search needs
 
 returns-5 : tie.Need-returns-5
 returns-5 c =
-    let a = c .before .before .before .before .before .before .before .before .before .before .before .before .before .args in
-    let h = subst (HeaderAt (a .bytes .now)) (c .before .before .before .before .before .before .before .before .h .given .1) (c .before .before .before .before .before .before .before .before .before .before .read-header .ensures) (a .shown .now) in
-    let e = sym (told (checkedOf (a .bytes .now)) (c .before .before .before .before .before .before .check-list .ensures) (c .before .before .before .before .c .given .1)) in
-    leads-to (a .bytes .now) (a .shown .now) (a .frame) (a .next) _ _ (c .before .before .before .before .before .before .before .before .h .given .0 .1 .1 .0) h _ e (c .before .before .if1 .left) (told-true (c .before .belongs .ensures) (c .if2 .left))
+    let t = c .before .before .before .before .before .before .before .before in
+    let a = begin t .args in
+    let w = subst (Took _ _ _ _ _) (c .before .before .before .before .c .given .1) (t .take-list .ensures) in
+    (leads-to (a .bytes .now) (a .shown .now) (a .frame) (a .next) _ _ (list t) (header t) w (c .before .before .if1 .left) (told-true (c .before .belongs .ensures) (c .if2 .left)), w .left)
 
 pub leads-back-spec : {M : Type 1} → statement M
 leads-back-spec =
@@ -65,12 +97,16 @@ leads-back-spec =
     read-header-requires
     enum-told
     enum-known-h
-    check-list-requires
+    take-list-requires
     enum-told-2
     enum-known-c
+    same-length
     returns
     belongs-requires
+    same-length-2
     returns-2
     returns-3
+    same-length-3
     returns-4
+    same-length-4
     returns-5)

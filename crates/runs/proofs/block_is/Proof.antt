@@ -5,7 +5,7 @@ use mathlib.Core.Logic.{⊎-elim}
 use lib.Dec.{leb}
 use lib.ListN.{length, drop}
 use Rattle.runs.specs.Stretch.{stretch}
-use Rattle.runs.specs.StretchLaws.{block-starts, block-on, block-off, as-asked, not-asked}
+use Rattle.runs.proofs.StretchLaws.{block-starts, block-on, block-off, as-asked, not-asked}
 use borrow.Author.Needs.{needs}
 use native.Mathlib.Omega.{arith}
 use Rattle.runs.proofs.block_is.Statement.{statement}

@@ -2,7 +2,7 @@
 use Prim.Native.Nat.{_-_}
 use lib.ListN.{length}
 use Rattle.runs.specs.Stretch.{Scanned}
-use Rattle.runs.specs.StretchLaws.{as-asked, not-asked, scan-starts, scan-more, scan-stops, scan-ends}
+use Rattle.runs.proofs.StretchLaws.{as-asked, not-asked, scan-starts, scan-more, scan-stops, scan-ends}
 use borrow.Author.Needs.{needs}
 use Rattle.runs.proofs.byte_end.Statement.{statement}
 use Rattle.runs.proofs.byte_end.Tie as tie
@@ -23,7 +23,9 @@ shared-slice-read-if1-2 : tie.Need-shared-slice-read-if1-2 Inv-loop μ-loop
 shared-slice-read-if1-2 c = search needs
 
 returns : tie.Need-returns Inv-loop μ-loop
-returns c = scan-stops (c .before .before .before .before .loop .inv) (c .before .before .before .before .before .pre .0) (c .before .before .before .loop-test .taken) (not-asked _ _ (c .if1 .taken))
+returns c =
+    let at-start = c .before .before .before .before .before in
+    scan-stops (c .before .before .before .before .loop .inv) (at-start .pre .0) (c .before .before .before .loop-test .taken) (not-asked _ _ (c .if1 .taken))
 
 add-i : tie.Need-add-i Inv-loop μ-loop
 add-i c = search needs
@@ -32,7 +34,9 @@ loop-less : tie.Need-loop-less Inv-loop μ-loop
 loop-less c = search needs
 
 loop-again : tie.Need-loop-again Inv-loop μ-loop
-loop-again c = scan-more (c .before .before .before .before .loop .inv) (c .before .before .before .before .before .pre .0) (c .before .before .before .loop-test .taken) (as-asked _ _ (c .if1 .left))
+loop-again c =
+    let at-start = c .before .before .before .before .before in
+    scan-more (c .before .before .before .before .loop .inv) (at-start .pre .0) (c .before .before .before .loop-test .taken) (as-asked _ _ (c .if1 .left))
 
 returns-2 : tie.Need-returns-2 Inv-loop μ-loop
 returns-2 c = scan-ends (c .before .loop .inv) (c .before .before .pre .0) (c .loop-test .left)

@@ -1,5 +1,5 @@
 -- `runs::next_run`: equal bytes, then differing ones, are the gap and the run.
-use Rattle.runs.specs.NextLaws.{two-lengths, past-end, nothing-ahead, run-ahead}
+use Rattle.runs.proofs.NextLaws.{two-lengths, past-end, nothing-ahead, run-ahead}
 use borrow.Author.Needs.{needs}
 use Rattle.runs.proofs.next_run.Statement.{statement}
 use Rattle.runs.proofs.next_run.Tie as tie

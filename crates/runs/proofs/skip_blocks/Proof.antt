@@ -4,7 +4,7 @@ use lib.ListN.{length}
 use mathlib.Core.Path.{sym, _∙_}
 use borrow.Author.Tests.{leb-true, not-false}
 use Rattle.runs.specs.Stretch.{Scanned}
-use Rattle.runs.specs.StretchLaws.{scan-starts, scan-jumps}
+use Rattle.runs.proofs.StretchLaws.{scan-starts, scan-jumps}
 use borrow.Author.Needs.{needs}
 use Rattle.runs.proofs.skip_blocks.Statement.{statement}
 use Rattle.runs.proofs.skip_blocks.Tie as tie
@@ -34,7 +34,9 @@ loop-less : tie.Need-loop-less Inv-loop μ-loop
 loop-less c = search needs
 
 loop-again : tie.Need-loop-again Inv-loop μ-loop
-loop-again c = scan-jumps (c .before .before .before .loop .inv) (c .before .before .before .before .before .before .pre .0) _ (leb-true _ _ (sym (c .before .block-is .ensures) ∙ not-false _ (c .if1 .left)))
+loop-again c =
+    let at-start = c .before .before .before .before .before .before in
+    scan-jumps (c .before .before .before .loop .inv) (at-start .pre .0) _ (leb-true _ _ (sym (c .before .block-is .ensures) ∙ not-false _ (c .if1 .left)))
 
 returns-2 : tie.Need-returns-2 Inv-loop μ-loop
 returns-2 c = c .before .loop .inv

@@ -1,7 +1,7 @@
 -- `runs::stretch_end`: eight bytes, then blocks, then words and bytes of the one stretch.
 use native.Mathlib.Omega.{arith}
-use Rattle.runs.specs.StretchLaws.{scan-starts, scan-jumps, scan-then, scan-is}
-use Rattle.runs.specs.StopLaws.{eighth, scan-word}
+use Rattle.runs.proofs.StretchLaws.{scan-starts, scan-jumps, scan-then, scan-is}
+use Rattle.runs.proofs.StopLaws.{eighth, scan-word}
 use borrow.Author.Needs.{needs}
 use Rattle.runs.proofs.stretch_end.Statement.{statement}
 use Rattle.runs.proofs.stretch_end.Tie as tie
@@ -25,7 +25,9 @@ add-result : tie.Need-add-result
 add-result c = omega (arith, eighth (c .before .stop .result))
 
 returns-2 : tie.Need-returns-2
-returns-2 c = scan-word (scan-starts (c .before .before .before .before .before .pre .1)) (c .before .stop .ensures) (omega arith)
+returns-2 c =
+    let at-start = c .before .before .before .before .before in
+    scan-word (scan-starts (at-start .pre .1)) (c .before .stop .ensures) (omega arith)
 
 add-skip-blocks : tie.Need-add-skip-blocks
 add-skip-blocks c = search needs

@@ -3,8 +3,8 @@ use Prim.Native.Nat.{_-_}
 use native.Mathlib.Omega.{arith}
 use lib.ListN.{length}
 use Rattle.runs.specs.Stretch.{Scanned}
-use Rattle.runs.specs.StretchLaws.{scan-starts, scan-jumps, scan-is}
-use Rattle.runs.specs.StopLaws.{eighth, scan-word}
+use Rattle.runs.proofs.StretchLaws.{scan-starts, scan-jumps, scan-is}
+use Rattle.runs.proofs.StopLaws.{eighth, scan-word}
 use borrow.Author.Needs.{needs}
 use Rattle.runs.proofs.word_end.Statement.{statement}
 use Rattle.runs.proofs.word_end.Tie as tie
@@ -40,7 +40,9 @@ loop-less : tie.Need-loop-less Inv-loop μ-loop
 loop-less c = search needs
 
 loop-again : tie.Need-loop-again Inv-loop μ-loop
-loop-again c = scan-jumps (c .before .before .before .loop .inv) (c .before .before .before .before .before .before .pre .0) 8 (c .before .stop .ensures .none (c .if1 .left))
+loop-again c =
+    let at-start = c .before .before .before .before .before .before in
+    scan-jumps (c .before .before .before .loop .inv) (at-start .pre .0) 8 (c .before .stop .ensures .none (c .if1 .left))
 
 byte-end-requires : tie.Need-byte-end-requires Inv-loop μ-loop
 byte-end-requires c κs = (c .before .before .before .before .pre .0, c .before .loop .inv .inside)

@@ -1,8 +1,8 @@
 -- `shown::row`: a part of A at an odd frame, of B at an even one.
-use Rattle.shown.specs.RowLaws.{row-refused, row-odd, row-even, lies-a, lies-b}
+use Rattle.shown.proofs.RowLaws.{row-refused, row-odd, row-even, lies-a, lies-b}
 use Rattle.shown.specs.Row.{placeOf}
 use Rattle.state.specs.World.{isOdd}
-use Rattle.laws.specs.ResultLaws.{told}
+use Rattle.laws.proofs.ResultLaws.{told}
 use borrow.Author.Tests.{eq-eqb, ne-eqb}
 use native.Mathlib.Omega.{arith}
 use borrow.Author.Needs.{needs}
@@ -25,7 +25,9 @@ row-bytes-requires : tie.Need-row-bytes-requires
 row-bytes-requires c κs = search needs
 
 add-end : tie.Need-add-end
-add-end c = let k = c .before .before .before .before .before .before .before .before .args in omega (arith, lies-a (record { a = k .a .now; b = k .b .now; state = k .state }) (k .plane) (k .row) (told placeOf (c .before .before .before .before .row-place .ensures) (c .before .before .p .given .1)) (c .row-bytes .ensures))
+add-end c =
+    let at-start = c .before .before .before .before .before .before .before .before in
+    let k = at-start .args in omega (arith, lies-a (record { a = k .a .now; b = k .b .now; state = k .state }) (k .plane) (k .row) (told placeOf (c .before .before .before .before .row-place .ensures) (c .before .before .p .given .1)) (c .row-bytes .ensures))
 
 sub-result : tie.Need-sub-result
 sub-result c = search needs
@@ -34,11 +36,18 @@ part-result-start : tie.Need-part-result-start
 part-result-start c = search needs
 
 part-result-end : tie.Need-part-result-end
-part-result-end c = let k = c .before .before .before .before .before .before .before .before .before .before .args in lies-a (record { a = k .a .now; b = k .b .now; state = k .state }) (k .plane) (k .row) (told placeOf (c .before .before .before .before .before .before .row-place .ensures) (c .before .before .before .before .p .given .1)) (c .before .before .row-bytes .ensures)
+part-result-end c =
+    let at-row-place = c .before .before .before .before .before .before in
+    let at-start = at-row-place .before .before .before .before in
+    let k = at-start .args in lies-a (record { a = k .a .now; b = k .b .now; state = k .state }) (k .plane) (k .row) (told placeOf (at-row-place .row-place .ensures) (c .before .before .before .before .p .given .1)) (c .before .before .row-bytes .ensures)
 
 returns : tie.Need-returns
 unfolding isOdd
-returns c = let k = c .before .before .before .before .before .before .before .before .before .before .before .args in row-odd (record { a = k .a .now; b = k .b .now; state = k .state }) (k .plane) (k .row) (told placeOf (c .before .before .before .before .before .before .before .row-place .ensures) (c .before .before .before .before .before .p .given .1)) (c .before .before .before .row-bytes .ensures) (eq-eqb _ _ (c .before .if1 .taken))
+returns c =
+    let at-p = c .before .before .before .before .before in
+    let at-row-place = at-p .before .before in
+    let at-start = at-row-place .before .before .before .before in
+    let k = at-start .args in row-odd (record { a = k .a .now; b = k .b .now; state = k .state }) (k .plane) (k .row) (told placeOf (at-row-place .row-place .ensures) (at-p .p .given .1)) (c .before .before .before .row-bytes .ensures) (eq-eqb _ _ (c .before .if1 .taken))
 
 sub-result-2 : tie.Need-sub-result-2
 sub-result-2 c = search needs
@@ -47,14 +56,23 @@ part-result-start-2 : tie.Need-part-result-start-2
 part-result-start-2 c = search needs
 
 part-result-end-2 : tie.Need-part-result-end-2
-part-result-end-2 c = let k = c .before .before .before .before .before .before .before .before .before .before .args in lies-b (record { a = k .a .now; b = k .b .now; state = k .state }) (k .plane) (k .row) (told placeOf (c .before .before .before .before .before .before .row-place .ensures) (c .before .before .before .before .p .given .1)) (c .before .before .row-bytes .ensures)
+part-result-end-2 c =
+    let at-row-place = c .before .before .before .before .before .before in
+    let at-start = at-row-place .before .before .before .before in
+    let k = at-start .args in lies-b (record { a = k .a .now; b = k .b .now; state = k .state }) (k .plane) (k .row) (told placeOf (at-row-place .row-place .ensures) (c .before .before .before .before .p .given .1)) (c .before .before .row-bytes .ensures)
 
 returns-2 : tie.Need-returns-2
-returns-2 c = let k = c .before .before .before .before .before .before .before .args in row-refused (record { a = k .a .now; b = k .b .now; state = k .state }) (k .plane) (k .row) (told placeOf (c .before .before .before .row-place .ensures) (c .before .enum-told .given .1))
+returns-2 c =
+    let at-start = c .before .before .before .before .before .before .before in
+    let k = at-start .args in row-refused (record { a = k .a .now; b = k .b .now; state = k .state }) (k .plane) (k .row) (told placeOf (c .before .before .before .row-place .ensures) (c .before .enum-told .given .1))
 
 returns-3 : tie.Need-returns-3
 unfolding isOdd
-returns-3 c = let k = c .before .before .before .before .before .before .before .before .before .before .before .args in row-even (record { a = k .a .now; b = k .b .now; state = k .state }) (k .plane) (k .row) (told placeOf (c .before .before .before .before .before .before .before .row-place .ensures) (c .before .before .before .before .before .p .given .1)) (c .before .before .before .row-bytes .ensures) (ne-eqb _ _ (c .before .if1 .left))
+returns-3 c =
+    let at-p = c .before .before .before .before .before in
+    let at-row-place = at-p .before .before in
+    let at-start = at-row-place .before .before .before .before in
+    let k = at-start .args in row-even (record { a = k .a .now; b = k .b .now; state = k .state }) (k .plane) (k .row) (told placeOf (at-row-place .row-place .ensures) (at-p .p .given .1)) (c .before .before .before .row-bytes .ensures) (ne-eqb _ _ (c .before .if1 .left))
 
 pub row-spec : {M : Type 1} → statement M
 row-spec =

@@ -1,5 +1,5 @@
 -- `write_words::put32`: four stores.
-use Rattle.words.specs.WordLaws.{put-four}
+use Rattle.words.proofs.WordLaws.{put-four}
 use lib.ListN.{length-set}
 use mathlib.Core.Path.{refl}
 use native.Mathlib.Omega.{arith}

@@ -1,5 +1,5 @@
 -- `write_words::put64`: the low half, then the high half.
-use Rattle.words.specs.WordLaws.{put-halves}
+use Rattle.words.proofs.WordLaws.{put-halves}
 use native.Mathlib.Omega.{arith}
 use borrow.Author.Needs.{needs}
 use Rattle.write_words.proofs.put64.Statement.{statement}
@@ -15,7 +15,9 @@ same-length : tie.Need-same-length
 same-length c = search needs
 
 returns : tie.Need-returns
-returns c = (put-halves _ (c .before .before .before .before .before .before .put32 .ensures .0) (c .before .before .put322 .ensures .0), omega arith)
+returns c =
+    let at-put = c .before .before .before .before .before .before in
+    (put-halves _ (at-put .put32 .ensures .0) (c .before .before .put322 .ensures .0), omega arith)
 
 pub put64-spec : {M : Type 1} → statement M
 put64-spec = tie.close (tie.spec put32-requires put32-requires-2 same-length returns)

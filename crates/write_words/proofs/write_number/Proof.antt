@@ -1,5 +1,5 @@
 -- `write_words::write_number`: one number.
-use Rattle.words.specs.WordLaws.{put-none, put-more, laid, not-laid}
+use Rattle.words.proofs.WordLaws.{put-none, put-more, laid, not-laid}
 use mathlib.Core.List.{[], _∷_}
 use borrow.Author.Needs.{needs}
 use Rattle.write_words.proofs.write_number.Statement.{statement}

@@ -1,11 +1,13 @@
 -- `write_words::write_report`: the four numbers, one after the other.
-use Rattle.words.specs.WordLaws.{put-none, put-more, laid, not-laid}
+use Rattle.words.specs.Words.{reportWords}
+use Rattle.words.proofs.WordLaws.{put-none, put-more, laid, not-laid}
 use mathlib.Core.List.{[], _∷_}
 use borrow.Author.Needs.{needs}
 use Rattle.write_words.proofs.write_report.Statement.{statement}
 use Rattle.write_words.proofs.write_report.Tie as tie
 
 returns : tie.Need-returns
+unfolding reportWords
 returns c = not-laid (_ ∷ _ ∷ _ ∷ _ ∷ []) (c .if1 .taken)
 
 put64-requires : tie.Need-put64-requires
@@ -24,7 +26,16 @@ same-length : tie.Need-same-length
 same-length c = search needs
 
 returns-2 : tie.Need-returns-2
-returns-2 c = let k = c .before .before .before .before .before .before .before .before .before .before .before .before .before .before .before .before .before .before .args in laid (k .method ∷ k .time ∷ k .changed ∷ k .length ∷ []) (c .before .before .before .before .before .before .before .before .before .before .before .before .before .before .before .before .if1 .left) (put-more (k .method ∷ k .time ∷ k .changed ∷ []) (k .length) (put-more (k .method ∷ k .time ∷ []) (k .changed) (put-more (k .method ∷ []) (k .time) (put-more [] (k .method) put-none (c .before .before .before .before .before .before .before .before .before .before .before .before .before .before .put64 .ensures .0)) (c .before .before .before .before .before .before .before .before .before .before .put642 .ensures .0)) (c .before .before .before .before .before .before .put643 .ensures .0)) (c .before .before .put644 .ensures .0))
+unfolding reportWords
+returns-2 c =
+    let third = c .before .before .before .before .before .before in
+    let second = third .before .before .before .before in
+    let first = second .before .before .before .before in
+    let k = first .before .before .before .before .args .report in
+    laid (k .method ∷ k .time ∷ k .changed ∷ k .record_length ∷ []) (first .before .before .if1 .left)
+    (put-more (k .method ∷ k .time ∷ k .changed ∷ []) (k .record_length)
+    (put-more (k .method ∷ k .time ∷ []) (k .changed) (put-more (k .method ∷ []) (k .time) (put-more [] (k .method) put-none (first .put64 .ensures .0)) (second .put642 .ensures .0)) (third .put643 .ensures .0))
+    (c .before .before .put644 .ensures .0))
 
 pub write-report-spec : {M : Type 1} → statement M
 write-report-spec =

@@ -4,10 +4,9 @@ use Prim.Native.Nat.{ℕ, _+_, _-_, _*_, _≤_, _<_}
 use mathlib.Core.List.{List}
 use mathlib.Core.Path.{_≡_}
 use lib.ListN.{length}
-use Rattle.column.specs.Count.{Counting, counting, counting-more, counting-last}
+use Rattle.column_writer.proofs.CountLaws.{Counting, counting, counting-more, counting-last}
 use Rattle.writer.specs.Write.{planeBytes, listsBytes}
-use Rattle.writer.specs.Planes.{Walking}
-use Rattle.writer.specs.PlaneLaws.{walking, walking-more, walking-plane, lists-parts, lists-none}
+use Rattle.writer.proofs.PlaneLaws.{Walking, walking, walking-more, walking-plane, lists-parts, lists-none}
 use borrow.Author.Needs.{needs}
 use Rattle.writer.proofs.lists_length.Statement.{statement}
 use Rattle.writer.proofs.lists_length.Tie as tie
@@ -44,7 +43,9 @@ add-sum : tie.Need-add-sum Inv-loop μ-loop
 add-sum c = omega (arith, c .before .before .loop .inv .small, c .plane-length .ensures .1, c .before .loop-test .taken)
 
 add-at : tie.Need-add-at Inv-loop μ-loop
-add-at c = omega (arith, walking-plane (c .before .before .loop .inv .walk) (c .before .loop-test .taken) (c .before .before .before .before .before .pre) .inNew, c .before .before .before .before .before .pre .most)
+add-at c =
+    let at-start = c .before .before .before .before .before in
+    omega (arith, walking-plane (c .before .before .loop .inv .walk) (c .before .loop-test .taken) (at-start .pre) .inNew, at-start .pre .most)
 
 sub-left : tie.Need-sub-left Inv-loop μ-loop
 sub-left c = search needs

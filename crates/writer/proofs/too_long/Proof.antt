@@ -1,5 +1,6 @@
 -- `writer::too_long`: room for the longest delta is room for every one; otherwise the lists are measured.
-use Rattle.writer.specs.LengthLaws.{plane-small, lists-small, longest-fits}
+use Rattle.writer.proofs.LengthLaws.{plane-small, lists-small}
+use Rattle.writer.proofs.DeltaRoom.{longest-fits}
 use native.Mathlib.Omega.{arith}
 use borrow.Author.Needs.{needs}
 use Rattle.writer.proofs.too_long.Statement.{statement}

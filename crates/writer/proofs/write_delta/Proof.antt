@@ -1,5 +1,5 @@
 -- `writer::write_delta`: zeros where no pointers are, then pointers and lists.
-use Rattle.writer.specs.DeltaLaws.{delta-is, zeros-put, zeros-fit}
+use Rattle.writer.proofs.DeltaLaws.{delta-is, zeros-put, zeros-fit}
 use mathlib.Core.Path.{_∙_}
 use native.Mathlib.Omega.{arith}
 use borrow.Author.Needs.{needs}
@@ -25,13 +25,18 @@ row-bytes-requires : tie.Need-row-bytes-requires
 row-bytes-requires c κs = search needs
 
 write-planes-requires : tie.Need-write-planes-requires
-write-planes-requires c κs = rw (c .row-bytes .ensures) (c .before .before .before .before .before .before .before .before .before .before .pre .0, zeros-fit _ _ _ (c .before .before .before .before .before .before .before .before .before .before .pre .0 .deep) (omega (arith, c .before .before .before .before .before .before .before .before .before .before .pre .1)) (c .before .before .before .before .fill .ensures) (c .before .before .before .before .before .before .before .before .before .before .pre .1))
+write-planes-requires c κs =
+    let at-start = c .before .before .before .before .before .before .before .before .before .before in
+    rw (c .row-bytes .ensures) (at-start .pre .0, zeros-fit _ _ _ (at-start .pre .0 .deep) (omega (arith, at-start .pre .1)) (c .before .before .before .before .fill .ensures) (at-start .pre .1))
 
 same-length : tie.Need-same-length
 same-length c = search needs
 
 returns : tie.Need-returns
-returns c = (rw (c .before .before .before .row-bytes .ensures) at (c .before .before .write-planes .ensures .0), c .before .before .write-planes .ensures .1 ∙ rw (c .before .before .before .row-bytes .ensures) (delta-is _ _ _ _ _ (c .before .before .before .before .before .before .before .before .before .before .before .before .before .pre .0 .deep) (zeros-put _ _ _ (c .before .before .before .before .before .before .before .before .before .before .before .before .before .pre .0 .deep) (omega (arith, c .before .before .before .before .before .before .before .before .before .before .before .before .before .pre .1)) (c .before .before .before .before .before .before .before .fill .ensures))))
+returns c =
+    let at-fill = c .before .before .before .before .before .before .before in
+    let at-start = at-fill .before .before .before .before .before .before in
+    (rw (c .before .before .before .row-bytes .ensures) at (c .before .before .write-planes .ensures .0), c .before .before .write-planes .ensures .1 ∙ rw (c .before .before .before .row-bytes .ensures) (delta-is _ _ _ _ _ (at-start .pre .0 .deep) (zeros-put _ _ _ (at-start .pre .0 .deep) (omega (arith, at-start .pre .1)) (at-fill .fill .ensures))))
 
 pub write-delta-spec : {M : Type 1} → statement M
 write-delta-spec =

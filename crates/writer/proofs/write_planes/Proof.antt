@@ -1,6 +1,6 @@
 -- `writer::write_planes`: what is left to write, from a plane on, comes to the whole.
-use Rattle.writer.specs.PlaneLaws.{walking-plane}
-use Rattle.writer.specs.DeltaLaws.{Writing, writing, writing-room, writing-more, writing-last}
+use Rattle.writer.proofs.PlaneLaws.{walking-plane}
+use Rattle.writer.proofs.DeltaLaws.{Writing, writing, writing-room, writing-more, writing-last}
 use borrow.Author.Needs.{needs}
 use native.Mathlib.Omega.{arith}
 use Rattle.writer.proofs.write_planes.Statement.{statement}
@@ -19,16 +19,27 @@ loop-holds : tie.Need-loop-holds Inv-loop μ-loop
 loop-holds c = writing (c .before .before .before .pre .0) (c .before .before .before .pre .1)
 
 write-plane-requires : tie.Need-write-plane-requires Inv-loop μ-loop
-write-plane-requires c κs = (walking-plane (c .before .before .loop .inv .walk) (c .before .loop-test .taken) (c .before .before .before .before .before .before .pre .0), writing-room (c .before .before .loop .inv) (c .before .loop-test .taken))
+write-plane-requires c κs =
+    let at-start = c .before .before .before .before .before .before in
+    (walking-plane (c .before .before .loop .inv .walk) (c .before .loop-test .taken) (at-start .pre .0), writing-room (c .before .before .loop .inv) (c .before .loop-test .taken))
 
 write-pointer-requires : tie.Need-write-pointer-requires Inv-loop μ-loop
-write-pointer-requires c κs = omega (arith, c .before .before .before .write-plane .ensures .size, c .before .before .before .before .before .before .loop .inv .low, c .before .before .before .before .before .before .loop .inv .high, c .before .before .before .before .before .before .loop .inv .fits, c .before .before .before .before .before .loop-test .taken)
+write-pointer-requires c κs =
+    let at-loop-test = c .before .before .before .before .before in
+    let at-loop = at-loop-test .before in
+    omega (arith, c .before .before .before .write-plane .ensures .size, at-loop .loop .inv .low, at-loop .loop .inv .high, at-loop .loop .inv .fits, at-loop-test .loop-test .taken)
 
 add-pointer : tie.Need-add-pointer Inv-loop μ-loop
-add-pointer c = omega (arith, c .before .before .before .before .before .before .before .before .before .loop .inv .low)
+add-pointer c =
+    let at-loop = c .before .before .before .before .before .before .before .before .before in
+    omega (arith, at-loop .loop .inv .low)
 
 add-at : tie.Need-add-at Inv-loop μ-loop
-add-at c = let p = walking-plane (c .before .before .before .before .before .before .before .before .before .loop .inv .walk) (c .before .before .before .before .before .before .before .before .loop-test .taken) (c .before .before .before .before .before .before .before .before .before .before .before .before .before .pre .0) in omega (arith, p .inNew, p .most)
+add-at c =
+    let at-loop-test = c .before .before .before .before .before .before .before .before in
+    let at-loop = at-loop-test .before in
+    let at-start = at-loop .before .before .before .before in
+    let p = walking-plane (at-loop .loop .inv .walk) (at-loop-test .loop-test .taken) (at-start .pre .0) in omega (arith, p .inNew, p .most)
 
 sub-left : tie.Need-sub-left Inv-loop μ-loop
 sub-left c = search needs
@@ -37,7 +48,11 @@ loop-less : tie.Need-loop-less Inv-loop μ-loop
 loop-less c = search needs
 
 loop-again : tie.Need-loop-again Inv-loop μ-loop
-loop-again c = writing-more (c .before .before .before .before .before .before .before .before .before .loop .inv) (c .before .before .before .before .before .before .before .before .loop-test .taken) (c .before .before .before .before .before .before .write-plane .ensures) (c .before .before .write-pointer .ensures)
+loop-again c =
+    let at-write-plane = c .before .before .before .before .before .before in
+    let at-loop-test = at-write-plane .before .before in
+    let at-loop = at-loop-test .before in
+    writing-more (at-loop .loop .inv) (at-loop-test .loop-test .taken) (at-write-plane .write-plane .ensures) (c .before .before .write-pointer .ensures)
 
 same-length : tie.Need-same-length Inv-loop μ-loop
 same-length c = search needs

@@ -1,9 +1,9 @@
 -- `delta::column::take_column`: the count byte, and that many ops from row 0 on.
 use mathlib.Core.Path.{refl}
 use Rattle.refusal.specs.declared.Refusal.the-variants.{DeltaTooShort}
-use Rattle.delta.specs.DeltaLaws.{column-none, column-ops}
+use Rattle.delta.proofs.DeltaLaws.{column-none, column-ops}
 use Rattle.delta.specs.Walk.{reading}
-use Rattle.delta.specs.WalkLaws.{refused-here, took-as}
+use Rattle.delta.proofs.WalkLaws.{refused-here, took-as}
 use native.Mathlib.Omega.{arith}
 use borrow.Author.Needs.{needs}
 use Rattle.delta.proofs.column.take_column.Statement.{statement}
@@ -31,8 +31,9 @@ same-length c = search needs
 
 returns-2 : tie.Need-returns-2
 returns-2 c =
+    let at-if = c .before .before .before .before .before in
     let b = c .before .before .before .before .before .before .before .before in
-    took-as (c .before .before .take-ops .ensures) (λ ops. column-ops (b .args .shape) (b .args .d .now) (b .args .base) (reading (b .args .c) ops) (c .before .before .before .before .before .if1 .left)) refl (omega (arith, c .before .before .before .before .shared-slice-known2 .given (b .args .c .op)))
+    took-as (c .before .before .take-ops .ensures) (λ ops. column-ops (b .args .shape) (b .args .d .now) (b .args .base) (reading (b .args .c) ops) (at-if .if1 .left)) refl (omega (arith, c .before .before .before .before .shared-slice-known2 .given (b .args .c .op)))
 
 pub take-column-spec : {M : Type 1} → statement M
 take-column-spec =

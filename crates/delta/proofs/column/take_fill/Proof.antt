@@ -2,7 +2,7 @@
 use Prim.Native.Nat.{_+_, _≤_}
 use native.Mathlib.Omega.{arith}
 use lib.ListN.{length}
-use Rattle.delta.specs.FillLaws.{pick-most, fill-past, fill-short, fill-read}
+use Rattle.delta.proofs.FillLaws.{pick-most, fill-past, fill-short, fill-read}
 use borrow.Author.Needs.{needs}
 use Rattle.delta.proofs.column.take_fill.Statement.{statement}
 use Rattle.delta.proofs.column.take_fill.Tie as tie

@@ -4,8 +4,8 @@ use native.Mathlib.Omega.{arith}
 use lib.ListN.{getD}
 use Rattle.delta.specs.Column.{Kind.same, Kind.skips, Kind.uniq, opAs, readOp}
 use Rattle.delta.specs.Walk.{reading}
-use Rattle.delta.specs.DeltaLaws.{op-none, op-kind, kind-same, kind-skip, kind-uniq}
-use Rattle.delta.specs.FillLaws.{skip-read, read-as}
+use Rattle.delta.proofs.DeltaLaws.{op-none, op-kind, kind-same, kind-skip, kind-uniq}
+use Rattle.delta.proofs.FillLaws.{skip-read, read-as}
 use borrow.Author.Needs.{needs}
 use Rattle.delta.proofs.column.take_op.Statement.{statement}
 use Rattle.delta.proofs.column.take_op.Tie as tie
@@ -26,7 +26,9 @@ take-skip-requires : tie.Need-take-skip-requires
 take-skip-requires c κs = search needs
 
 cast-take-uniq : tie.Need-cast-take-uniq
-cast-take-uniq c = omega (arith, c .before .before .shared-slice-known2 .given (c .before .before .before .before .before .args .c .op))
+cast-take-uniq c =
+    let at-start = c .before .before .before .before .before in
+    omega (arith, c .before .before .shared-slice-known2 .given (at-start .args .c .op))
 
 sub-take-uniq : tie.Need-sub-take-uniq
 sub-take-uniq c = search needs
@@ -39,7 +41,8 @@ take-uniq-requires c κs =
 
 returns-2 : tie.Need-returns-2
 returns-2 c =
-    let a = c .before .before .before .before .before .args in
+    let at-start = c .before .before .before .before .before in
+    let a = at-start .args in
     read-as (a .shape) (a .d .now) 1 (readOp (a .shape) (a .d .now)) (a .c) (λ base x. opAs (a .shape) (a .d .now) base x same) (c .take-same .result) (c .take-same .ensures) (λ base ops. op-kind (a .shape) (a .d .now) base (reading (a .c) ops) (c .before .before .before .if1 .left) (kind-same _ (c .before .match .keys1)))
 
 returns-3 : tie.Need-returns-3
@@ -53,7 +56,8 @@ returns-3 c =
 
 returns-4 : tie.Need-returns-4
 returns-4 c =
-    let a = c .before .before .before .before .before .before .args in
+    let at-start = c .before .before .before .before .before .before in
+    let a = at-start .args in
     let n = getD (a .d .now) (a .c .op) 0 in
     let h : 127 < n = omega arith in
     read-as (a .shape) (a .d .now) 1 (readOp (a .shape) (a .d .now)) (a .c) (λ base x. opAs (a .shape) (a .d .now) base x (uniq (n - 128))) (c .take-uniq .result) (c .take-uniq .ensures) (λ base ops. op-kind (a .shape) (a .d .now) base (reading (a .c) ops) (c .before .before .before .before .if1 .left) (kind-uniq n h))

@@ -3,10 +3,10 @@ use Prim.Native.Nat.{_-_, _≤_}
 use mathlib.Core.Path.{_≡_, refl, _∙_}
 use lib.ListN.{length}
 use Rattle.delta.specs.Column.{readOp, readOps}
-use Rattle.delta.specs.DeltaLaws.{ops-more, ops-none}
+use Rattle.delta.proofs.DeltaLaws.{ops-more, ops-none}
 use Rattle.delta.specs.Walk.{reading, Walked}
-use Rattle.delta.specs.WalkLaws.{walked-none, walked-more, walked-refused, walked-all, took-next, took-faulty, next-here, faulty-here}
-use Rattle.delta.specs.FillLaws.{op-lies, op-walked}
+use Rattle.delta.proofs.WalkLaws.{walked-none, walked-more, walked-refused, walked-all, took-next, took-faulty, next-here, faulty-here}
+use Rattle.delta.proofs.FillLaws.{op-lies, op-walked}
 use borrow.Author.Needs.{needs}
 use native.Mathlib.Omega.{arith}
 use Rattle.delta.proofs.column.take_ops.Statement.{statement}

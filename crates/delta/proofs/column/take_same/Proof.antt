@@ -4,8 +4,8 @@ use native.Mathlib.Omega.{arith}
 use lib.ListN.{getD}
 use Rattle.delta.specs.Column.{fill, Kind.same, opAs}
 use Rattle.delta.specs.Walk.{reading}
-use Rattle.delta.specs.DeltaLaws.{same-none, same-fill}
-use Rattle.delta.specs.FillLaws.{read-as}
+use Rattle.delta.proofs.DeltaLaws.{same-none, same-fill}
+use Rattle.delta.proofs.FillLaws.{read-as}
 use borrow.Author.Needs.{needs}
 use Rattle.delta.proofs.column.take_same.Statement.{statement}
 use Rattle.delta.proofs.column.take_same.Tie as tie

@@ -5,9 +5,9 @@ use native.Mathlib.Omega.{arith}
 use borrow.Author.Tests.{not-true, not-false}
 use Prim.Native.Nat.{_-_, _<_}
 use mathlib.Core.Path.{sym, _∙_}
-use Rattle.laws.specs.Store.{lent-copy}
-use Rattle.delta.specs.DeltaLaws.{Putting, putting-starts, putting-more, putting-ends, put-beside}
-use Rattle.delta.specs.FillLaws.{run-inside}
+use Rattle.laws.proofs.StoreLaws.{lent-copy}
+use Rattle.delta.proofs.DeltaLaws.{Putting, putting-starts, putting-more, putting-ends, put-beside}
+use Rattle.delta.proofs.FillLaws.{run-inside}
 use borrow.Author.Needs.{needs}
 use Rattle.delta.proofs.rows.draw_rows.Statement.{statement}
 use Rattle.delta.proofs.rows.draw_rows.Tie as tie

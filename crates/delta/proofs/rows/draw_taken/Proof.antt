@@ -3,7 +3,7 @@ use Prim.Native.Nat.{_≤_}
 use native.Mathlib.Omega.{arith}
 use mathlib.Core.Path.{refl, subst}
 use Rattle.delta.specs.Walk.{Lies}
-use Rattle.delta.specs.FillLaws.{rows-inside, place-fits}
+use Rattle.delta.proofs.FillLaws.{rows-inside, place-fits}
 use borrow.Author.Needs.{needs}
 use Rattle.delta.proofs.rows.draw_taken.Statement.{statement}
 use Rattle.delta.proofs.rows.draw_taken.Tie as tie

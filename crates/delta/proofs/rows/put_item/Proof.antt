@@ -1,7 +1,7 @@
 -- `delta::rows::put_item`: an item is a byte, a pair or two pairs.
 use native.Mathlib.Omega.{arith}
 use mathlib.Core.Path.{_∙_}
-use Rattle.delta.specs.DeltaLaws.{item-one, item-four}
+use Rattle.delta.proofs.DeltaLaws.{item-one, item-four}
 use borrow.Author.Needs.{needs}
 use Rattle.delta.proofs.rows.put_item.Statement.{statement}
 use Rattle.delta.proofs.rows.put_item.Tie as tie
@@ -41,8 +41,9 @@ same-length-3 c = search needs
 
 returns-3 : tie.Need-returns-3
 returns-3 c =
+    let at-put-pair = c .before .before .before .before .before .before .before in
     let b = c .before .before .before .before .before .before .before .before .before .before .before .before in
-    c .before .before .put-pair2 .ensures ∙ rw (c .before .before .before .before .before .before .before .put-pair .ensures) (item-four (b .args .frame .now) (b .args .at) (b .args .d .now) (b .args .from) (b .args .item) (omega arith) (b .pre .1))
+    c .before .before .put-pair2 .ensures ∙ rw (at-put-pair .put-pair .ensures) (item-four (b .args .frame .now) (b .args .at) (b .args .d .now) (b .args .from) (b .args .item) (omega arith) (b .pre .1))
 
 pub put-item-spec : {M : Type 1} → statement M
 put-item-spec =

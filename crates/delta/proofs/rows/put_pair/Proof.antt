@@ -1,7 +1,7 @@
 -- `delta::rows::put_pair`: two stores, one after the other.
 use native.Mathlib.Omega.{arith}
 use lib.ListN.{length-set}
-use Rattle.delta.specs.DeltaLaws.{item-two}
+use Rattle.delta.proofs.DeltaLaws.{item-two}
 use borrow.Author.Needs.{needs}
 use Rattle.delta.proofs.rows.put_pair.Statement.{statement}
 use Rattle.delta.proofs.rows.put_pair.Tie as tie

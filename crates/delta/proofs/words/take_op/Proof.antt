@@ -8,8 +8,8 @@ use lib.ListN.{length}
 use Rattle.delta.specs.Reading.{Op}
 use Rattle.delta.specs.Words.{wordRun, wordOp}
 use Rattle.delta.specs.Walk.{reading}
-use Rattle.delta.specs.FillLaws.{read-as}
-use Rattle.delta.specs.WordLaws.{word-far, word-one, word-uncounted, word-counted}
+use Rattle.delta.proofs.FillLaws.{read-as}
+use Rattle.delta.proofs.WordLaws.{word-far, word-one, word-uncounted, word-counted}
 use borrow.Author.Needs.{needs}
 use Rattle.delta.proofs.words.take_op.Statement.{statement}
 use Rattle.delta.proofs.words.take_op.Tie as tie
@@ -22,8 +22,9 @@ sub-if1 c = search needs
 
 returns : tie.Need-returns
 returns c =
+    let at-start = c .before .before .before .before .before in
     let m = c .before .before .before .move-of in
-    let a = c .before .before .before .before .before .args in
+    let a = at-start .args in
     λ base ops. word-far (a .shape) (a .d .now) base (reading (a .c) ops) (a .offset) (ap (λ (k : ℕ). a .c .line + k) (m .ensures)) (omega arith)
 
 add-line : tie.Need-add-line

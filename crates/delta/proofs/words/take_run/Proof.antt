@@ -4,7 +4,7 @@ use native.Mathlib.Nat.{mul-le-mul-left}
 use native.Mathlib.Omega.{arith}
 use mathlib.Core.Logic.{⊎-elim}
 use mathlib.Core.Path.{_≡_}
-use Rattle.delta.specs.WordLaws.{run-past, run-short, run-read}
+use Rattle.delta.proofs.WordLaws.{run-past, run-short, run-read}
 use borrow.Author.Needs.{needs}
 use Rattle.delta.proofs.words.take_run.Statement.{statement}
 use Rattle.delta.proofs.words.take_run.Tie as tie

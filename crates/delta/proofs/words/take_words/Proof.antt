@@ -6,9 +6,9 @@ use lib.ListN.{length}
 use Rattle.refusal.specs.declared.Refusal.the-variants.{DeltaTooShort}
 use Rattle.delta.specs.Words.{wordOp, readWords}
 use Rattle.delta.specs.Walk.{reading, Walked}
-use Rattle.delta.specs.WalkLaws.{walked-none, walked-more, walked-refused, walked-fault, walked-all, took-next, took-faulty, next-here, faulty-here}
-use Rattle.delta.specs.FillLaws.{op-lies}
-use Rattle.delta.specs.WordLaws.{word-walked, word-further, words-none, words-end, words-more}
+use Rattle.delta.proofs.WalkLaws.{walked-none, walked-more, walked-refused, walked-fault, walked-all, took-next, took-faulty, next-here, faulty-here}
+use Rattle.delta.proofs.FillLaws.{op-lies}
+use Rattle.delta.proofs.WordLaws.{word-walked, word-further, words-none, words-end, words-more}
 use borrow.Author.Needs.{needs}
 use Rattle.delta.proofs.words.take_words.Statement.{statement}
 use Rattle.delta.proofs.words.take_words.Tie as tie

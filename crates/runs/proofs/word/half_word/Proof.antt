@@ -1,6 +1,6 @@
 -- `runs::word::half_word`: the sum of four bytes by their weights.
 use native.Mathlib.Omega.{arith}
-use Rattle.runs.specs.WordLaws.{four-bytes}
+use Rattle.runs.proofs.WordLaws.{four-bytes}
 use borrow.Author.Needs.{needs}
 use Rattle.runs.proofs.word.half_word.Statement.{statement}
 use Rattle.runs.proofs.word.half_word.Tie as tie

@@ -1,5 +1,5 @@
 -- `runs::word::stop`: the differing bits of two words are those of their bytes.
-use Rattle.runs.specs.StopLaws.{equal-stop, differ-stop}
+use Rattle.runs.proofs.StopLaws.{equal-stop, differ-stop}
 use borrow.Author.Needs.{needs}
 use Rattle.runs.proofs.word.stop.Statement.{statement}
 use Rattle.runs.proofs.word.stop.Tie as tie

@@ -1,6 +1,6 @@
 -- `runs::word::word`: two halves.
 use native.Mathlib.Omega.{arith}
-use Rattle.runs.specs.WordLaws.{two-halves}
+use Rattle.runs.proofs.WordLaws.{two-halves}
 use borrow.Author.Needs.{needs}
 use Rattle.runs.proofs.word.word.Statement.{statement}
 use Rattle.runs.proofs.word.word.Tie as tie

@@ -1,8 +1,8 @@
 -- `state::Sizes::frame_length`: three tests, and products whose bounds are those of sizes within the limits.
 use native.Mathlib.Omega.{arith}
-use Rattle.laws.specs.ResultLaws.{told-false, told-true}
-use Rattle.state.specs.State.{frameLength, frameBytes}
-use Rattle.state.specs.StateLaws.{Sound, sound, between}
+use Rattle.laws.proofs.ResultLaws.{told-false, told-true}
+use Rattle.state.specs.State.{frameLength, frameBytes, Sound}
+use Rattle.state.proofs.StateLaws.{sound, between}
 use borrow.Author.Needs.{needs}
 use Rattle.state.proofs.Sizes.frame_length.Statement.{statement}
 use Rattle.state.proofs.Sizes.frame_length.Tie as tie
@@ -10,9 +10,13 @@ use Rattle.state.proofs.Sizes.frame_length.Tie as tie
 -- the sizes where the products are formed
 limits : (c : tie.After-struct-known) → Sound (c .before .before .before .before .before .before .before .before .args .self) (frameBytes (c .before .before .before .before .before .before .before .before .args .self))
 limits c =
-    sound (c .before .before .before .before .before .before .before .before .args .self)
-    (between (told-true (c .before .before .before .before .before .before .before .within .ensures) (c .before .before .before .before .before .before .if1 .left)))
-    (between (told-true (c .before .before .before .before .before .within2 .ensures) (c .before .before .before .before .if2 .left)))
+    let at-within = c .before .before .before .before .before in
+    let at-if = at-within .before in
+    let at-within-2 = at-if .before in
+    let at-start = at-within-2 .before in
+    sound (at-start .args .self)
+    (between (told-true (at-within-2 .within .ensures) (at-if .if1 .left)))
+    (between (told-true (at-within .within2 .ensures) (c .before .before .before .before .if2 .left)))
     (between (told-true (c .before .before .before .within3 .ensures) (c .before .before .if3 .left)))
 
 within-requires : tie.Need-within-requires
@@ -34,7 +38,9 @@ within-requires-3 c κs = search needs
 
 returns-3 : tie.Need-returns-3
 unfolding frameLength
-returns-3 c = simp (told-true (c .before .before .before .before .before .within .ensures) (c .before .before .before .before .if1 .left), told-true (c .before .before .before .within2 .ensures) (c .before .before .if2 .left), told-false (c .before .within3 .ensures) (c .if3 .taken))
+returns-3 c =
+    let at-within = c .before .before .before .before .before in
+    simp (told-true (at-within .within .ensures) (c .before .before .before .before .if1 .left), told-true (c .before .before .before .within2 .ensures) (c .before .before .if2 .left), told-false (c .before .within3 .ensures) (c .if3 .taken))
 
 row-bytes-requires : tie.Need-row-bytes-requires
 row-bytes-requires c κs = search needs
@@ -49,9 +55,13 @@ mul-frame c = rw (c .before .before .row-bytes .ensures) (omega (arith, limits (
 returns-4 : tie.Need-returns-4
 unfolding frameLength frameBytes
 returns-4 c =
+    let at-if = c .before .before .before .before .before in
+    let at-within = at-if .before in
+    let at-if-2 = at-within .before in
+    let at-within-2 = at-if-2 .before in
     simp (
-      told-true (c .before .before .before .before .before .before .before .before .within .ensures) (c .before .before .before .before .before .before .before .if1 .left),
-      told-true (c .before .before .before .before .before .before .within2 .ensures) (c .before .before .before .before .before .if2 .left),
+      told-true (at-within-2 .within .ensures) (at-if-2 .if1 .left),
+      told-true (at-within .within2 .ensures) (at-if .if2 .left),
       told-true (c .before .before .before .before .within3 .ensures) (c .before .before .before .if3 .left),
       c .before .before .row-bytes .ensures,
     )

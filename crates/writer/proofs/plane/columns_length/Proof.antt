@@ -4,10 +4,10 @@ use Prim.Native.Nat.{ℕ, _+_, _-_, _*_, _≤_, _<_}
 use mathlib.Core.List.{List}
 use mathlib.Core.Path.{_≡_}
 use lib.ListN.{length}
-use Rattle.column.specs.Count.{Counting, counting, counting-more, counting-last}
+use Rattle.column_writer.proofs.CountLaws.{Counting, counting, counting-more, counting-last}
 use Rattle.writer.specs.Write.{columnIn, columnsBytes}
-use Rattle.writer.specs.ColumnLaws.{plane-column}
-use Rattle.writer.specs.PlaneLaws.{columns-parts, columns-none, columns-start}
+use Rattle.writer.proofs.ColumnLaws.{plane-column}
+use Rattle.writer.proofs.PlaneLaws.{columns-parts, columns-none, columns-start}
 use borrow.Author.Needs.{needs}
 use Rattle.writer.proofs.plane.columns_length.Statement.{statement}
 use Rattle.writer.proofs.plane.columns_length.Tie as tie
@@ -45,7 +45,9 @@ length-at-requires : tie.Need-length-at-requires Inv-loop μ-loop
 length-at-requires c κs = plane-column (c .before .before .before .before .pre) _ (c .loop-test .taken)
 
 add-sum : tie.Need-add-sum Inv-loop μ-loop
-add-sum c = omega (arith, c .before .before .loop .inv .small, c .length-at .ensures .1, c .before .before .before .before .before .pre .wide)
+add-sum c =
+    let at-start = c .before .before .before .before .before in
+    omega (arith, c .before .before .loop .inv .small, c .length-at .ensures .1, at-start .pre .wide)
 
 add-column : tie.Need-add-column Inv-loop μ-loop
 add-column c = search needs

@@ -4,9 +4,10 @@ use Prim.Native.Nat.{ℕ, _+_, _-_, _*_, _≤_, _<_}
 use mathlib.Core.List.{List}
 use mathlib.Core.Path.{_≡_, refl, sym, _∙_}
 use lib.ListN.{length, getD, set, length-set}
-use Rattle.laws.specs.Store.{Copied, copied-none, copied-more, copied-all, over-whole}
+use Rattle.laws.specs.Store.{Copied}
+use Rattle.laws.proofs.StoreLaws.{copied-none, copied-more, copied-all, over-whole}
 use Rattle.writer.specs.Write.{columnAt}
-use Rattle.writer.specs.ColumnLaws.{length-column, getD-column}
+use Rattle.writer.proofs.ColumnLaws.{length-column, getD-column}
 use borrow.Author.Needs.{needs}
 use Rattle.writer.proofs.plane.copy_column.Statement.{statement}
 use Rattle.writer.proofs.plane.copy_column.Tie as tie

@@ -2,7 +2,7 @@
 use Prim.Native.Nat.{_-_}
 use mathlib.Core.Logic.{⊎-elim}
 use lib.ListN.{length}
-use Rattle.writer.specs.PlaneLaws.{Comparing, comparing, same-more, other-more, compared}
+use Rattle.writer.proofs.PlaneLaws.{Comparing, comparing, same-more, other-more, compared}
 use borrow.Author.Needs.{needs}
 use Rattle.writer.proofs.plane.equal.Statement.{statement}
 use Rattle.writer.proofs.plane.equal.Tie as tie
@@ -29,7 +29,9 @@ loop-less : tie.Need-loop-less Inv-loop μ-loop
 loop-less c = search needs
 
 loop-again : tie.Need-loop-again Inv-loop μ-loop
-loop-again c = ⊎-elim (λ w. rw (w .1) (other-more (c .before .before .before .before .loop .inv) (c .before .before .before .before .before .pre) (c .before .before .before .loop-test .taken) (w .0 .taken))) (λ w. rw (w .1) (same-more (c .before .before .before .before .loop .inv) (c .before .before .before .before .before .pre) (c .before .before .before .loop-test .taken) (w .0 .left))) (c .if1 .came)
+loop-again c =
+    let at-start = c .before .before .before .before .before in
+    ⊎-elim (λ w. rw (w .1) (other-more (c .before .before .before .before .loop .inv) (at-start .pre) (c .before .before .before .loop-test .taken) (w .0 .taken))) (λ w. rw (w .1) (same-more (c .before .before .before .before .loop .inv) (at-start .pre) (c .before .before .before .loop-test .taken) (w .0 .left))) (c .if1 .came)
 
 returns : tie.Need-returns Inv-loop μ-loop
 returns c = compared (c .before .loop .inv) (c .before .before .pre) (c .loop-test .left)

@@ -1,7 +1,7 @@
 -- `writer::plane::plane_length`: an unchanged plane has no list.
 use mathlib.Core.Path.{sym, ap, _∙_}
 use lib.ListN.{length}
-use Rattle.writer.specs.PlaneLaws.{plane-unchanged, plane-changed}
+use Rattle.writer.proofs.PlaneLaws.{plane-unchanged, plane-changed}
 use native.Mathlib.Omega.{arith}
 use borrow.Author.Needs.{needs}
 use Rattle.writer.proofs.plane.plane_length.Statement.{statement}
@@ -17,7 +17,9 @@ columns-length-requires : tie.Need-columns-length-requires
 columns-length-requires c κs = search needs
 
 returns-2 : tie.Need-returns-2
-returns-2 c = (c .columns-length .ensures .0 ∙ sym (ap length (plane-changed _ _ _ _ _ (c .before .before .unchanged .ensures) (c .before .if1 .left))), omega (arith, c .columns-length .ensures .1, c .before .before .before .before .before .pre .wide))
+returns-2 c =
+    let at-start = c .before .before .before .before .before in
+    (c .columns-length .ensures .0 ∙ sym (ap length (plane-changed _ _ _ _ _ (c .before .before .unchanged .ensures) (c .before .if1 .left))), omega (arith, c .columns-length .ensures .1, at-start .pre .wide))
 
 pub plane-length-spec : {M : Type 1} → statement M
 plane-length-spec =

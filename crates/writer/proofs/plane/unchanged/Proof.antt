@@ -41,7 +41,9 @@ equal-requires : tie.Need-equal-requires
 equal-requires c κs = search needs
 
 returns : tie.Need-returns
-returns c = planes (c .before .before .before .before .before .args .old .now) (c .before .before .before .before .before .args .new .now) (c .before .before .before .before .before .args .at) (c .before .before .before .before .before .args .height * c .before .before .before .before .before .args .row) (c .equal .ensures)
+returns c =
+    let at-start = c .before .before .before .before .before in
+    planes (at-start .args .old .now) (at-start .args .new .now) (at-start .args .at) (at-start .args .height * at-start .args .row) (c .equal .ensures)
 
 pub unchanged-spec : {M : Type 1} → statement M
 unchanged-spec =

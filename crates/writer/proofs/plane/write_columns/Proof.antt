@@ -1,10 +1,10 @@
 -- `writer::plane::write_columns`: the columns that are left, from here, come to the whole.
 use native.Mathlib.Omega.{arith}
 use Prim.Native.Nat.{_+_, _-_}
-use Rattle.laws.specs.Put.{Putting, putting, putting-room, putting-more, putting-last}
+use Rattle.laws.proofs.PutLaws.{Putting, putting, putting-room, putting-more, putting-last}
 use Rattle.writer.specs.Write.{columnsBytes}
-use Rattle.writer.specs.ColumnLaws.{plane-column}
-use Rattle.writer.specs.PlaneLaws.{columns-parts, columns-none, columns-start}
+use Rattle.writer.proofs.ColumnLaws.{plane-column}
+use Rattle.writer.proofs.PlaneLaws.{columns-parts, columns-none, columns-start}
 use borrow.Author.Needs.{needs}
 use Rattle.writer.proofs.plane.write_columns.Statement.{statement}
 use Rattle.writer.proofs.plane.write_columns.Tie as tie
@@ -19,10 +19,14 @@ loop-holds : tie.Need-loop-holds Inv-loop μ-loop
 loop-holds c = rw (columns-start (c .before .before .before .args .old .now) (c .before .before .before .args .new .now) (c .before .before .before .args .row) (c .before .before .before .args .height) (c .before .before .before .args .at)) (putting (c .before .before .before .pre .1))
 
 add-write-at : tie.Need-add-write-at Inv-loop μ-loop
-add-write-at c = omega (arith, c .before .before .before .before .before .before .pre .0 .inNew, c .before .before .before .before .before .before .pre .0 .most, c .before .before .before .before .before .before .pre .0 .wide)
+add-write-at c =
+    let at-start = c .before .before .before .before .before .before in
+    omega (arith, at-start .pre .0 .inNew, at-start .pre .0 .most, at-start .pre .0 .wide)
 
 write-at-requires : tie.Need-write-at-requires Inv-loop μ-loop
-write-at-requires c κs = (plane-column (c .before .before .before .before .before .before .pre .0) _ (c .before .loop-test .taken), putting-room (c .before .before .loop .inv) (columns-parts _ _ _ _ _ _ (c .before .loop-test .taken)))
+write-at-requires c κs =
+    let at-start = c .before .before .before .before .before .before in
+    (plane-column (at-start .pre .0) _ (c .before .loop-test .taken), putting-room (c .before .before .loop .inv) (columns-parts _ _ _ _ _ _ (c .before .loop-test .taken)))
 
 add-column : tie.Need-add-column Inv-loop μ-loop
 add-column c = search needs
@@ -31,7 +35,9 @@ loop-less : tie.Need-loop-less Inv-loop μ-loop
 loop-less c = search needs
 
 loop-again : tie.Need-loop-again Inv-loop μ-loop
-loop-again c = putting-more (c .before .before .before .before .before .loop .inv) (columns-parts _ _ _ _ _ _ (c .before .before .before .before .loop-test .taken)) (c .before .before .write-at .ensures)
+loop-again c =
+    let at-loop = c .before .before .before .before .before in
+    putting-more (at-loop .loop .inv) (columns-parts _ _ _ _ _ _ (c .before .before .before .before .loop-test .taken)) (c .before .before .write-at .ensures)
 
 same-length : tie.Need-same-length Inv-loop μ-loop
 same-length c = search needs

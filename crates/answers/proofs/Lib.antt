@@ -1,0 +1,6 @@
+pub mod InTable
+pub mod DeltaTable
+pub mod Table
+pub mod AnswerLaws
+pub mod Answered
+pub mod Never44

@@ -1,1 +1,0 @@
-// The bench examples of document 01, as one table about the definitions: see specs/. There is no code here.

@@ -1,0 +1,4 @@
+pub mod ByteRunLaws
+pub mod BodyLaws
+pub mod WalkLaws
+pub mod PlainLaws

@@ -1,0 +1,124 @@
+-- `body::draw_rows`: line, plane and place are those of the row that comes next, and drawing what is left comes to drawing all.
+use Prim.Native.Nat.{_+_, _-_, _*_}
+use native.Mathlib.Omega.{arith}
+use mathlib.Core.Path.{_≡_, refl, sym, _∙_}
+use lib.ListN.{length}
+use Rattle.laws.proofs.ResultLaws.{told}
+use Rattle.body.specs.Walk.{tookOf}
+use Rattle.body.proofs.WalkLaws.{behind, behind-fault, Walking, walking-starts, lines-small, walking-fits, walking-down, walking-on, walking-stop, walking-end, spot-before}
+use borrow.Author.Needs.{needs}
+use Rattle.body.proofs.draw_rows.Statement.{statement}
+use Rattle.body.proofs.draw_rows.Tie as tie
+
+abbrev Inv-loop : tie.InvT-loop
+Inv-loop frame₀ s sizes packed row height down at₀ line₀ plane₀ place₀ frame at line plane place =
+    (length frame ≡ length frame₀) × Walking packed sizes s frame₀ frame at line plane place
+
+abbrev μ-loop : tie.MeasureT-loop
+μ-loop frame₀ s sizes packed row height down at₀ line₀ plane₀ place₀ frame at line plane place = sizes .height * sizes .planes - (line * sizes .planes + plane)
+
+row-bytes-requires : tie.Need-row-bytes-requires Inv-loop μ-loop
+row-bytes-requires c κs = search needs
+
+mul-down : tie.Need-mul-down Inv-loop μ-loop
+mul-down c = omega (arith, lines-small (c .before .before .before .args .sizes) (c .before .before .before .args .sizes .height) (c .before .before .before .pre) (c .row-bytes .ensures) (omega arith))
+
+loop-holds : tie.Need-loop-holds Inv-loop μ-loop
+loop-holds c = (refl, walking-starts (c .before .before .before .pre .planes-least))
+
+take-row-requires : tie.Need-take-row-requires Inv-loop μ-loop
+take-row-requires c κs = let l = c .before in omega (arith, walking-fits (l .before .loop .inv .1) (l .before .before .row-bytes .ensures) (l .loop-test .taken) (l .before .before .before .before .before .pre), l .before .loop .inv .0)
+
+enum-told : tie.Need-enum-told Inv-loop μ-loop
+enum-told c = search needs
+
+same-length : tie.Need-same-length Inv-loop μ-loop
+same-length c = search needs
+
+returns : tie.Need-returns Inv-loop μ-loop
+returns c =
+    let l = c .before .before .before .before .before .before in
+    walking-stop (l .before .loop .inv .1) (l .before .before .row-bytes .ensures) (l .loop-test .taken)
+    (behind-fault (sym (told tookOf (c .before .before .before .before .take-row .ensures .0) (c .enum-told .given .1)))) _
+
+enum-known-t : tie.Need-enum-known-t Inv-loop μ-loop
+enum-known-t c = search needs
+
+add-plane : tie.Need-add-plane Inv-loop μ-loop
+add-plane c =
+    let at-loop = c .before .before .before .before .before .before .before .before in
+    let at-start = at-loop .before .before .before .before in
+    omega (arith, at-loop .loop .inv .1 .inside, at-start .pre .planes-most)
+
+add-place : tie.Need-add-place Inv-loop μ-loop
+add-place c =
+    let l = c .before .before .before .before .before .before .before in
+    let z = l .before .before .before .before .before .args .sizes in
+    omega (arith, walking-fits (l .before .loop .inv .1) (l .before .before .row-bytes .ensures) (l .loop-test .taken) (l .before .before .before .before .before .pre), lines-small z (z .height) (l .before .before .before .before .before .pre) (l .before .before .row-bytes .ensures) (omega arith), l .before .before .before .before .before .pre .length-most)
+
+add-line : tie.Need-add-line Inv-loop μ-loop
+add-line c = omega arith
+
+mul-place : tie.Need-mul-place Inv-loop μ-loop
+mul-place c =
+    let l = c .before .before .before .before .before .before .before .before .before in
+    omega (arith, lines-small (l .before .before .before .before .before .args .sizes) (l .before .loop .line + 1) (l .before .before .before .before .before .pre) (l .before .before .row-bytes .ensures) (omega (arith, l .loop-test .taken)))
+
+loop-less : tie.Need-loop-less Inv-loop μ-loop
+loop-less c =
+    let l = c .before .before .before .before .before .before .before .before .before in
+    omega (arith, spot-before _ _ _ _ (l .loop-test .taken) (l .before .loop .inv .1 .inside))
+
+loop-again : tie.Need-loop-again Inv-loop μ-loop
+loop-again c =
+    let at-take-row = c .before .before .before .before .before .before .before in
+    let t = at-take-row .take-row in
+    let l = c .before .before .before .before .before .before .before .before .before in (
+      t .kept .0 ∙ l .before .loop .inv .0,
+      walking-down (l .before .loop .inv .1) (l .before .before .row-bytes .ensures) (l .loop-test .taken) (c .if1 .taken) (behind (sym (told tookOf (t .ensures .0) (c .before .before .before .t .given .1)))) (t .ensures .1),
+    )
+
+loop-less-2 : tie.Need-loop-less-2 Inv-loop μ-loop
+loop-less-2 c =
+    let l = c .before .before .before .before .before .before .before .before .before in
+    omega (arith, spot-before _ _ _ _ (l .loop-test .taken) (l .before .loop .inv .1 .inside))
+
+loop-again-2 : tie.Need-loop-again-2 Inv-loop μ-loop
+loop-again-2 c =
+    let at-take-row = c .before .before .before .before .before .before .before in
+    let t = at-take-row .take-row in
+    let l = c .before .before .before .before .before .before .before .before .before in (
+      t .kept .0 ∙ l .before .loop .inv .0,
+      walking-on (l .before .loop .inv .1) (l .before .before .row-bytes .ensures) (l .loop-test .taken) (c .if1 .left) (behind (sym (told tookOf (t .ensures .0) (c .before .before .before .t .given .1)))) (t .ensures .1),
+    )
+
+same-length-2 : tie.Need-same-length-2 Inv-loop μ-loop
+same-length-2 c = search needs
+
+returns-2 : tie.Need-returns-2 Inv-loop μ-loop
+returns-2 c = walking-end (c .before .loop .inv .1) (c .loop-test .left)
+
+pub draw-rows-spec : {M : Type 1} → statement M
+draw-rows-spec =
+    tie.close
+    (tie.spec
+    Inv-loop
+    μ-loop
+    row-bytes-requires
+    mul-down
+    loop-holds
+    take-row-requires
+    enum-told
+    same-length
+    returns
+    enum-known-t
+    add-plane
+    add-place
+    add-line
+    mul-place
+    loop-less
+    loop-again
+    loop-less-2
+    loop-again-2
+    same-length-2
+    returns-2)

@@ -1,0 +1,3 @@
+pub mod ByteRun
+pub mod Body
+pub mod Walk

@@ -1,0 +1,114 @@
+-- How long a column can be: three bytes for two rows, and two bytes more. A Uniq of one row has two bytes, and between two Uniqs
+-- lies a Skip or a Same, which makes up for it.
+use Prim.Native.Nat.{ℕ, suc, _+_, _-_, _*_, _/_, _≤_}
+use native.Mathlib.Omega.{arith}
+use mathlib.Core.Bool.{Bool, true, false}
+use mathlib.Core.List.{List, [], _∷_}
+use mathlib.Core.Path.{_≡_, refl, ap, _∙_}
+use lib.Dec.{leb, eqb}
+use lib.ListN.{length, replicate, length-append, length-replicate}
+use borrow.Author.Tests.{leb-true}
+use Rattle.runs.specs.Runs.{Run, runsOf, Fit}
+use Rattle.runs.proofs.PatchLaws.{fit-old}
+use Rattle.column_writer.specs.Column.{Op, Op.skip, Op.uniq, Op.same, Group, join, groupsOf, loose, stretch, cut, cutAll, opsOf, opsBytes, columnOps, columnBytes}
+use Rattle.column_writer.proofs.CutLaws.{length-bytes-append, skip-count, skip-bytes, same-count, same-bytes, uniq-count, uniq-bytes}
+
+-- how many bytes ops have once they are cut
+size : List Op → ℕ
+size os = length (opsBytes (cutAll os))
+
+size-none : size [] ≡ 0
+unfolding size cutAll opsBytes
+size-none = refl
+
+size-first : (o : Op) (os : List Op) → size (o ∷ os) ≡ length (opsBytes (cut o)) + size os
+unfolding size cutAll
+size-first o os = length-bytes-append (cut o) (cutAll os)
+
+-- ops over n rows: those after a Uniq in front have three bytes for two rows
+Tight : ℕ → List Op → Type 0
+Tight n [] = Unit {0}
+Tight n (skip g ∷ os) = 2 * size (skip g ∷ os) ≤ 3 * n
+Tight n (uniq vs ∷ os) = 2 * size os + 3 * length vs ≤ 3 * n
+Tight n (same m v ∷ os) = 2 * size (same m v ∷ os) ≤ 3 * n
+
+tight-size : (n : ℕ) (os : List Op) → Tight n os → 2 * size os ≤ 3 * n + 1
+unfolding Tight
+tight-size n [] t = omega (arith, size-none)
+tight-size n (skip g ∷ os) t = omega (arith, t)
+tight-size n (uniq vs ∷ os) t = omega (arith, t, size-first (uniq vs) os, uniq-bytes vs, uniq-count vs)
+tight-size n (same m v ∷ os) t = omega (arith, t)
+
+tight-loose : (n : ℕ) (vs : List ℕ) (os : List Op) → Tight n os → Tight (length vs + n) (loose vs os)
+unfolding Tight loose
+tight-loose n vs [] t = omega (arith, size-none)
+tight-loose n vs (skip g ∷ os) t = omega (arith, t)
+tight-loose n vs (uniq ws ∷ os) t = omega (arith, t, length-append vs ws)
+tight-loose n vs (same m v ∷ os) t = omega (arith, t)
+
+-- a stretch of changed rows
+rowsOf : List Group → ℕ
+rowsOf [] = 0
+rowsOf (g ∷ gs) = g .rows + rowsOf gs
+
+rows-join : (v : ℕ) (gs : List Group) → rowsOf (join v gs) ≡ suc (rowsOf gs)
+unfolding rowsOf join
+rows-join v [] = refl
+rows-join v (g ∷ gs) = go (eqb v (g .value)) refl
+  where
+    go : (t : Bool) → eqb v (g .value) ≡ t → rowsOf (join v (g ∷ gs)) ≡ suc (g .rows + rowsOf gs)
+    go true e = rw (e, join) (omega arith)
+    go false e = rw (e, join) (omega arith)
+
+rows-groups : (vs : List ℕ) → rowsOf (groupsOf vs) ≡ length vs
+unfolding rowsOf groupsOf
+rows-groups [] = refl
+rows-groups (v ∷ vs) = rows-join v (groupsOf vs) ∙ ap suc (rows-groups vs)
+
+tight-stretch : (gs : List Group) → Tight (rowsOf gs) (stretch gs)
+unfolding rowsOf stretch Tight
+tight-stretch [] = tt
+tight-stretch (g ∷ gs) = go (leb 4 (g .rows)) refl (tight-stretch gs)
+  where
+    go : (t : Bool) → leb 4 (g .rows) ≡ t → Tight (rowsOf gs) (stretch gs) → Tight (g .rows + rowsOf gs) (stretch (g ∷ gs))
+    go true e t =
+        let n : 4 ≤ g .rows = leb-true 4 (g .rows) e in
+        rw (e, stretch) (omega (arith, n, tight-size (rowsOf gs) (stretch gs) t, size-first (same (g .rows) (g .value)) (stretch gs), same-bytes (g .rows) (g .value), same-count (g .rows) (g .value)))
+    go false e t = rw (e, stretch) (rw (length-replicate (g .rows) (g .value)) at (tight-loose (rowsOf gs) (replicate (g .rows) (g .value)) (stretch gs) t))
+
+-- the ops of a run, of runs that all have a gap, and of all runs
+run-size : (r : Run) (rs : List Run) → 2 * length (opsBytes (opsOf (r ∷ rs))) ≤ 2 * ((r .gap + 126) / 127) + 3 * length (r .bytes) + 1 + 2 * length (opsBytes (opsOf rs))
+unfolding opsOf size
+run-size r rs =
+    let s : List Op = stretch (groupsOf (r .bytes)) in
+    omega (
+      arith,
+      length-bytes-append (cutAll (skip (r .gap) ∷ s)) (opsOf rs),
+      size-first (skip (r .gap)) s,
+      skip-bytes (r .gap),
+      skip-count (r .gap),
+      tight-size (rowsOf (groupsOf (r .bytes))) s (tight-stretch (groupsOf (r .bytes))),
+      rows-groups (r .bytes),
+    )
+
+later-size : (n : ℕ) (rs : List Run) → Fit 1 n rs → 2 * length (opsBytes (opsOf rs)) ≤ 3 * n
+unfolding Fit
+later-size n [] h = unfold opsOf opsBytes in omega arith
+later-size n (r ∷ rs) h = omega (arith, h .0, h .2, run-size r rs, later-size (n - (r .gap + length (r .bytes))) rs (h .3))
+
+ops-size : (n : ℕ) (rs : List Run) → Fit 0 n rs → 2 * length (opsBytes (opsOf rs)) ≤ 3 * n + 1
+unfolding Fit
+ops-size n [] h = unfold opsOf opsBytes in omega arith
+ops-size n (r ∷ rs) h = omega (arith, h .2, run-size r rs, later-size (n - (r .gap + length (r .bytes))) rs (h .3))
+
+-- a column's ops, and the column
+pub ops-short : (old new : List ℕ) → 2 * length (opsBytes (opsOf (runsOf new old))) ≤ 3 * length new + 1
+ops-short old new = ops-size (length new) (runsOf new old) (fit-old new old)
+
+pub column-short : (old new : List ℕ) → length (columnBytes old new) ≤ length new + length new / 2 + 2
+unfolding columnBytes columnOps
+column-short old new = go (leb (length (opsOf (runsOf new old))) 255) refl
+  where
+    go : (t : Bool) → leb (length (opsOf (runsOf new old))) 255 ≡ t → length (columnBytes old new) ≤ length new + length new / 2 + 2
+    go true e = rw (e, columnBytes, columnOps) (omega (arith, ops-short old new))
+    go false e = rw (e, columnBytes, columnOps) (unfold cut in omega (arith, uniq-bytes new, uniq-count new))

@@ -1,0 +1,10 @@
+pub mod BoundLaws
+pub mod ValidColumn
+pub mod ColumnLaws
+pub mod CountLaws
+pub mod WalkLaws
+pub mod CutLaws
+pub mod PlanLaws
+pub mod PlaceLaws
+pub mod LengthLaws
+pub mod FillLaws

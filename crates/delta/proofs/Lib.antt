@@ -1,0 +1,6 @@
+pub mod DeltaLaws
+pub mod WalkLaws
+pub mod FillLaws
+pub mod WordLaws
+pub mod ApplyLaws
+pub mod NoneLaws

@@ -1,0 +1,148 @@
+-- Laws of chunks: a whole chunk lies within its parent, and so does what a search finds; chunks of two ids don't overlap.
+use Prim.Native.Nat.{ℕ, _+_, _-_, _≤_}
+use native.Mathlib.Omega.{arith}
+use mathlib.Core.Bool.{Bool, true, false}
+use mathlib.Core.Path.{_≡_, refl, sym, ap, _∙_}
+use mathlib.Core.List.{List, [], _∷_, _++_}
+use mathlib.Core.Option.{Option, none, some}
+use lib.Dec.{leb, eqb}
+use lib.ListN.{length}
+use borrow.Author.Tests.{leb-true, eqb-true}
+use Rattle.laws.specs.Result.{Res, Res.ok, Res.fault, _>>=_, orRefuse, pick, Each, Each.each, Each.no-value, All, All.all-some, All.all-none}
+use Rattle.laws.specs.Every.{Every, Every.every-none, Every.every-cons}
+use Rattle.laws.proofs.EveryLaws.{every-more}
+use Rattle.laws.proofs.ResultLaws.{each-need, each-ok, each-pick, each-bind, each-self, pick-both, all-value, each-some}
+use Rattle.laws.proofs.LoopLaws.{Going, starts, turns, stops, Comes, Comes.comes-next, Comes.comes-done, iterate-holds}
+use Rattle.laws.specs.Bytes.{be32}
+use Rattle.iff.specs.Chunk.{Chunk, padded, chunkAt, Walk, walkOn, walkStep, chunks, Part, partOf, first, find, orPart, Within, Lies}
+
+pub chunk-within : (s : List ℕ) (at : ℕ) → Each (All (Within s at)) (chunkAt s at)
+unfolding chunkAt
+chunk-within s at =
+    each-pick (leb (length s) at) (λ _. each all-none)
+    (λ _. each-need (leb (at + 8) (length s)) 21 _ λ _. each-need (leb (at + 8 + padded (be32 s (at + 4))) (length s)) 21 _ λ h.
+    each (all-some (record { starts = omega arith; holds = omega arith; rises = omega arith; ends = leb-true (at + 8 + padded (be32 s (at + 4))) (length s) h })))
+
+-- the bytes that chunks take in their parent, without their pads
+abbrev taken : List Chunk → ℕ
+taken [] = 0
+taken (c ∷ cs) = c .size + 8 + taken cs
+
+taken-more : (cs : List Chunk) (c : Chunk) → taken (cs ++ (c ∷ [])) ≡ taken cs + (c .size + 8)
+taken-more [] c = omega arith
+taken-more (d ∷ cs) c = omega (arith, taken-more cs c)
+
+-- chunks up to a place of a parent lie within it, and don't overlap
+record Before (s : List ℕ) (at : ℕ) (cs : List Chunk) : Type 0 where
+  inside : at ≤ length s
+  lie : Every (λ (c : Chunk). Lies s (partOf c)) cs
+  room : taken cs ≤ at
+
+walk-before : (s : List ℕ) (w : Walk) → Before s (w .at) (w .passed) → (r : Res (Option Chunk)) → Each (All (Within s (w .at))) r
+    → Comes (λ (v : Walk). Before s (v .at) (v .passed)) (Each (Before s (length s))) (walkOn w r)
+walk-before s w b (ok none) h = comes-done (each (record { inside = omega arith; lie = b .lie; room = omega arith }))
+walk-before s w b (ok (some c)) h =
+    let k : Within s (w .at) c = all-value (each-ok h) in
+    comes-next (record { inside = k .ends; lie = every-more {x = c} (b .lie) (record { ends = omega arith }); room = rw (taken-more (w .passed) c) (omega arith) })
+walk-before s w b (fault n) h = comes-done no-value
+
+chunks-before : (s : List ℕ) → Each (Before s (length s)) (chunks s)
+unfolding chunks
+chunks-before s =
+    iterate-holds (walkStep s) (λ w. length s - w .at) (fault 21) (λ (w : Walk). Before s (w .at) (w .passed)) (Each (Before s (length s))) no-value
+    (λ w b. walk-before s w b (chunkAt s (w .at)) (chunk-within s (w .at))) (record { at = 0; passed = [] }) (record { inside = omega arith; lie = every-none; room = omega arith })
+
+first-lies : (id : ℕ) {s : List ℕ} {cs : List Chunk} → Every (λ (c : Chunk). Lies s (partOf c)) cs → All (Lies s) (first id cs)
+first-lies id every-none = all-none
+first-lies id {s} (every-cons {x = c} p ps) = pick-both (All (Lies s)) (eqb (c .id) id) (all-some p) (first-lies id ps)
+
+pub find-lies : (id : ℕ) (s : List ℕ) → Each (All (Lies s)) (find id s)
+unfolding find
+find-lies id s = each-bind (chunks-before s) λ cs b. each (first-lies id (b .lie))
+
+pub found : (n id : ℕ) (s : List ℕ) → Each (λ (p : Part). find id s ≡ ok (some p)) (find id s >>= orRefuse n)
+found n id s = each-bind (each-self (find id s)) go
+  where
+    go : (o : Option Part) → find id s ≡ ok o → Each (λ (p : Part). find id s ≡ ok (some p)) (orRefuse n o)
+    go (some p) e = each e
+    go none e = no-value
+
+-- the bytes of a chunk that was found, with its header
+abbrev bytes : Option Part → ℕ
+bytes (some p) = p .size + 8
+bytes none = 0
+
+one-fits : (id : ℕ) (cs : List Chunk) → bytes (first id cs) ≤ taken cs
+one-fits id [] = omega arith
+one-fits id (c ∷ cs) = pick-both (λ o. bytes o ≤ c .size + 8 + taken cs) (eqb (c .id) id) (omega arith) (omega (arith, one-fits id cs))
+
+module _ (x y : ℕ) (differ : x ≡ y → ⊥) where
+  both-fit : (cs : List Chunk) → bytes (first x cs) + bytes (first y cs) ≤ taken cs
+  both-fit [] = omega arith
+  both-fit (c ∷ cs) = go (eqb (c .id) x) refl (eqb (c .id) y) refl (both-fit cs)
+    where
+      go : (t : Bool) → eqb (c .id) x ≡ t → (u : Bool) → eqb (c .id) y ≡ u → bytes (first x cs) + bytes (first y cs) ≤ taken cs
+          → bytes (pick t (some (partOf c)) (first x cs)) + bytes (pick u (some (partOf c)) (first y cs)) ≤ c .size + 8 + taken cs
+      go true p true q h = absurd (differ (sym (eqb-true (c .id) x p) ∙ eqb-true (c .id) y q))
+      go true p false q h = omega (arith, one-fits y cs)
+      go false p true q h = omega (arith, one-fits x cs)
+      go false p false q h = omega arith
+
+  -- so two chunks that a parent has leave room for their headers
+  pub parts-room : (s : List ℕ) (p q : Part) → find x s ≡ ok (some p) → find y s ≡ ok (some q) → p .size + 8 + (q .size + 8) ≤ length s
+  unfolding find
+  parts-room s p q e f = go (chunks s) (chunks-before s) e f
+    where
+      go : (r : Res (List Chunk)) → Each (Before s (length s)) r → (r >>= λ cs. ok (first x cs)) ≡ ok (some p) → (r >>= λ cs. ok (first y cs)) ≡ ok (some q)
+          → p .size + 8 + (q .size + 8) ≤ length s
+      go (ok cs) (each b) e f =
+          let g : first x cs ≡ some p = cc in
+          let h : first y cs ≡ some q = cc in
+          omega (arith, b .room, rw (g, h) at (both-fit cs))
+      go (fault n) h e f = let z : _≡_ {A = ℕ} 0 1 = cc in absurd (omega arith)
+
+-- the first chunk of an id in a list with one chunk more
+first-more : (id : ℕ) (cs : List Chunk) (c : Chunk) → ok (first id (cs ++ (c ∷ []))) ≡ pick (eqb (c .id) id) (orPart (ok (first id cs)) (partOf c)) (ok (first id cs))
+first-more id [] c = go (eqb (c .id) id)
+  where
+    go : (t : Bool) → ok (pick t (some (partOf c)) none) ≡ pick t (ok (some (partOf c))) (ok none)
+    go true = refl
+    go false = refl
+first-more id (d ∷ cs) c = go (eqb (d .id) id) (eqb (c .id) id) (first-more id cs c)
+  where
+    go : (u t : Bool) → ok (first id (cs ++ (c ∷ []))) ≡ pick t (orPart (ok (first id cs)) (partOf c)) (ok (first id cs))
+        → ok (pick u (some (partOf d)) (first id (cs ++ (c ∷ [])))) ≡ pick t (orPart (ok (pick u (some (partOf d)) (first id cs))) (partOf c)) (ok (pick u (some (partOf d)) (first id cs)))
+    go true true h = refl
+    go true false h = refl
+    go false t h = h
+
+-- a walk at a place, and what the searches for two ids have found up to it
+pub record Searches (s : List ℕ) (x y at : ℕ) (p q : Res (Option Part)) : Type 0 where
+  pub before : List Chunk
+  pub going : Going (walkStep s) (λ w. length s - w .at) (fault 21) (chunks s) (record { at = at; passed = before })
+  pub one : p ≡ ok (first x before)
+  pub other : q ≡ ok (first y before)
+
+pub search-starts : (s : List ℕ) (x y : ℕ) → Searches s x y 0 (ok none) (ok none)
+unfolding chunks
+search-starts s x y = record { before = []; going = starts refl; one = refl; other = refl }
+
+module _ {s : List ℕ} {x y at : ℕ} {p q : Res (Option Part)} (h : Searches s x y at p q) where
+  pub search-past : {c : Chunk} → chunkAt s at ≡ ok (some c)
+      → Searches s x y (c .next) (pick (eqb (c .id) x) (orPart p (partOf c)) p) (pick (eqb (c .id) y) (orPart q (partOf c)) q)
+  search-past {c} e =
+      let k : Within s at c = each-some e (chunk-within s at) in
+      record {
+        before = h .before ++ (c ∷ []);
+        going = turns (h .going) (ap (walkOn _) e) (omega (arith, k .rises, k .ends));
+        one = rw (h .one) (sym (first-more x (h .before) c));
+        other = rw (h .other) (sym (first-more y (h .before) c));
+      }
+
+  pub search-ends : chunkAt s at ≡ ok none → (p ≡ find x s) × (q ≡ find y s)
+  unfolding find
+  search-ends e = let d : ok (h .before) ≡ chunks s = stops (h .going) (ap (walkOn _) e) in (rw (← d) (h .one), rw (← d) (h .other))
+
+  pub search-breaks : {n : ℕ} → chunkAt s at ≡ fault n → (fault n ≡ find x s) × (fault n ≡ find y s)
+  unfolding find
+  search-breaks {n} e = let d : fault n ≡ chunks s = stops (h .going) (ap (walkOn _) e) in (rw (← d) refl, rw (← d) refl)

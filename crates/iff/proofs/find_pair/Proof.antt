@@ -1,0 +1,71 @@
+-- `iff::find_pair`: each turn is one of the walk, with what both searches have found so far.
+use Prim.Native.Nat.{_-_}
+use lib.ListN.{length}
+use Rattle.laws.proofs.ResultLaws.{each-some, told}
+use Rattle.iff.specs.Chunk.{standingOf, foundOf}
+use Rattle.iff.proofs.ChunkLaws.{chunk-within, Searches, search-starts, search-past, search-ends, search-breaks}
+use borrow.Author.Needs.{needs}
+use native.Mathlib.Omega.{arith}
+use Rattle.iff.proofs.find_pair.Statement.{statement}
+use Rattle.iff.proofs.find_pair.Tie as tie
+
+abbrev Inv-loop : tie.InvT-loop
+Inv-loop s first second at₀ p₀ q₀ at p q = Searches s first second at (foundOf p) (foundOf q)
+
+abbrev μ-loop : tie.MeasureT-loop
+μ-loop s first second at₀ p₀ q₀ at p q = length s - at
+
+loop-holds : tie.Need-loop-holds Inv-loop μ-loop
+loop-holds c = search-starts _ _ _
+
+chunk-at-requires : tie.Need-chunk-at-requires Inv-loop μ-loop
+chunk-at-requires c κs = search needs
+
+enum-told : tie.Need-enum-told Inv-loop μ-loop
+enum-told c = search needs
+
+returns : tie.Need-returns Inv-loop μ-loop
+returns c = search-ends (c .before .before .before .loop .inv) (told standingOf (c .before .before .chunk-at .ensures) (c .enum-told .given .1))
+
+enum-known-c : tie.Need-enum-known-c Inv-loop μ-loop
+enum-known-c c = search needs
+
+returns-2 : tie.Need-returns-2 Inv-loop μ-loop
+returns-2 c = search-breaks (c .before .before .before .before .loop .inv) (told standingOf (c .before .before .before .chunk-at .ensures) (c .before .c .given .1))
+
+enum-known-c-2 : tie.Need-enum-known-c-2 Inv-loop μ-loop
+enum-known-c-2 c = search needs
+
+or-part-requires : tie.Need-or-part-requires Inv-loop μ-loop
+or-part-requires c κs = search needs
+
+or-part-requires-2 : tie.Need-or-part-requires-2 Inv-loop μ-loop
+or-part-requires-2 c κs = search needs
+
+loop-less : tie.Need-loop-less Inv-loop μ-loop
+loop-less c =
+    let k = c .before .before .before in
+    omega (arith, each-some (told standingOf (k .before .before .chunk-at .ensures) (k .c2 .given .1)) (chunk-within _ _))
+
+loop-again : tie.Need-loop-again Inv-loop μ-loop
+loop-again c =
+    let k = c .before .before .before in
+    rw (c .before .or-part .ensures, c .or-part2 .ensures) (search-past (k .before .before .before .loop .inv) (told standingOf (k .before .before .chunk-at .ensures) (k .c2 .given .1)))
+
+pub find-pair-spec : {M : Type 1} → statement M
+find-pair-spec =
+    tie.close
+    (tie.spec
+    Inv-loop
+    μ-loop
+    loop-holds
+    chunk-at-requires
+    enum-told
+    returns
+    enum-known-c
+    returns-2
+    enum-known-c-2
+    or-part-requires
+    or-part-requires-2
+    loop-less
+    loop-again)

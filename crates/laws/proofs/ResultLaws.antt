@@ -1,0 +1,100 @@
+-- Laws of results: what holds of a chain's value, if it comes to one.
+use Prim.Native.Nat.{ℕ}
+use native.Mathlib.Omega.{arith}
+use mathlib.Core.Path.{_≡_, refl, sym, ap, _∙_, subst}
+use mathlib.Core.Bool.{Bool, true, false, not, _&&_}
+use mathlib.Core.Option.{Option, none, some}
+use borrow.Author.Tests.{not-true, not-false}
+use Rattle.laws.specs.Result.{Res, Res.ok, Res.fault, _>>=_, need, answer, pick, _>>?_, given, Each, Each.each, Each.no-value, All, All.all-some}
+
+-- a test doesn't come out both ways
+pub false-true : {A : Type 0} → false ≡ true → A
+false-true e = let z : _≡_ {A = ℕ} 0 1 = cc in absurd (omega arith)
+
+-- a result is the value that it comes to
+pub each-self : {A : Type 0} (r : Res A) → Each (λ (a : A). r ≡ ok a) r
+each-self (ok a) = each refl
+each-self (fault n) = no-value
+
+pub each-bind : {A B : Type 0} {P : A → Type 0} {Q : B → Type 0} {r : Res A} {f : A → Res B} → Each P r → ((a : A) → P a → Each Q (f a)) → Each Q (r >>= f)
+each-bind (each {a = a} p) q = q a p
+each-bind no-value q = no-value
+
+pub each-need : {B : Type 0} {Q : B → Type 0} (t : Bool) (n : ℕ) (f : Unit {0} → Res B) → (t ≡ true → Each Q (f tt)) → Each Q (need t n >>= f)
+each-need true n f q = q refl
+each-need false n f q = no-value
+
+pub each-any : {A B : Type 0} {Q : B → Type 0} (r : Res A) {f : A → Res B} → ((a : A) → Each Q (f a)) → Each Q (r >>= f)
+each-any (ok a) q = q a
+each-any (fault n) q = no-value
+
+pub each-map : {A : Type 0} {P Q : A → Type 0} {r : Res A} → ((a : A) → P a → Q a) → Each P r → Each Q r
+each-map q (each {a = a} p) = each (q a p)
+each-map q no-value = no-value
+
+pub each-ok : {A : Type 0} {P : A → Type 0} {a : A} → Each P (ok a) → P a
+each-ok (each p) = p
+
+pub each-is : {A : Type 0} {P : A → Type 0} {r : Res A} {a : A} → r ≡ ok a → Each P r → P a
+each-is {P = P} e p = each-ok (subst (Each P) e p)
+
+-- what a function that answered a test says of it, where a branch asked for the negation
+pub told-false : {r t : Bool} → r ≡ t → not r ≡ true → t ≡ false
+told-false {r} e h = sym e ∙ not-true r h
+
+pub told-true : {r t : Bool} → r ≡ t → not r ≡ false → t ≡ true
+told-true {r} e h = sym e ∙ not-false r h
+
+pub all-value : {A : Type 0} {P : A → Type 0} {a : A} → All P (some a) → P a
+all-value (all-some p) = p
+
+-- the same of a result that may be nothing
+pub each-some : {A : Type 0} {P : A → Type 0} {r : Res (Option A)} {a : A} → r ≡ ok (some a) → Each (All P) r → P a
+each-some e p = all-value (each-is e p)
+
+-- what an answer comes to, from what its call ensures and the case that it is
+pub told : {A B : Type 0} (of : A → B) {r x : A} {b : B} → of r ≡ b → r ≡ x → b ≡ of x
+told of e w = sym e ∙ ap of w
+
+-- what holds of both holds of the one that is picked
+pub pick-both : {A : Type 0} (P : A → Type 0) (t : Bool) {x y : A} → P x → P y → P (pick t x y)
+pick-both P true p q = p
+pick-both P false p q = q
+
+pub each-pick : {A : Type 0} {P : A → Type 0} (t : Bool) {x y : Res A} → (t ≡ true → Each P x) → (t ≡ false → Each P y) → Each P (pick t x y)
+each-pick true p q = p refl
+each-pick false p q = q refl
+
+-- the same of what is well formed or not: there is one value, and the tests on the way to it held
+pub none-some : {A B : Type 0} {a : A} → none ≡ some a → B
+none-some e = let z : _≡_ {A = ℕ} 0 1 = cc in absurd (omega arith)
+
+pub some-same : {A : Type 0} {a b : A} → some a ≡ some b → a ≡ b
+some-same e = cc
+
+pub given-some : {A : Type 0} (t : Bool) (f : Unit {0} → Option A) {a : A} → given t >>? f ≡ some a → (t ≡ true) × (f tt ≡ some a)
+given-some true f e = (refl, e)
+given-some false f e = none-some e
+
+-- where nothing comes of the rest, a test before it changes nothing
+pub given-none : {A : Type 0} (t : Bool) (f : Unit {0} → Option A) → f tt ≡ none → given t >>? f ≡ none
+given-none true f e = e
+given-none false f e = refl
+
+-- what is made of a value does not change whether there is one
+pub answer-ok : {A B : Type 0} (r : Res A) (f : A → B) → answer (r >>= λ a. ok (f a)) ≡ answer r
+answer-ok (ok a) f = refl
+answer-ok (fault n) f = refl
+
+pub answered : {A : Type 0} (r : Res A) → ok tt ≡ answer r → (a : A) × (r ≡ ok a)
+answered (ok a) e = (a, refl)
+answered (fault n) e = let z : _≡_ {A = ℕ} 0 1 = cc in absurd (omega arith)
+
+pub answer-refused : {A : Type 0} (r : Res A) {n : ℕ} → answer r ≡ fault n → r ≡ fault n
+answer-refused (ok a) e = let z : _≡_ {A = ℕ} 0 1 = cc in absurd (omega arith)
+answer-refused (fault m) {n} e = let q : m ≡ n = cc in rw q
+
+-- two tests that hold together
+pub two-true : (a b : Bool) → (a && b) ≡ true → (a ≡ true) × (b ≡ true)
+two-true true b e = (refl, e)
+two-true false b e = let z : _≡_ {A = ℕ} 0 1 = cc in absurd (omega arith)

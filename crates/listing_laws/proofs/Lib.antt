@@ -1,0 +1,5 @@
+pub mod RoomLaws
+pub mod RoomEnough
+pub mod ShortLaws
+pub mod TextRoom
+pub mod ListingShort

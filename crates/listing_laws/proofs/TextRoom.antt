@@ -1,0 +1,193 @@
+-- Each frame takes at least 100 bytes of the file, and its line has at most 68: how long the text is after each frame.
+use Prim.Native.Nat.{ℕ, suc, _+_, _-_, _*_, _<_, _≤_}
+use native.Mathlib.Nat.{le-trans}
+use native.Mathlib.Omega.{arith}
+use mathlib.Core.Bool.{Bool, true, false}
+use mathlib.Core.List.{List, [], _++_}
+use mathlib.Core.Option.{Option, none, some}
+use mathlib.Core.Path.{_≡_, refl}
+use lib.Dec.{leb, eqb}
+use lib.ListN.{length, take, length-take, length-append}
+use borrow.Author.Tests.{leb-true}
+use Rattle.laws.specs.Bytes.{Bytes}
+use Rattle.laws.proofs.BytesLaws.{bytes-take}
+use Rattle.laws.specs.Result.{Res, Res.ok, Res.fault, pick, Each, Each.each, Each.no-value, All, All.all-some, All.all-none}
+use Rattle.laws.proofs.ResultLaws.{each-self, each-bind, each-is, all-value, pick-both}
+use Rattle.laws.specs.Loop.{Step}
+use Rattle.laws.proofs.LoopLaws.{Comes, Comes.comes-next, Comes.comes-done, iterate-holds}
+use Rattle.state.specs.declared.Report.{Report}
+use Rattle.state.specs.declared.Sizes.{Sizes}
+use Rattle.state.specs.declared.State.{State}
+use Rattle.state.specs.State.{rowBytes, Sound}
+use Rattle.state.proofs.StateLaws.{sizes-sound}
+use Rattle.form.specs.Form.{chunksOf}
+use Rattle.delta.specs.Reading.{shapeOf}
+use Rattle.delta.proofs.DeltaLaws.{draw-length}
+use Rattle.frame.specs.Frame.{Frame, frameAt}
+use Rattle.frame.proofs.FrameLaws.{frame-rises}
+use Rattle.state.specs.Film.{Film}
+use Rattle.opening.specs.Open.{opening}
+use Rattle.opening.proofs.OpenLaws.{places-lie, first-long}
+use Rattle.state.specs.World.{World, isOdd, shownIn, hiddenIn, withHidden}
+use Rattle.state.specs.After.{After, lentAfter}
+use Rattle.step_on.specs.Step.{basis, change, Built, build, look, lookAhead, recordOf, reportOf, commit, settle, stepOn}
+use Rattle.step_on.proofs.ReadyLaws.{ready-passed}
+use Rattle.lines.specs.Lines.{frameLine, endLine, refusedLine, pictureLine, tooLarge}
+use Rattle.listing.specs.Listing.{Listing, lineOn, listStep, listFrames, Buffers, listOpened, ROOM, listFront, Planned.single, Planned.pictures, sized, listPlanned}
+use Rattle.changes.proofs.CountLaws.{differing-short}
+use Rattle.record.proofs.RecordRoom.{record-short}
+use Rattle.answers.proofs.InTable.{InTable, InTable.table-refusal}
+use Rattle.answers.proofs.Table.{opening-table, on-table}
+use Rattle.listing_laws.proofs.ShortLaws.{Holds, frame-holds, pointers-least, delta-long, Tells, frame-line-short, end-line-short, refused-line-short, picture-line-short}
+
+-- a picture that the listing program's buffers hold
+abbrev Small : List ℕ → Type 0
+Small p = length p ≤ 16_384
+
+-- what a step to a frame that was built comes to
+record Steps (file : ℕ) (s : State) (hidden : List ℕ) (x : Built) : Type 0 where
+  few : s .frame < 1_000_000
+  rises : s .next + 100 ≤ x .next
+  ends : x .next ≤ file
+  picture : Small (x .picture)
+  tells : Tells (reportOf s hidden (x .header) (x .picture))
+
+-- what a delta that is well formed makes
+record Changes (x : Frame) (f : List ℕ) : Type 0 where
+  long : 32 ≤ length (x .dlta)
+  small : Small f
+
+change-holds : (z : Sizes) (x : Frame) (shown hidden : List ℕ) → Small shown → Small hidden → Each (Changes x) (change z x shown hidden)
+unfolding change
+change-holds z x shown hidden p q =
+    each-bind (delta-long z (x .header .items) (x .dlta)) λ ops h.
+    each (record {
+      long = le-trans (pointers-least z (x .header .items)) h;
+      small = rw (draw-length (shapeOf z (x .header .items)) (x .dlta) ops (basis (x .header) shown hidden)) (pick-both Small (eqb (x .header .interleave) 1) p q);
+    })
+
+module _ (file : List ℕ) (s : State) (shown hidden : List ℕ) (bytes : Bytes file) (shown-small : Small shown) (hidden-small : Small hidden) (few : s .frame < 1_000_000) (inside : s .end ≤ length file) where
+  build-holds : (o : Option Frame) → frameAt (take (s .end) file) (rowBytes (s .sizes .width)) (s .next) ≡ ok o → All (Holds (s .next)) o → Each (All (Steps (length file) s hidden)) (build (s .sizes) shown hidden o)
+  build-holds none e h = each all-none
+  build-holds (some x) e h =
+      let t = all-value h in
+      let k = frame-rises (take (s .end) file) (rowBytes (s .sizes .width)) (s .next) x e in
+      let n : x .next ≤ length file = omega (arith, k .ends, length-take (s .end) file) in
+      each-bind (change-holds (s .sizes) x shown hidden shown-small hidden-small) λ f c.
+      let r : s .next + 100 ≤ x .next = omega (arith, t .takes, c .long) in
+      let q : Tells (reportOf s hidden (x .header) f) = record {
+        method = omega (arith, t .method);
+        time = omega (arith, t .time);
+        changed = omega (arith, differing-short hidden f);
+        record-length = omega (arith, record-short (suc (s .frame)) (s .next) hidden f);
+      } in
+      each (all-some (record { few = few; rises = r; ends = n; picture = c .small; tells = q }))
+
+  look-holds : Each (All (Steps (length file) s hidden)) (look (take (s .end) file) s shown hidden)
+  unfolding look
+  look-holds =
+      each-bind (each-both (each-self (frameAt (take (s .end) file) (rowBytes (s .sizes .width)) (s .next))) (frame-holds (take (s .end) file) (rowBytes (s .sizes .width)) (s .next) (bytes-take (s .end) file bytes))) λ o h.
+      build-holds o (h .0) (h .1)
+    where
+      each-both : {A : Type 0} {P Q : A → Type 0} {r : Res A} → Each P r → Each Q r → Each (λ (a : A). P a × Q a) r
+      each-both (each p) (each q) = each (p, q)
+      each-both no-value q = no-value
+
+-- while frames are listed: 68 bytes of text for each 100 of the file, and a line before the first frame
+record Roomy (c : Listing) : Type 0 where
+  left : Small (c .lent .world .a)
+  right : Small (c .lent .world .b)
+  frame : c .lent .world .state .frame ≤ 1_000_000
+  place : c .lent .world .state .next ≤ 65_536
+  text : 100 * length (c .text) ≤ 68 * c .lent .world .state .next + 100 * 68
+
+abbrev pub Short : Listing → Type 0
+Short c = length (c .text) ≤ 65_536
+
+-- one line more at the end
+last-short : (c : Listing) → Roomy c → (line : List ℕ) → length line ≤ 68 → length (c .text ++ line) ≤ 65_536
+last-short c h line k = omega (arith, length-append (c .text) line, h .text, h .place)
+
+-- a step that comes to o, and its line
+abbrev told : Listing → After → Step Listing Listing
+told c o = lineOn (o .answer) (record { lent = lentAfter (c .lent) o; text = c .text })
+
+module _ (file : List ℕ) (bytes : Bytes file) (short : length file ≤ 65_536) (size : ℕ) where
+  -- what a step to a frame that was built is told as
+  committed : (c : Listing) → Roomy c → (x : Built) → Steps (length file) (c .lent .world .state) (hiddenIn (c .lent .world)) x → (t : Bool)
+      → leb (length (recordOf (c .lent .world .state) (hiddenIn (c .lent .world)) (x .picture))) ROOM ≡ t → Comes Roomy Short (told c (commit (c .lent .world) ROOM x))
+  unfolding commit lentAfter withHidden
+  committed c h x k false e = rw e (comes-done (last-short c h (refusedLine 51) (refused-line-short 51 refl)))
+  committed c h x k true e =
+      let r : Report = reportOf (c .lent .world .state) (hiddenIn (c .lent .world)) (x .header) (x .picture) in
+      let n : suc (c .lent .world .state .frame) < 10_000_000 = omega (arith, k .few) in
+      let f : suc (c .lent .world .state .frame) ≤ 1_000_000 = omega (arith, k .few) in
+      let p : x .next ≤ 65_536 = omega (arith, k .ends) in
+      let t : 100 * length (c .text ++ frameLine (suc (c .lent .world .state .frame)) r) ≤ 68 * x .next + 100 * 68 =
+      omega (arith, length-append (c .text) (frameLine (suc (c .lent .world .state .frame)) r), frame-line-short (suc (c .lent .world .state .frame)) r n (k .tells), h .text, k .rises) in
+      rw e
+      (comes-next (record {
+        left = pick-both Small (isOdd (c .lent .world .state .frame)) (h .left) (k .picture);
+        right = pick-both Small (isOdd (c .lent .world .state .frame)) (k .picture) (h .right);
+        frame = f;
+        place = p;
+        text = t;
+      }))
+
+  -- the answer of a step, and the line that is told of it
+  settled : (c : Listing) → Roomy c → (q : Res (Option Built)) → InTable q → Each (All (Steps (length file) (c .lent .world .state) (hiddenIn (c .lent .world)))) q
+      → Comes Roomy Short (told c (settle (c .lent .world) ROOM q))
+  unfolding settle lentAfter
+  settled c h (fault n) (table-refusal l) k = comes-done (last-short c h (refusedLine n) (refused-line-short n l))
+  settled c h (ok none) l k =
+      let f : c .lent .world .state .frame < 10_000_000 = omega (arith, h .frame) in
+      comes-done (last-short c h (endLine (c .lent .world .state .frame)) (end-line-short (c .lent .world .state .frame) f))
+  settled c h (ok (some x)) l (each (all-some k)) = committed c h x k (leb (length (recordOf (c .lent .world .state) (hiddenIn (c .lent .world)) (x .picture))) ROOM) refl
+
+  step-roomy : (c : Listing) → Roomy c → Comes Roomy Short (listStep file size ROOM c)
+  unfolding stepOn
+  step-roomy c h =
+      let w : World = c .lent .world in
+      let s : Small (shownIn w) = unfold shownIn in pick-both Small (isOdd (w .state .frame)) (h .left) (h .right) in
+      let i : Small (hiddenIn w) = unfold hiddenIn in pick-both Small (isOdd (w .state .frame)) (h .right) (h .left) in
+      let k : Each (All (Steps (length file) (w .state) (hiddenIn w))) (lookAhead file w size) =
+      unfold lookAhead in
+      each-bind (ready-passed (length file) (w .state) (length (w .a)) (length (w .b)) size) λ _ p. look-holds file (w .state) (shownIn w) (hiddenIn w) bytes s i (p .onA .few) (p .inFile) in
+      settled c h (lookAhead file w size) (on-table file w size) k
+
+  frames-short : (c : Listing) → Roomy c → Short (listFrames file size ROOM c)
+  unfolding listFrames
+  frames-short c h = iterate-holds (listStep file size ROOM) (λ d. length file - d .lent .world .state .next) c Roomy Short (omega (arith, h .text, h .place)) step-roomy c h
+
+-- what opening gives
+record Begins (file : List ℕ) (n : ℕ) (F : Film) : Type 0 where
+  sound : Sound (F .sizes) n
+  first : length (F .first) ≡ n
+  start : F .start ≤ length file
+
+opening-begins : (file : List ℕ) (n : ℕ) → Each (Begins file n) (opening file n n)
+unfolding opening
+opening-begins file n =
+    each-bind (places-lie file) λ p l. each-bind (first-long (chunksOf file (p .form)) (p .body) n n) λ f g.
+    let s : p .form .next ≤ length file = omega (arith, l .stops, l .ends) in
+    each (record { sound = each-is (g .sizes) (sizes-sound (f .sizes)); first = g .picture; start = s })
+
+-- the text of any file of bytes
+module _ (file : List ℕ) (bytes : Bytes file) where
+  opened-short : length file ≤ 65_536 → (n : ℕ) → n ≤ 16_384 → (q : Res Film) → InTable q → Each (Begins file n) q → (l : Buffers) → Short (listOpened file n ROOM l q)
+  unfolding listOpened
+  opened-short h n k (ok F) l (each g) m =
+      let w : Small (F .first) = omega (arith, g .first) in
+      let p : F .start ≤ 65_536 = omega (arith, g .start) in
+      let t : 100 * length (pictureLine (F .sizes)) ≤ 68 * F .start + 100 * 68 = omega (arith, picture-line-short (F .sizes) n (g .sound)) in
+      frames-short file bytes h n _ (record { left = w; right = w; frame = omega arith; place = p; text = t })
+  opened-short h n k (fault m) (table-refusal l) g b = omega (arith, refused-line-short m l)
+
+  pub sized-short : length file ≤ 65_536 → (q : Res ℕ) → InTable q → Short (listPlanned file (record { a = []; b = []; work = []; rec = [] }) (sized q))
+  unfolding listFront
+  sized-short h (ok n) l = go (leb n 16_384) refl
+    where
+      go : (t : Bool) → leb n 16_384 ≡ t → Short (listPlanned file (record { a = []; b = []; work = []; rec = [] }) (pick t (pictures n) (single tooLarge)))
+      go true e = opened-short h n (leb-true n 16_384 e) (opening file n n) (opening-table file n n) (opening-begins file n) _
+      go false e = omega arith
+  sized-short h (fault m) (table-refusal l) = omega (arith, refused-line-short m l)

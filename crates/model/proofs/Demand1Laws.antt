@@ -1,0 +1,64 @@
+-- What demand 1 is proved from: a call that isn't taken leaves everything as it came.
+use Prim.Native.Nat.{ℕ}
+use native.Mathlib.Omega.{arith}
+use mathlib.Core.Bool.{Bool, true, false}
+use mathlib.Core.List.{List, []}
+use mathlib.Core.Option.{Option, none, some}
+use mathlib.Core.Path.{_≡_, refl}
+use lib.Dec.{leb}
+use lib.ListN.{length}
+use Rattle.laws.specs.Result.{Res, Res.ok, Res.fault, answer}
+use Rattle.laws.proofs.ResultLaws.{none-some}
+use Rattle.state.specs.Film.{Film}
+use Rattle.writer.specs.Write.{bufferAfter}
+use Rattle.opening.specs.Open.{worldOpened}
+use Rattle.record.specs.Record.{Past}
+use Rattle.state.specs.declared.Report.{Report}
+use Rattle.state.specs.State.{zeros}
+use Rattle.state.specs.World.{World, hiddenIn}
+use Rattle.state.specs.After.{Answer.refused, Answer.ended, Answer.tookOn, Answer.tookBack, After}
+use Rattle.step_on.specs.Step.{Built, lookAhead, recordOf, reportOf, commit, settle, stepOn}
+use Rattle.step_back.specs.Back.{retreat, settleBack, stepBack}
+use Rattle.model.specs.Demands.{refusalIn}
+
+-- what a call left as it came: what it hands on, the record buffer, into which nothing was written, and the work buffer unless it is 51
+pub record Untouched (w : World) (o : After) : Type 0 where
+  pub world : o .world ≡ w
+  pub bytes : o .bytes ≡ []
+  pub work : (o .answer ≡ refused 51 → ⊥) → o .work ≡ none
+
+-- a step that isn't taken
+pub not-taken-on : (file : List ℕ) (w : World) (work room : ℕ) → ((r : Report) → stepOn file w work room .answer ≡ tookOn r → ⊥) → Untouched w (stepOn file w work room)
+unfolding stepOn
+not-taken-on file w work room h = go (lookAhead file w work) h
+  where
+    fits : (x : Built) (t : Bool) → leb (length (recordOf (w .state) (hiddenIn w) (x .picture))) room ≡ t → ((r : Report) → commit w room x .answer ≡ tookOn r → ⊥) → Untouched w (commit w room x)
+    fits x true e q = absurd (q (reportOf (w .state) (hiddenIn w) (x .header) (x .picture)) (unfold commit in rw e))
+    fits x false e q = unfold commit in rw e (record { world = refl; bytes = refl; work = λ k. absurd (k refl) })
+
+    go : (r : Res (Option Built)) → ((p : Report) → settle w room r .answer ≡ tookOn p → ⊥) → Untouched w (settle w room r)
+    go (fault k) q = unfold settle in record { world = refl; bytes = refl; work = λ _. refl }
+    go (ok none) q = unfold settle in record { world = refl; bytes = refl; work = λ _. refl }
+    go (ok (some x)) q = unfold settle in fits x (leb (length (recordOf (w .state) (hiddenIn w) (x .picture))) room) refl (unfold settle in q)
+
+pub not-taken-back : (w : World) (bytes : List ℕ) → (stepBack w bytes .answer ≡ tookBack → ⊥) → Untouched w (stepBack w bytes)
+unfolding stepBack settleBack
+not-taken-back w bytes h = go (retreat w bytes) h
+  where
+    go : (r : Res Past) → (settleBack w r .answer ≡ tookBack → ⊥) → Untouched w (settleBack w r)
+    go (fault k) q = record { world = refl; bytes = refl; work = λ _. refl }
+    go (ok p) q = absurd (q refl)
+
+-- a refused opening leaves both buffers, and answers six zeros for the state
+pub refused-open : (n : ℕ) (a b : List ℕ) (q : Res Film) → refusalIn (answer q) ≡ some n → worldOpened a b q ≡ record { a = a; b = b; state = zeros }
+refused-open n a b (fault k) e = refl
+refused-open n a b (ok F) e = none-some e
+
+-- a refused delta leaves the output buffer
+pub refused-write : (n : ℕ) (bytes out : List ℕ) (q : Res ℕ) → refusalIn q ≡ some n → bufferAfter bytes out q ≡ out
+refused-write n bytes out (fault k) e = refl
+refused-write n bytes out (ok k) e = none-some e
+
+-- End
+pub end-not-taken : {p : Report} → ended ≡ tookOn p → ⊥
+end-not-taken e = let z : _≡_ {A = ℕ} 0 1 = cc in omega arith

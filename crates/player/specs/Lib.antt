@@ -1,4 +1,0 @@
-pub mod Step
-pub mod OutcomeLaws
-pub mod ReadyLaws
-pub mod StepLaws

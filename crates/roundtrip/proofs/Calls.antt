@@ -1,0 +1,50 @@
+-- Demand 2's last sentence, of calls: where `writer::write` met its contract and there was room, the delta that it wrote, applied to the old
+-- picture by a `delta::apply` that met its contract, gives the new one; and no Uniq or Same of none is in it.
+use Prim.Native.Nat.{ℕ, _≤_}
+use native.Mathlib.Omega.{arith}
+use mathlib.Core.List.{List}
+use mathlib.Core.Path.{_≡_, refl, ap, _∙_}
+use lib.ListN.{length, take}
+use borrow.Author.Tests.{eq-eqb, le-leb}
+use Rattle.laws.specs.Every.{Every}
+use Rattle.laws.specs.Result.{Res, Res.ok, Res.fault, _>>=_, answer, orKeep}
+use Rattle.laws.proofs.ResultLaws.{each-is}
+use Rattle.state.specs.declared.Sizes.{Sizes}
+use Rattle.state.specs.State.{frameLength}
+use Rattle.state.proofs.StateLaws.{sizes-sound}
+use Rattle.anhd.specs.declared.Items.the-variants.{Bytes}
+use Rattle.delta.specs.Reading.{Op, shapeOf}
+use Rattle.delta.specs.Delta.{readDelta, draw, newFrame, Applies}
+use Rattle.delta.proofs.DeltaLaws.{same-answer}
+use Rattle.delta.specs.None.{HasRows}
+use Rattle.writer.specs.Write.{deltaBytes, written, Writes}
+use Rattle.roundtrip.proofs.RoundTrip.{delta-turns}
+use Rattle.roundtrip.proofs.NeverNone.{never-none}
+use Rattle.roundtrip.proofs.CallLaws.{delta-written, delta-stands, new-made}
+
+-- where there is room it is written
+pub written-fits : (z : Sizes) (old new out : List ℕ) (x : Res ℕ) (out′ : List ℕ) → Writes z old new out x out′ → frameLength z ≡ ok (length old) → length new ≡ length old
+    → length (deltaBytes z old new) ≤ length out → x ≡ ok (length (deltaBytes z old new))
+unfolding written
+written-fits z old new out x out′ m e w h =
+    m .answers ∙ simp (e, eq-eqb (length old) (length old) refl, eq-eqb (length new) (length old) w, le-leb (length (deltaBytes z old new)) (length out) h)
+
+module _ (z : Sizes) (old new out : List ℕ) (n : ℕ) (out′ : List ℕ) (m : Writes z old new out (ok n) out′) where
+  -- the ops of the first n bytes of the output buffer make the new picture of the old one
+  pub delta-makes : (ops : List Op) × (readDelta (shapeOf z Bytes) (take n out′) ≡ ok ops) × (draw (shapeOf z Bytes) (take n out′) ops old ≡ new)
+  delta-makes = rw (delta-stands z old new out n out′ m) (go (readDelta (shapeOf z Bytes) (deltaBytes z old new)) refl (delta-turns z (length old) old new (each-is (delta-written z old new out n out′ m .sizes) (sizes-sound z)) refl (delta-written z old new out n out′ m .same)))
+    where
+      go : (q : Res (List Op)) → readDelta (shapeOf z Bytes) (deltaBytes z old new) ≡ q → (q >>= λ ops. ok (draw (shapeOf z Bytes) (deltaBytes z old new) ops old)) ≡ ok new
+          → (ops : List Op) × (readDelta (shapeOf z Bytes) (deltaBytes z old new) ≡ ok ops) × (draw (shapeOf z Bytes) (deltaBytes z old new) ops old ≡ new)
+      go (ok ops) e k = (ops, e, cc)
+      go (fault j) e k = let y : _≡_ {A = ℕ} 0 1 = cc in absurd (omega arith)
+
+  -- and so does a call that applies them to the old one
+  pub applied-new : (work : List ℕ) (x : Res ℕ) (work′ : List ℕ) → length work ≡ length old → Applies z Bytes (take n out′) old work x work′ → (answer x ≡ ok tt) × (work′ ≡ new)
+  applied-new work x work′ l p =
+      let e : newFrame z Bytes (take n out′) old (length work) ≡ ok new = rw l (new-made z old new out n out′ m) in
+      (ap answer (p .counts) ∙ same-answer z Bytes (take n out′) old (length work) ∙ ap answer e, p .leaves ∙ ap (orKeep work) e)
+
+  -- no Uniq and no Same of none is among the ops of the delta
+  pub never-none-written : (ops : List Op) × (readDelta (shapeOf z Bytes) (take n out′) ≡ ok ops) × Every HasRows ops
+  never-none-written = rw (delta-stands z old new out n out′ m) (never-none z (length old) old new (each-is (delta-written z old new out n out′ m .sizes) (sizes-sound z)) refl (delta-written z old new out n out′ m .same))

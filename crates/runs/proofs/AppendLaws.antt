@@ -1,0 +1,43 @@
+-- Laws of runs that follow others.
+use Prim.Native.Nat.{ℕ, _+_, _≤_}
+use native.Mathlib.Nat.{zero-add}
+use native.Mathlib.Omega.{arith}
+use mathlib.Core.Bool.{Bool, true, false, _&&_}
+use mathlib.Core.List.{List, [], _∷_, _++_}
+use mathlib.Core.Path.{_≡_, refl, sym, ap, _∙_}
+use lib.ListN.{length, take, drop, length-append, length-drop}
+use lib.Seq.{sets, sets-eq, drop-drop, length-take-le}
+use Rattle.laws.proofs.StoreLaws.{sets-behind}
+use Rattle.runs.specs.Runs.{Run, differ, allDiffer, patch}
+
+-- the place after runs
+unfoldable pub reach : List Run → ℕ
+reach [] = 0
+reach (r ∷ rs) = r .gap + length (r .bytes) + reach rs
+
+pub reach-more : (rs : List Run) (r : Run) → reach (rs ++ (r ∷ [])) ≡ reach rs + (r .gap + length (r .bytes))
+unfolding reach
+reach-more [] r = omega arith
+reach-more (s ∷ rs) r = omega (arith, reach-more rs r)
+
+and-assoc : (t y z : Bool) {x : Bool} → x ≡ (y && z) → (t && x) ≡ ((t && y) && z)
+and-assoc true y z e = e
+and-assoc false y z e = refl
+
+pub differ-append : (rs ms : List Run) (f : List ℕ) → allDiffer (rs ++ ms) f ≡ (allDiffer rs f && allDiffer ms (drop (reach rs) f))
+unfolding allDiffer reach
+differ-append [] ms f = refl
+differ-append (r ∷ rs) ms f =
+    let rest = drop (r .gap + length (r .bytes)) f in
+    and-assoc (differ (r .bytes) (drop (r .gap) f)) (allDiffer rs rest) _ (differ-append rs ms rest ∙ rw (drop-drop (reach rs) (r .gap + length (r .bytes)) f))
+
+pub patch-more : (rs : List Run) (r : Run) (f : List ℕ) → reach rs + (r .gap + length (r .bytes)) ≤ length f → patch (rs ++ (r ∷ [])) f ≡ sets (patch rs f) (reach rs + r .gap) (r .bytes)
+unfolding patch reach
+patch-more [] r f h = rw (zero-add (r .gap)) (sym (sets-eq (r .bytes) f (r .gap) (omega arith)))
+patch-more (s ∷ rs) r f h =
+    let front = take (s .gap) f ++ s .bytes in
+    let rest = drop (s .gap + length (s .bytes)) f in
+    let l : length front ≡ s .gap + length (s .bytes) = length-append (take (s .gap) f) (s .bytes) ∙ rw (length-take-le (s .gap) f (omega arith)) in
+    let place : s .gap + length (s .bytes) + reach rs + r .gap ≡ length front + (reach rs + r .gap) = omega (arith, l) in
+    ap (λ (t : List ℕ). front ++ t) (patch-more rs r rest (simp length-drop (omega arith)))
+    ∙ sym (rw place (sets-behind front (patch rs rest) (reach rs + r .gap) (r .bytes)))

@@ -1,0 +1,96 @@
+-- `step_on::look`: the next frame, if there is one, is built; its DLTA is a part of FORM ANIM.
+use native.Mathlib.Nat.{add-sub-cancel-left}
+use native.Mathlib.Omega.{arith}
+use Rattle.laws.proofs.ResultLaws.{told}
+use Rattle.state.specs.State.{rowBytes}
+use Rattle.frame.specs.Frame.{nextOf, Rises}
+use Rattle.frame.proofs.FrameLaws.{frame-rises, frame-columns}
+use Rattle.step_on.proofs.StepLaws.{look-refused, look-ended, look-built}
+use borrow.Author.Needs.{needs}
+use Rattle.step_on.proofs.look.Statement.{statement}
+use Rattle.step_on.proofs.look.Tie as tie
+
+row-bytes-requires : tie.Need-row-bytes-requires
+row-bytes-requires c κs = search needs
+
+frame-at-requires : tie.Need-frame-at-requires
+frame-at-requires c κs = search needs
+
+enum-known-f : tie.Need-enum-known-f
+enum-known-f c = search needs
+
+enum-told : tie.Need-enum-told
+enum-told c = search needs
+
+enum-known-f-2 : tie.Need-enum-known-f-2
+enum-known-f-2 c = search needs
+
+add-stop : tie.Need-add-stop
+add-stop c =
+    let f = c .before .before .before in
+    let k = f .before .before .before .before .before .before .before .args in
+    let l : Rises _ _ _ = frame-rises _ _ _ _ (told (nextOf (k .anim .now)) (rw (f .before .row-bytes .ensures) at (f .frame-at .ensures)) (c .before .f2 .given .1)) in
+    omega (arith, l .holds)
+
+sub-dlta : tie.Need-sub-dlta
+sub-dlta c = search needs
+
+part-dlta-start : tie.Need-part-dlta-start
+part-dlta-start c = search needs
+
+part-dlta-end : tie.Need-part-dlta-end
+part-dlta-end c =
+    let f = c .before .before .before in
+    let k = f .before .before .before .before .before .before .before .args in
+    let l : Rises _ _ _ = frame-rises _ _ _ _ (told (nextOf (k .anim .now)) (rw (f .before .row-bytes .ensures) at (f .frame-at .ensures)) (c .before .f2 .given .1)) in
+    omega (arith, l .holds)
+
+build-requires : tie.Need-build-requires
+build-requires c κs =
+    let f = c .before .before .before .before .before in
+    let s = f .before .before .before .before .before .before .before in
+    let k = s .args in
+    let e = told (nextOf (k .anim .now)) (rw (f .before .row-bytes .ensures) at (f .frame-at .ensures)) (c .before .before .before .f2 .given .1) in
+    (s .pre .0, s .pre .1, frame-columns (k .anim .now) (rowBytes (k .state .sizes .width)) (k .state .next) _ e)
+
+returns : tie.Need-returns
+returns c =
+    let f = c .before .before .before in
+    let k = f .before .before .before .before .before .before .before .args in
+    look-refused (k .anim .now) (k .state) (k .shown .now) (k .hidden .now) (k .work .now) (told (nextOf (k .anim .now)) (rw (f .before .row-bytes .ensures) at (f .frame-at .ensures)) (c .before .f .given .1))
+
+returns-2 : tie.Need-returns-2
+returns-2 c =
+    let f = c .before .before in
+    let k = f .before .before .before .before .before .before .before .args in
+    look-ended (k .anim .now) (k .state) (k .shown .now) (k .hidden .now) (k .work .now) (told (nextOf (k .anim .now)) (rw (f .before .row-bytes .ensures) at (f .frame-at .ensures)) (c .enum-told .given .1))
+
+same-length : tie.Need-same-length
+same-length c = search needs
+
+returns-3 : tie.Need-returns-3
+returns-3 c =
+    let t = c .before .before .before .before .before .before in
+    let f = t .before .before in
+    let k = f .before .before .before .before .before .before .before .args in
+    look-built (k .anim .now) (k .state) (k .shown .now) (k .hidden .now) (k .work .now) (told (nextOf (k .anim .now)) (rw (f .before .row-bytes .ensures) at (f .frame-at .ensures)) (t .f2 .given .1))
+    (rw (add-sub-cancel-left _ _)) (c .before .before .build .ensures)
+
+pub look-spec : {M : Type 1} → statement M
+look-spec =
+    tie.close
+    (tie.spec
+    row-bytes-requires
+    frame-at-requires
+    enum-known-f
+    enum-told
+    enum-known-f-2
+    add-stop
+    sub-dlta
+    part-dlta-start
+    part-dlta-end
+    build-requires
+    returns
+    returns-2
+    same-length
+    returns-3)

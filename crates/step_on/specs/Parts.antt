@@ -1,0 +1,43 @@
+-- What the parts of a step on answer and leave.
+use Prim.Native.Nat.{ℕ, _<_, _≤_, suc}
+use mathlib.Core.Path.{_≡_}
+use mathlib.Core.List.{List, _++_}
+use lib.ListN.{length, drop}
+use Rattle.laws.specs.Result.{Res, Res.ok, Res.fault, leaves}
+use Rattle.refusal.specs.Number.{numberOf}
+use Rattle.state.specs.declared.State.{State}
+use Rattle.state.specs.State.{frameLength}
+use Rattle.state.specs.World.{World, hiddenIn, withHidden}
+use Rattle.anhd.specs.declared.FrameHeader.{FrameHeader}
+use Rattle.frame.specs.Frame.{Frame}
+use Rattle.record.specs.Record.{Measure, written}
+use Rattle.step_on.specs.declared.Begins.{Begins}
+use Rattle.step_on.specs.declared.Begins.the-variants.{Yes, Refused}
+use Rattle.step_on.specs.Step.{recordOf}
+
+-- what the tests of a step on answer
+abbrev pub readyOf : Begins → Res (Unit {0})
+readyOf Yes = ok tt
+readyOf (Refused why) = fault (numberOf why)
+
+-- a state, and a picture and a work buffer of so many bytes, that a step on can go on with
+pub record Fits (s : State) (picture work : ℕ) : Type 0 where
+  pub sizes : frameLength (s .sizes) ≡ ok picture
+  pub same : work ≡ picture
+  pub short : picture ≤ 1_048_576
+  pub few : s .frame < 1_000_000
+  pub place : s .next ≤ 2_147_483_647
+
+-- a frame to be built: where its DLTA stands makes no difference to what it comes to
+abbrev pub frameOf : ℕ → FrameHeader → List ℕ → Frame
+frameOf next header dlta = record { start = 0; size = 0; next = next; header = header; dlta = dlta }
+
+-- A and B after a record of the hidden picture, which becomes f where the record is written
+abbrev pub picturesAfter : World → List ℕ → Res Measure → World
+picturesAfter w f q = leaves w (λ m. withHidden w f (w .state)) q
+
+-- what recording it answers and leaves
+pub record CommitsHidden (w : World) (f rec : List ℕ) (q : Res Measure) (a b rec′ : List ℕ) : Type 0 where
+  pub answer : q ≡ written (suc (w .state .frame)) (w .state .next) (hiddenIn w) f (length rec)
+  pub bytes : rec′ ≡ leaves rec (λ m. recordOf (w .state) (hiddenIn w) f ++ drop (length (recordOf (w .state) (hiddenIn w) f)) rec) q
+  pub pictures : _≡_ {A = World} (record { a = a; b = b; state = w .state }) (picturesAfter w f q)
