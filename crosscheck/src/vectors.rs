@@ -1,4 +1,4 @@
-//! The outside files and their listings: those of the program `list_vectors`.
+//! The outside files and their listings: those of the program `listing_vectors`.
 use std::path::{Path, PathBuf};
 
 /// A file and its listing.
@@ -10,7 +10,7 @@ pub struct Vector {
 
 /// All of them, in order.
 pub fn all() -> Result<Vec<Vector>, String> {
-    let folder = Path::new(env!("CARGO_MANIFEST_DIR")).join("../crates/list_vectors");
+    let folder = Path::new(env!("CARGO_MANIFEST_DIR")).join("../crates/listing_vectors");
     let listings = String::from_utf8_lossy(&read(folder.join("stdout"))?).into_owned();
     let mut vectors: Vec<Vector> = Vec::new();
     for line in listings.lines() {
