@@ -35,23 +35,11 @@ returns : tie.Need-returns
 unfolding frameHeader
 returns c = simp (lt-leb _ _ (c .if1 .taken))
 
-byte-requires : tie.Need-byte-requires
-byte-requires c κs = search needs
-
-method-ok-requires : tie.Need-method-ok-requires
-method-ok-requires c κs = search needs
-
 returns-2 : tie.Need-returns-2
 unfolding frameHeader
 returns-2 c =
     let b = c .before .before in
     simp (le-leb _ _ (b .before .if1 .left), ← b .byte .ensures .0, told-false (c .before .method-ok .ensures) (c .if2 .taken))
-
-byte-requires-2 : tie.Need-byte-requires-2
-byte-requires-2 c κs = search needs
-
-interleave-ok-requires : tie.Need-interleave-ok-requires
-interleave-ok-requires c κs = search needs
 
 returns-3 : tie.Need-returns-3
 returns-3 c =
@@ -60,12 +48,6 @@ returns-3 c =
     let z = p .before .before .before .before .args in
     interleave-bad (z .first) (z .row) (z .s .now) (p .before .before .if1 .left) (p .before .byte .ensures .0) (told-true (p .method-ok .ensures) (i .if2 .left)) (c .before .before .byte2 .ensures .0)
     (told-false (c .before .interleave-ok .ensures) (c .if3 .taken))
-
-number32-requires : tie.Need-number32-requires
-number32-requires c κs = search needs
-
-bits-ok-requires : tie.Need-bits-ok-requires
-bits-ok-requires c κs = search needs
 
 returns-4 : tie.Need-returns-4
 returns-4 c =
@@ -76,12 +58,6 @@ returns-4 c =
     rw (told-false (c .before .bits-ok .ensures) (c .if4 .taken)) at
     (rest-is (z .first) (z .row) (z .s .now) (p .before .before .if1 .left) (p .before .byte .ensures .0) (told-true (p .method-ok .ensures) (i .if2 .left)) (j .before .before .byte2 .ensures .0) (told-true (j .before .interleave-ok .ensures) (j .if3 .left)) (c .before .before .number32 .ensures .0))
 
-items-of-requires : tie.Need-items-of-requires
-items-of-requires c κs = search needs
-
-columns-ok-requires : tie.Need-columns-ok-requires
-columns-ok-requires c κs = search needs
-
 returns-5 : tie.Need-returns-5
 returns-5 c =
     let k = c .before .before .before in
@@ -91,9 +67,6 @@ returns-5 c =
     let z = p .before .before .before .before .args in
     rw (told-true (k .before .bits-ok .ensures) (k .if4 .left), ← c .before .before .items-of .ensures, told-false (c .before .columns-ok .ensures) (c .if5 .taken)) at
     (rest-is (z .first) (z .row) (z .s .now) (p .before .before .if1 .left) (p .before .byte .ensures .0) (told-true (p .method-ok .ensures) (i .if2 .left)) (j .before .before .byte2 .ensures .0) (told-true (j .before .interleave-ok .ensures) (j .if3 .left)) (k .before .before .number32 .ensures .0))
-
-number32-requires-2 : tie.Need-number32-requires-2
-number32-requires-2 c κs = search needs
 
 returns-6 : tie.Need-returns-6
 returns-6 c =
@@ -111,17 +84,17 @@ read-header-spec =
     tie.close
     (tie.spec
     returns
-    byte-requires
-    method-ok-requires
+    (λ c κs. search needs)
+    (λ c κs. search needs)
     returns-2
-    byte-requires-2
-    interleave-ok-requires
+    (λ c κs. search needs)
+    (λ c κs. search needs)
     returns-3
-    number32-requires
-    bits-ok-requires
+    (λ c κs. search needs)
+    (λ c κs. search needs)
     returns-4
-    items-of-requires
-    columns-ok-requires
+    (λ c κs. search needs)
+    (λ c κs. search needs)
     returns-5
-    number32-requires-2
+    (λ c κs. search needs)
     returns-6)

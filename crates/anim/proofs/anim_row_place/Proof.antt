@@ -5,15 +5,6 @@ use borrow.Author.Needs.{needs}
 use Rattle.anim.proofs.anim_row_place.Statement.{statement}
 use Rattle.anim.proofs.anim_row_place.Tie as tie
 
-row-in-requires : tie.Need-row-in-requires
-row-in-requires c κs = search needs
-
-enum-told : tie.Need-enum-told
-enum-told c = search needs
-
-enum-known-p : tie.Need-enum-known-p
-enum-known-p c = search needs
-
 returns : tie.Need-returns
 returns c = rw (told placeOf (c .before .before .row-in .ensures) (c .enum-told .given .1))
 
@@ -21,4 +12,9 @@ returns-2 : tie.Need-returns-2
 returns-2 c = rw (told placeOf (c .before .before .before .row-in .ensures) (c .before .p .given .1))
 
 pub anim-row-place-spec : {M : Type 1} → statement M
-anim-row-place-spec = tie.close (tie.spec row-in-requires enum-told enum-known-p returns returns-2)
+anim-row-place-spec = tie.close (tie.spec
+    (λ c κs. search needs)
+    (λ c. search needs)
+    (λ c. search needs)
+    returns
+    returns-2)

@@ -5,18 +5,6 @@ use borrow.Author.Needs.{needs}
 use Rattle.anim.proofs.anim_row_refusal.Statement.{statement}
 use Rattle.anim.proofs.anim_row_refusal.Tie as tie
 
-row-in-requires : tie.Need-row-in-requires
-row-in-requires c κs = search needs
-
-enum-known-p : tie.Need-enum-known-p
-enum-known-p c = search needs
-
-number-requires : tie.Need-number-requires
-number-requires c κs = search needs
-
-enum-told : tie.Need-enum-told
-enum-told c = search needs
-
 returns : tie.Need-returns
 returns c = rw (told placeOf (c .before .before .before .before .row-in .ensures) (c .before .before .p .given .1)) (c .number .ensures)
 
@@ -25,4 +13,10 @@ returns-2 c = rw (told placeOf (c .before .before .row-in .ensures) (c .enum-tol
 
 pub anim-row-refusal-spec : {M : Type 1} → statement M
 anim-row-refusal-spec =
-    tie.close (tie.spec row-in-requires enum-known-p number-requires enum-told returns returns-2)
+    tie.close (tie.spec
+    (λ c κs. search needs)
+    (λ c. search needs)
+    (λ c κs. search needs)
+    (λ c. search needs)
+    returns
+    returns-2)

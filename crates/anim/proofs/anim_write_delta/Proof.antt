@@ -6,31 +6,10 @@ use borrow.Author.Needs.{needs}
 use Rattle.anim.proofs.anim_write_delta.Statement.{statement}
 use Rattle.anim.proofs.anim_write_delta.Tie as tie
 
-wrong-length-requires : tie.Need-wrong-length-requires
-wrong-length-requires c κs = search needs
-
 returns : tie.Need-returns
 returns c =
     let at-start = c .before .before .before .before .before .before in
     let k = at-start .args in write-unsized (sizesIn (k .width) (k .height) (k .planes)) (k .old .now) (k .new .now) (record { out = k .out .now; len = k .len .now }) (c .wrong-length .ensures) (c .before .if1 .taken)
-
-write-requires : tie.Need-write-requires
-write-requires c κs = search needs
-
-enum-known-d : tie.Need-enum-known-d
-enum-known-d c = search needs
-
-number-requires : tie.Need-number-requires
-number-requires c κs = search needs
-
-enum-known-d-2 : tie.Need-enum-known-d-2
-enum-known-d-2 c = search needs
-
-write-number-requires : tie.Need-write-number-requires
-write-number-requires c κs = search needs
-
-same-length : tie.Need-same-length
-same-length c = search needs
 
 returns-2 : tie.Need-returns-2
 returns-2 c =
@@ -38,12 +17,6 @@ returns-2 c =
     let at-if = at-write .before .before in
     let at-start = at-if .before .before .before .before .before in
     let k = at-start .args in write-sized (sizesIn (k .width) (k .height) (k .planes)) (k .old .now) (k .new .now) (record { out = k .out .now; len = k .len .now }) (at-if .if1 .left) (at-write .write .ensures) (c .before .before .d .given .1) (c .number .ensures) refl
-
-same-length-2 : tie.Need-same-length-2
-same-length-2 c = search needs
-
-same-length-3 : tie.Need-same-length-3
-same-length-3 c = search needs
 
 returns-3 : tie.Need-returns-3
 returns-3 c =
@@ -57,15 +30,15 @@ pub anim-write-delta-spec : {M : Type 1} → statement M
 anim-write-delta-spec =
     tie.close
     (tie.spec
-    wrong-length-requires
+    (λ c κs. search needs)
     returns
-    write-requires
-    enum-known-d
-    number-requires
-    enum-known-d-2
-    write-number-requires
-    same-length
+    (λ c κs. search needs)
+    (λ c. search needs)
+    (λ c κs. search needs)
+    (λ c. search needs)
+    (λ c κs. search needs)
+    (λ c. search needs)
     returns-2
-    same-length-2
-    same-length-3
+    (λ c. search needs)
+    (λ c. search needs)
     returns-3)

@@ -3,11 +3,10 @@ use borrow.Author.Needs.{needs}
 use Rattle.anim.proofs.wrong_length.Statement.{statement}
 use Rattle.anim.proofs.wrong_length.Tie as tie
 
-number-requires : tie.Need-number-requires
-number-requires c κs = search needs
-
 returns : tie.Need-returns
 returns c = c .number .ensures
 
 pub wrong-length-spec : {M : Type 1} → statement M
-wrong-length-spec = tie.close (tie.spec number-requires returns)
+wrong-length-spec = tie.close (tie.spec
+    (λ c κs. search needs)
+    returns)

@@ -14,26 +14,11 @@ returns : tie.Need-returns
 unfolding header
 returns c = simp (ne-eqb _ _ (c .if1 .taken))
 
-sizes-at-requires : tie.Need-sizes-at-requires
-sizes-at-requires c κs = search needs
-
-frame-length-requires : tie.Need-frame-length-requires
-frame-length-requires c κs = search needs
-
-enum-known-length : tie.Need-enum-known-length
-enum-known-length c = search needs
-
-enum-told : tie.Need-enum-told
-enum-told c = search needs
-
 returns-2 : tie.Need-returns-2
 unfolding header
 returns-2 c =
     let f = rw (c .before .before .before .sizes-at .ensures) at (told lengthOf (c .before .before .frame-length .ensures) (c .enum-told .given .1)) in
     simp (eq-eqb _ _ (c .before .before .before .before .if1 .left), f)
-
-byte-requires : tie.Need-byte-requires
-byte-requires c κs = search needs
 
 returns-3 : tie.Need-returns-3
 unfolding header
@@ -44,9 +29,6 @@ returns-3 c =
     let f = rw (at-sizes-at .sizes-at .ensures) at (told lengthOf (at-frame-length .frame-length .ensures) (c .before .before .before .length .given .1)) in
     let m = sym (c .before .byte .ensures .0) ∙ c .if2 .taken in
     simp (eq-eqb _ _ (at-if .if1 .left), f, eq-eqb _ _ m)
-
-byte-requires-2 : tie.Need-byte-requires-2
-byte-requires-2 c κs = search needs
 
 returns-4 : tie.Need-returns-4
 unfolding header
@@ -71,13 +53,13 @@ read-header-spec =
     tie.close
     (tie.spec
     returns
-    sizes-at-requires
-    frame-length-requires
-    enum-known-length
-    enum-told
+    (λ c κs. search needs)
+    (λ c κs. search needs)
+    (λ c. search needs)
+    (λ c. search needs)
     returns-2
-    byte-requires
+    (λ c κs. search needs)
     returns-3
-    byte-requires-2
+    (λ c κs. search needs)
     returns-4
     returns-5)

@@ -33,26 +33,11 @@ take-row-requires c κs =
     let at-start = c .before .before .before .before .before .before in
     omega (arith, ap length (c .before .before .loop .inv .0), at-start .pre .0)
 
-enum-told : tie.Need-enum-told Inv-loop μ-loop
-enum-told c = search needs
-
-same-length : tie.Need-same-length Inv-loop μ-loop
-same-length c = search needs
-
 returns-2 : tie.Need-returns-2 Inv-loop μ-loop
 returns-2 c =
     let at-loop-test = c .before .before .before .before .before .before in
     let at-loop = at-loop-test .before in
     let i = at-loop .loop .inv in let e = c .before .before .before .before .take-row .ensures in let k = rows-stop _ _ _ _ _ (behind-fault (sym (told tookOf (e .0) (c .enum-told .given .1)))) (at-loop-test .loop-test .taken) in (ap answer (sym k) ∙ i .1, e .1 .check refl ∙ i .0)
-
-enum-known-t : tie.Need-enum-known-t Inv-loop μ-loop
-enum-known-t c = search needs
-
-sub-left : tie.Need-sub-left Inv-loop μ-loop
-sub-left c = search needs
-
-loop-less : tie.Need-loop-less Inv-loop μ-loop
-loop-less c = search needs
 
 loop-again : tie.Need-loop-again Inv-loop μ-loop
 loop-again c =
@@ -60,9 +45,6 @@ loop-again c =
     let at-loop-test = at-take-row .before .before in
     let at-loop = at-loop-test .before in
     let i = at-loop .loop .inv in let e = at-take-row .take-row .ensures in (e .1 .check refl ∙ i .0, sym (rows-on _ _ _ _ _ (behind (sym (told tookOf (e .0) (c .before .t .given .1)))) (at-loop-test .loop-test .taken)) ∙ i .1)
-
-same-length-2 : tie.Need-same-length-2 Inv-loop μ-loop
-same-length-2 c = search needs
 
 returns-3 : tie.Need-returns-3 Inv-loop μ-loop
 returns-3 c = let i = c .before .loop .inv in let z : c .before .loop .left ≡ 0 = omega arith in (sym (ap answer (rows-none _ _ _ _ _ z)) ∙ i .1, i .0)
@@ -77,12 +59,12 @@ check-rows-spec =
     returns
     loop-holds
     take-row-requires
-    enum-told
-    same-length
+    (λ c. search needs)
+    (λ c. search needs)
     returns-2
-    enum-known-t
-    sub-left
-    loop-less
+    (λ c. search needs)
+    (λ c. search needs)
+    (λ c. search needs)
     loop-again
-    same-length-2
+    (λ c. search needs)
     returns-3)

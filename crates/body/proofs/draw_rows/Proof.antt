@@ -17,9 +17,6 @@ Inv-loop frame₀ s sizes packed row height down at₀ line₀ plane₀ place₀
 abbrev μ-loop : tie.MeasureT-loop
 μ-loop frame₀ s sizes packed row height down at₀ line₀ plane₀ place₀ frame at line plane place = sizes .height * sizes .planes - (line * sizes .planes + plane)
 
-row-bytes-requires : tie.Need-row-bytes-requires Inv-loop μ-loop
-row-bytes-requires c κs = search needs
-
 mul-down : tie.Need-mul-down Inv-loop μ-loop
 mul-down c = omega (arith, lines-small (c .before .before .before .args .sizes) (c .before .before .before .args .sizes .height) (c .before .before .before .pre) (c .row-bytes .ensures) (omega arith))
 
@@ -29,20 +26,11 @@ loop-holds c = (refl, walking-starts (c .before .before .before .pre .planes-lea
 take-row-requires : tie.Need-take-row-requires Inv-loop μ-loop
 take-row-requires c κs = let l = c .before in omega (arith, walking-fits (l .before .loop .inv .1) (l .before .before .row-bytes .ensures) (l .loop-test .taken) (l .before .before .before .before .before .pre), l .before .loop .inv .0)
 
-enum-told : tie.Need-enum-told Inv-loop μ-loop
-enum-told c = search needs
-
-same-length : tie.Need-same-length Inv-loop μ-loop
-same-length c = search needs
-
 returns : tie.Need-returns Inv-loop μ-loop
 returns c =
     let l = c .before .before .before .before .before .before in
     walking-stop (l .before .loop .inv .1) (l .before .before .row-bytes .ensures) (l .loop-test .taken)
     (behind-fault (sym (told tookOf (c .before .before .before .before .take-row .ensures .0) (c .enum-told .given .1)))) _
-
-enum-known-t : tie.Need-enum-known-t Inv-loop μ-loop
-enum-known-t c = search needs
 
 add-plane : tie.Need-add-plane Inv-loop μ-loop
 add-plane c =
@@ -92,9 +80,6 @@ loop-again-2 c =
       walking-on (l .before .loop .inv .1) (l .before .before .row-bytes .ensures) (l .loop-test .taken) (c .if1 .left) (behind (sym (told tookOf (t .ensures .0) (c .before .before .before .t .given .1)))) (t .ensures .1),
     )
 
-same-length-2 : tie.Need-same-length-2 Inv-loop μ-loop
-same-length-2 c = search needs
-
 returns-2 : tie.Need-returns-2 Inv-loop μ-loop
 returns-2 c = walking-end (c .before .loop .inv .1) (c .loop-test .left)
 
@@ -104,14 +89,14 @@ draw-rows-spec =
     (tie.spec
     Inv-loop
     μ-loop
-    row-bytes-requires
+    (λ c κs. search needs)
     mul-down
     loop-holds
     take-row-requires
-    enum-told
-    same-length
+    (λ c. search needs)
+    (λ c. search needs)
     returns
-    enum-known-t
+    (λ c. search needs)
     add-plane
     add-place
     add-line
@@ -120,5 +105,5 @@ draw-rows-spec =
     loop-again
     loop-less-2
     loop-again-2
-    same-length-2
+    (λ c. search needs)
     returns-2)

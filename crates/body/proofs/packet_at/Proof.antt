@@ -13,18 +13,6 @@ returns : tie.Need-returns
 unfolding packetAt
 returns c = (simp (le-ltb _ _ (c .if1 .taken)), tt)
 
-shared-slice-read-n : tie.Need-shared-slice-read-n
-shared-slice-read-n c = search needs
-
-add-t12 : tie.Need-add-t12
-add-t12 c = search needs
-
-cast-count : tie.Need-cast-count
-cast-count c = search needs
-
-add-count : tie.Need-add-count
-add-count c = search needs
-
 returns-2 : tie.Need-returns-2
 unfolding packetAt
 returns-2 c =
@@ -32,12 +20,6 @@ returns-2 c =
     let a = at-start .args in
     let h : getD (a .s .now) (a .at) 0 ≤ 127 = omega arith in
     (simp (lt-ltb _ _ (c .before .before .before .before .if1 .left), le-leb _ _ h, lt-leb _ _ (c .if3 .taken)), tt)
-
-sub-if4 : tie.Need-sub-if4
-sub-if4 c = search needs
-
-sub-if4-2 : tie.Need-sub-if4-2
-sub-if4-2 c = search needs
 
 returns-3 : tie.Need-returns-3
 unfolding packetAt
@@ -49,15 +31,6 @@ returns-3 c =
     let h : n ≤ 127 = omega arith in
     let e : length (a .s .now) < a .at + 1 + (n + 1) = omega arith in
     (simp (lt-ltb _ _ (at-if .if1 .left), le-leb _ _ h, le-leb _ _ (c .before .if3 .left), lt-leb _ _ e), tt)
-
-add-t14 : tie.Need-add-t14
-add-t14 c = search needs
-
-add-t16 : tie.Need-add-t16
-add-t16 c = search needs
-
-add-t17 : tie.Need-add-t17
-add-t17 c = search needs
 
 cast-count-2 : tie.Need-cast-count-2
 cast-count-2 c = omega (arith, c .before .before .shared-slice-known .given (c .before .before .before .before .args .at))
@@ -75,9 +48,6 @@ returns-4 c =
     let k : n ≡ 128 → ⊥ = omega arith in
     (simp (lt-ltb _ _ (c .before .before .before .before .if1 .left), lt-leb _ _ h, ne-eqb _ _ k, lt-leb _ _ (c .if5 .taken)), tt)
 
-sub-if6 : tie.Need-sub-if6
-sub-if6 c = search needs
-
 returns-5 : tie.Need-returns-5
 unfolding packetAt
 returns-5 c =
@@ -89,15 +59,6 @@ returns-5 c =
     let k : n ≡ 128 → ⊥ = omega arith in
     let e : length (a .s .now) < a .at + 2 = omega arith in
     (simp (lt-ltb _ _ (at-if .if1 .left), lt-leb _ _ h, ne-eqb _ _ k, le-leb _ _ (c .before .if5 .left), lt-leb _ _ e), tt)
-
-add-t18 : tie.Need-add-t18
-add-t18 c = search needs
-
-shared-slice-read-t21 : tie.Need-shared-slice-read-t21
-shared-slice-read-t21 c = search needs
-
-add-t19 : tie.Need-add-t19
-add-t19 c = search needs
 
 returns-6 : tie.Need-returns-6
 unfolding packetAt
@@ -131,25 +92,25 @@ packet-at-spec =
     tie.close
     (tie.spec
     returns
-    shared-slice-read-n
-    add-t12
-    cast-count
-    add-count
+    (λ c. search needs)
+    (λ c. search needs)
+    (λ c. search needs)
+    (λ c. search needs)
     returns-2
-    sub-if4
-    sub-if4-2
+    (λ c. search needs)
+    (λ c. search needs)
     returns-3
-    add-t14
-    add-t16
-    add-t17
+    (λ c. search needs)
+    (λ c. search needs)
+    (λ c. search needs)
     cast-count-2
     sub-count
     returns-4
-    sub-if6
+    (λ c. search needs)
     returns-5
-    add-t18
-    shared-slice-read-t21
-    add-t19
+    (λ c. search needs)
+    (λ c. search needs)
+    (λ c. search needs)
     returns-6
     returns-7
     returns-8)

@@ -9,27 +9,12 @@ use borrow.Author.Needs.{needs}
 use Rattle.body.proofs.take_packet.Statement.{statement}
 use Rattle.body.proofs.take_packet.Tie as tie
 
-packet-at-requires : tie.Need-packet-at-requires
-packet-at-requires c κs = search needs
-
-enum-told : tie.Need-enum-told
-enum-told c = search needs
-
-enum-known-p : tie.Need-enum-known-p
-enum-known-p c = search needs
-
-enum-known-p-2 : tie.Need-enum-known-p-2
-enum-known-p-2 c = search needs
-
 draw-copy-requires : tie.Need-draw-copy-requires
 draw-copy-requires c κs =
     let e = c .before .before .before .before .packet-at .ensures in
     let g = c .before .before .p2 .given .1 in
     let f = subst (Fits _) g (e .1) in
     (omega (arith, packet-counted _ _ _ (behind (took-is _ (told (packetOf _) (e .0) g) (length-part _ _ _ f))) .2), f)
-
-enum-known-p-3 : tie.Need-enum-known-p-3
-enum-known-p-3 c = search needs
 
 draw-fill-requires : tie.Need-draw-fill-requires
 draw-fill-requires c κs =
@@ -47,9 +32,6 @@ returns-2 c =
     let k = told (packetOf _) (c .before .before .before .packet-at .ensures .0) (c .before .p .given .1) in
     (took-is 0 k refl, sym (puts-empty _ _ _ k refl))
 
-same-length : tie.Need-same-length
-same-length c = search needs
-
 returns-3 : tie.Need-returns-3
 returns-3 c =
     let at-p = c .before .before .before .before .before in
@@ -58,9 +40,6 @@ returns-3 c =
     let g = at-p .p2 .given .1 in
     let k = told (packetOf _) (e .0) g in
     (took-is _ k (length-part _ _ _ (subst (Fits _) g (e .1))), c .before .before .draw-copy .ensures ∙ sym (puts-is _ _ _ k))
-
-same-length-2 : tie.Need-same-length-2
-same-length-2 c = search needs
 
 returns-4 : tie.Need-returns-4
 returns-4 c =
@@ -73,16 +52,16 @@ pub take-packet-spec : {M : Type 1} → statement M
 take-packet-spec =
     tie.close
     (tie.spec
-    packet-at-requires
-    enum-told
-    enum-known-p
-    enum-known-p-2
+    (λ c κs. search needs)
+    (λ c. search needs)
+    (λ c. search needs)
+    (λ c. search needs)
     draw-copy-requires
-    enum-known-p-3
+    (λ c. search needs)
     draw-fill-requires
     returns
     returns-2
-    same-length
+    (λ c. search needs)
     returns-3
-    same-length-2
+    (λ c. search needs)
     returns-4)

@@ -10,12 +10,6 @@ use borrow.Author.Needs.{needs}
 use Rattle.body.proofs.take_row.Statement.{statement}
 use Rattle.body.proofs.take_row.Tie as tie
 
-unpack-row-requires : tie.Need-unpack-row-requires
-unpack-row-requires c κs = search needs
-
-same-length : tie.Need-same-length
-same-length c = search needs
-
 returns : tie.Need-returns
 returns c = rw (row-packed _ _ _ (c .before .before .before .before .if1 .taken)) (c .before .before .unpack-row .ensures)
 
@@ -26,9 +20,6 @@ returns-2 c =
     let k = row-short _ _ _ (c .before .if1 .left) h in
     (ap took (sym k), drawn-kept k)
 
-sub-if3 : tie.Need-sub-if3
-sub-if3 c = search needs
-
 returns-3 : tie.Need-returns-3
 returns-3 c =
     let at-start = c .before .before .before .before .before in
@@ -36,15 +27,6 @@ returns-3 c =
     let h : length (a .s .now) < a .at + a .row = omega arith in
     let k = row-short _ _ _ (c .before .before .if1 .left) h in
     (ap took (sym k), drawn-kept k)
-
-draw-copy-requires : tie.Need-draw-copy-requires
-draw-copy-requires c κs = search needs
-
-add-t11 : tie.Need-add-t11
-add-t11 c = search needs
-
-same-length-2 : tie.Need-same-length-2
-same-length-2 c = search needs
 
 returns-4 : tie.Need-returns-4
 returns-4 c =
@@ -59,13 +41,13 @@ pub take-row-spec : {M : Type 1} → statement M
 take-row-spec =
     tie.close
     (tie.spec
-    unpack-row-requires
-    same-length
+    (λ c κs. search needs)
+    (λ c. search needs)
     returns
     returns-2
-    sub-if3
+    (λ c. search needs)
     returns-3
-    draw-copy-requires
-    add-t11
-    same-length-2
+    (λ c κs. search needs)
+    (λ c. search needs)
+    (λ c. search needs)
     returns-4)

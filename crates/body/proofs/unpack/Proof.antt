@@ -23,22 +23,10 @@ sound c = subst (Sound _) (sym (c .if1 .left)) (each-is (told lengthOf (c .befor
 whole : (c : tie.Else1) → let a = c .before .before .before .before .before .before .before .args in picture (a .packed) (a .sizes) (a .s .now) (length (a .frame .now)) ≡ body (a .packed) (a .sizes) (a .s .now)
 whole c = picture-body _ _ _ _ (told lengthOf (c .before .before .before .before .frame-length .ensures) (c .before .before .l2 .given .1)) (c .if1 .left)
 
-frame-length-requires : tie.Need-frame-length-requires
-frame-length-requires c κs = search needs
-
-enum-known-l : tie.Need-enum-known-l
-enum-known-l c = search needs
-
-enum-known-l-2 : tie.Need-enum-known-l-2
-enum-known-l-2 c = search needs
-
 returns : tie.Need-returns
 returns c =
     let k = picture-length _ _ _ _ (told lengthOf (c .before .before .before .before .frame-length .ensures) (c .before .before .l2 .given .1)) (c .if1 .taken) in
     (ap answer (sym k), ap (orKeep _) (sym k))
-
-row-bytes-requires : tie.Need-row-bytes-requires
-row-bytes-requires c κs = search needs
 
 mul-check-rows : tie.Need-mul-check-rows
 mul-check-rows c =
@@ -47,9 +35,6 @@ mul-check-rows c =
 
 check-rows-requires : tie.Need-check-rows-requires
 check-rows-requires c κs = let z = sound (c .before .before .before) in (omega (arith, c .before .before .row-bytes .ensures, spot-fits _ _ 0 0 z (z .height-least) (z .planes-least)), rows-most z (c .before .before .row-bytes .ensures))
-
-same-length : tie.Need-same-length
-same-length c = search needs
 
 returns-2 : tie.Need-returns-2
 returns-2 c =
@@ -69,9 +54,6 @@ returns-3 c =
     let k = picture-sizes _ _ _ _ (told lengthOf (c .before .before .before .frame-length .ensures) (c .before .l .given .1)) in
     (ap answer (sym k), ap (orKeep _) (sym k))
 
-same-length-2 : tie.Need-same-length-2
-same-length-2 c = search needs
-
 returns-4 : tie.Need-returns-4
 returns-4 c =
     let at-check-rows = c .before .before .before .before .before .before .before in
@@ -86,16 +68,16 @@ pub unpack-spec : {M : Type 1} → statement M
 unpack-spec =
     tie.close
     (tie.spec
-    frame-length-requires
-    enum-known-l
-    enum-known-l-2
+    (λ c κs. search needs)
+    (λ c. search needs)
+    (λ c. search needs)
     returns
-    row-bytes-requires
+    (λ c κs. search needs)
     mul-check-rows
     check-rows-requires
-    same-length
+    (λ c. search needs)
     returns-2
     draw-rows-requires
     returns-3
-    same-length-2
+    (λ c. search needs)
     returns-4)

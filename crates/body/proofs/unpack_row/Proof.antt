@@ -22,17 +22,8 @@ loop-holds c = (refl, unpacking-starts)
 add-take-packet : tie.Need-add-take-packet Inv-loop μ-loop
 add-take-packet c = omega (arith, c .before .before .loop .inv .1 .fits)
 
-sub-take-packet : tie.Need-sub-take-packet Inv-loop μ-loop
-sub-take-packet c = search needs
-
 take-packet-requires : tie.Need-take-packet-requires Inv-loop μ-loop
 take-packet-requires c κs = omega (arith, c .before .before .loop .inv .1 .fits)
-
-enum-told : tie.Need-enum-told Inv-loop μ-loop
-enum-told c = search needs
-
-same-length : tie.Need-same-length Inv-loop μ-loop
-same-length c = search needs
 
 returns : tie.Need-returns Inv-loop μ-loop
 returns c =
@@ -43,9 +34,6 @@ returns c =
     let q = behind-fault (sym (told tookOf (e .0) (c .enum-told .given .1))) in
     let k = unpacking-fault i (at-loop-test .loop-test .taken) q in
     (ap took (sym k), drawn-fault (i .bytes) (e .1 ∙ puts-fault _ _ _ q ∙ i .drawn) k)
-
-enum-known-t : tie.Need-enum-known-t Inv-loop μ-loop
-enum-known-t c = search needs
 
 add-filled : tie.Need-add-filled Inv-loop μ-loop
 add-filled c =
@@ -68,9 +56,6 @@ loop-again c =
       unpacking-more (i .1) (at-loop-test .loop-test .taken) (behind (sym (told tookOf (t .ensures .0) (c .before .t .given .1)))) (t .ensures .1),
     )
 
-same-length-2 : tie.Need-same-length-2 Inv-loop μ-loop
-same-length-2 c = search needs
-
 returns-2 : tie.Need-returns-2 Inv-loop μ-loop
 returns-2 c =
     let i = c .before .loop .inv .1 in
@@ -85,14 +70,14 @@ unpack-row-spec =
     μ-loop
     loop-holds
     add-take-packet
-    sub-take-packet
+    (λ c. search needs)
     take-packet-requires
-    enum-told
-    same-length
+    (λ c. search needs)
+    (λ c. search needs)
     returns
-    enum-known-t
+    (λ c. search needs)
     add-filled
     loop-less
     loop-again
-    same-length-2
+    (λ c. search needs)
     returns-2)

@@ -12,9 +12,6 @@ use Rattle.buffer.proofs.byte.Tie as tie
 byte-most : (s : List ℕ) → ((i : ℕ) → getD s i 0 < 256) → (i : ℕ) → getD s i 0 ≡ min (getD s i 0) 255
 byte-most s h i = omega (arith, h i)
 
-shared-slice-read-result : tie.Need-shared-slice-read-result
-shared-slice-read-result c = search needs
-
 cast-result : tie.Need-cast-result
 cast-result c = rw (byte-most (c .before .before .args .s .now) (λ i. omega (arith, c .shared-slice-known .given i))) (omega arith)
 
@@ -25,4 +22,8 @@ returns-2 : tie.Need-returns-2
 returns-2 c = (sym (List·getD-eq-default (c .before .args .s .now) 0 (c .if1 .left)), omega arith)
 
 pub byte-spec : {M : Type 1} → statement M
-byte-spec = tie.close (tie.spec shared-slice-read-result cast-result returns returns-2)
+byte-spec = tie.close (tie.spec
+    (λ c. search needs)
+    cast-result
+    returns
+    returns-2)

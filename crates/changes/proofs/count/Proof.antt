@@ -24,65 +24,20 @@ returns-2 c = count-none _ _ (c .before .if1 .left) (c .if2 .taken)
 loop-holds : tie.Need-loop-holds Inv-loop μ-loop
 loop-holds c = (omega arith, count-starts _ _ 0)
 
-sub-loop : tie.Need-sub-loop Inv-loop μ-loop
-sub-loop c = search needs
-
-count-block-requires : tie.Need-count-block-requires Inv-loop μ-loop
-count-block-requires c κs = search needs
-
-cast-runs : tie.Need-cast-runs Inv-loop μ-loop
-cast-runs c = search needs
-
 add-runs : tie.Need-add-runs Inv-loop μ-loop
 add-runs c = omega (arith, c .before .before .before .loop .inv .1 .few-runs, c .before .count-block .ensures .few-runs)
-
-cast-changed : tie.Need-cast-changed Inv-loop μ-loop
-cast-changed c = search needs
 
 add-changed : tie.Need-add-changed Inv-loop μ-loop
 add-changed c = omega (arith, c .before .before .before .before .loop .inv .1 .few-bytes, c .before .before .count-block .ensures .few-bytes)
 
-add-at : tie.Need-add-at Inv-loop μ-loop
-add-at c = search needs
-
-loop-less : tie.Need-loop-less Inv-loop μ-loop
-loop-less c = search needs
-
 loop-again : tie.Need-loop-again Inv-loop μ-loop
 loop-again c = (omega arith, count-then (c .before .before .before .before .loop .inv .1) (c .before .before .count-block .ensures))
-
-sub-count-block : tie.Need-sub-count-block Inv-loop μ-loop
-sub-count-block c = search needs
-
-sub-count-block-2 : tie.Need-sub-count-block-2 Inv-loop μ-loop
-sub-count-block-2 c = search needs
-
-count-block-requires-2 : tie.Need-count-block-requires-2 Inv-loop μ-loop
-count-block-requires-2 c κs = search needs
-
-cast-runs-2 : tie.Need-cast-runs-2 Inv-loop μ-loop
-cast-runs-2 c = search needs
 
 add-runs-2 : tie.Need-add-runs-2 Inv-loop μ-loop
 add-runs-2 c = omega (arith, c .before .before .before .loop .inv .1 .few-runs, c .before .count-block2 .ensures .few-runs)
 
-cast-changed-2 : tie.Need-cast-changed-2 Inv-loop μ-loop
-cast-changed-2 c = search needs
-
 add-changed-2 : tie.Need-add-changed-2 Inv-loop μ-loop
 add-changed-2 c = omega (arith, c .before .before .before .before .loop .inv .1 .few-bytes, c .before .before .count-block2 .ensures .few-bytes)
-
-sub-if3 : tie.Need-sub-if3 Inv-loop μ-loop
-sub-if3 c = search needs
-
-shared-slice-read-if3 : tie.Need-shared-slice-read-if3 Inv-loop μ-loop
-shared-slice-read-if3 c = search needs
-
-sub-if3-2 : tie.Need-sub-if3-2 Inv-loop μ-loop
-sub-if3-2 c = search needs
-
-shared-slice-read-if3-2 : tie.Need-shared-slice-read-if3-2 Inv-loop μ-loop
-shared-slice-read-if3-2 c = search needs
 
 returns-3 : tie.Need-returns-3 Inv-loop μ-loop
 returns-3 c =
@@ -121,26 +76,26 @@ count-spec =
     returns
     returns-2
     loop-holds
-    sub-loop
-    count-block-requires
-    cast-runs
+    (λ c. search needs)
+    (λ c κs. search needs)
+    (λ c. search needs)
     add-runs
-    cast-changed
+    (λ c. search needs)
     add-changed
-    add-at
-    loop-less
+    (λ c. search needs)
+    (λ c. search needs)
     loop-again
-    sub-count-block
-    sub-count-block-2
-    count-block-requires-2
-    cast-runs-2
+    (λ c. search needs)
+    (λ c. search needs)
+    (λ c κs. search needs)
+    (λ c. search needs)
     add-runs-2
-    cast-changed-2
+    (λ c. search needs)
     add-changed-2
-    sub-if3
-    shared-slice-read-if3
-    sub-if3-2
-    shared-slice-read-if3-2
+    (λ c. search needs)
+    (λ c. search needs)
+    (λ c. search needs)
+    (λ c. search needs)
     returns-3
     add-t9
     add-t13

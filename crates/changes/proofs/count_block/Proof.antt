@@ -18,57 +18,15 @@ abbrev μ-loop : tie.MeasureT-loop
 loop-holds : tie.Need-loop-holds Inv-loop μ-loop
 loop-holds c = (omega arith, rw (add-zero (c .args .at)) (count-starts _ _ _))
 
-add-differs : tie.Need-add-differs Inv-loop μ-loop
-add-differs c = search needs
-
-shared-slice-read-differs : tie.Need-shared-slice-read-differs Inv-loop μ-loop
-shared-slice-read-differs c = search needs
-
-add-differs-2 : tie.Need-add-differs-2 Inv-loop μ-loop
-add-differs-2 c = search needs
-
-shared-slice-read-differs-2 : tie.Need-shared-slice-read-differs-2 Inv-loop μ-loop
-shared-slice-read-differs-2 c = search needs
-
-add-last : tie.Need-add-last Inv-loop μ-loop
-add-last c = search needs
-
-add-last-2 : tie.Need-add-last-2 Inv-loop μ-loop
-add-last-2 c = search needs
-
-shared-slice-read-last : tie.Need-shared-slice-read-last Inv-loop μ-loop
-shared-slice-read-last c = search needs
-
-add-last-3 : tie.Need-add-last-3 Inv-loop μ-loop
-add-last-3 c = search needs
-
-add-last-4 : tie.Need-add-last-4 Inv-loop μ-loop
-add-last-4 c = search needs
-
-shared-slice-read-last-2 : tie.Need-shared-slice-read-last-2 Inv-loop μ-loop
-shared-slice-read-last-2 c = search needs
-
-cast-ends : tie.Need-cast-ends Inv-loop μ-loop
-cast-ends c = search needs
-
 add-ends : tie.Need-add-ends Inv-loop μ-loop
 add-ends c =
     let at-loop = c .before .before .before .before .before in
     rw byte-most (omega (arith, at-loop .loop .inv .1 .few-runs))
 
-cast-changed : tie.Need-cast-changed Inv-loop μ-loop
-cast-changed c = search needs
-
 add-changed : tie.Need-add-changed Inv-loop μ-loop
 add-changed c =
     let at-loop = c .before .before .before .before .before in
     rw byte-most (omega (arith, at-loop .loop .inv .1 .few-bytes))
-
-add-i : tie.Need-add-i Inv-loop μ-loop
-add-i c = search needs
-
-loop-less : tie.Need-loop-less Inv-loop μ-loop
-loop-less c = search needs
 
 loop-again : tie.Need-loop-again Inv-loop μ-loop
 loop-again c = let b = c .before .before .before .before .before in (omega arith, rw (← (add-assoc (b .before .args .at) (b .loop .i) 1)) (count-then (b .loop .inv .1) (count-byte _ _ _ (b .before .pre .0) (omega arith))))
@@ -83,21 +41,21 @@ count-block-spec =
     Inv-loop
     μ-loop
     loop-holds
-    add-differs
-    shared-slice-read-differs
-    add-differs-2
-    shared-slice-read-differs-2
-    add-last
-    add-last-2
-    shared-slice-read-last
-    add-last-3
-    add-last-4
-    shared-slice-read-last-2
-    cast-ends
+    (λ c. search needs)
+    (λ c. search needs)
+    (λ c. search needs)
+    (λ c. search needs)
+    (λ c. search needs)
+    (λ c. search needs)
+    (λ c. search needs)
+    (λ c. search needs)
+    (λ c. search needs)
+    (λ c. search needs)
+    (λ c. search needs)
     add-ends
-    cast-changed
+    (λ c. search needs)
     add-changed
-    add-i
-    loop-less
+    (λ c. search needs)
+    (λ c. search needs)
     loop-again
     returns)

@@ -13,9 +13,6 @@ returns c = sym (two-lengths _ _ (c .if1 .taken))
 returns-2 : tie.Need-returns-2
 returns-2 c = sym (too-many _ _ (c .before .if1 .left) (c .if2 .taken))
 
-measure-requires : tie.Need-measure-requires
-measure-requires c κs = search needs
-
 add-t3 : tie.Need-add-t3
 add-t3 c = omega (arith, c .measure .ensures .1)
 
@@ -23,4 +20,9 @@ returns-3 : tie.Need-returns-3
 returns-3 c = sym (measured _ _ (c .before .before .if1 .left) (c .before .if2 .left) ∙ ap ok (c .measure .ensures .0))
 
 pub length-spec : {M : Type 1} → statement M
-length-spec = tie.close (tie.spec returns returns-2 measure-requires add-t3 returns-3)
+length-spec = tie.close (tie.spec
+    returns
+    returns-2
+    (λ c κs. search needs)
+    add-t3
+    returns-3)

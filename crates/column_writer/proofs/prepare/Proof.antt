@@ -6,12 +6,6 @@ use borrow.Author.Needs.{needs}
 use Rattle.column_writer.proofs.prepare.Statement.{statement}
 use Rattle.column_writer.proofs.prepare.Tie as tie
 
-write-ops-requires : tie.Need-write-ops-requires
-write-ops-requires c κs = search needs
-
-same-length : tie.Need-same-length
-same-length c = search needs
-
 returns : tie.Need-returns
 returns c =
     let at-start = c .before .before .before .before .before .before .before .before .before in
@@ -29,9 +23,6 @@ sub-t12 c =
     let at-start = at-write-ops .before .before .before .before .before in
     past-rows (at-write-ops .write-ops .ensures .0) (at-start .pre .1) _ (omega (arith, at-start .pre .2, at-write-ops .write-ops .ensures .1 .size)) (c .before .before .write-uniqs .ensures)
 
-same-length-2 : tie.Need-same-length-2
-same-length-2 c = search needs
-
 returns-2 : tie.Need-returns-2
 returns-2 c =
     let at-write-ops = c .before .before .before .before .before .before .before .before in
@@ -42,10 +33,10 @@ pub prepare-spec : {M : Type 1} → statement M
 prepare-spec =
     tie.close
     (tie.spec
-    write-ops-requires
-    same-length
+    (λ c κs. search needs)
+    (λ c. search needs)
     returns
     write-uniqs-requires
     sub-t12
-    same-length-2
+    (λ c. search needs)
     returns-2)

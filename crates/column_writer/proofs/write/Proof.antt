@@ -10,19 +10,13 @@ returns c = not-measured _ _ _ _ (two-lengths _ _ (c .if1 .taken))
 returns-2 : tie.Need-returns-2
 returns-2 c = not-measured _ _ _ _ (too-many _ _ (c .before .if1 .left) (c .if2 .taken))
 
-slice-aggregate-write-in : tie.Need-slice-aggregate-write-in
-slice-aggregate-write-in c = search needs
-
-write-in-requires : tie.Need-write-in-requires
-write-in-requires c κs = search needs
-
-same-length : tie.Need-same-length
-same-length c = search needs
-
-returns-3 : tie.Need-returns-3
-returns-3 c = search needs
-
 pub write-spec : {M : Type 1} → statement M
 write-spec =
     tie.close
-    (tie.spec returns returns-2 slice-aggregate-write-in write-in-requires same-length returns-3)
+    (tie.spec
+    returns
+    returns-2
+    (λ c. search needs)
+    (λ c κs. search needs)
+    (λ c. search needs)
+    (λ c. search needs))

@@ -7,25 +7,10 @@ use borrow.Author.Needs.{needs}
 use Rattle.column_writer.proofs.write_in.Statement.{statement}
 use Rattle.column_writer.proofs.write_in.Tie as tie
 
-prepare-requires : tie.Need-prepare-requires
-prepare-requires c κs = search needs
-
-same-length : tie.Need-same-length
-same-length c = search needs
-
 returns : tie.Need-returns
 returns c =
     let at-start = c .before .before .before .before .before .before .before .before .before in
     no-room _ _ _ _ (measured _ _ (at-start .pre .0) (at-start .pre .1)) (omega (arith, c .if1 .taken))
-
-add-size : tie.Need-add-size
-add-size c = search needs
-
-sub-if2 : tie.Need-sub-if2
-sub-if2 c = search needs
-
-same-length-2 : tie.Need-same-length-2
-same-length-2 c = search needs
 
 returns-2 : tie.Need-returns-2
 returns-2 c =
@@ -33,37 +18,13 @@ returns-2 c =
     let at-start = at-prepare .before .before .before .before .before .before in
     no-room _ _ _ _ (measured _ _ (at-start .pre .0) (at-start .pre .1)) (omega (arith, c .if2 .taken, prepared-length (at-prepare .prepare .ensures)))
 
-cast-out : tie.Need-cast-out
-cast-out c = search needs
-
-slice-write-out : tie.Need-slice-write-out
-slice-write-out c = search needs
-
-add-start : tie.Need-add-start
-add-start c = search needs
-
-add-end : tie.Need-add-end
-add-end c = search needs
-
-sub-copy : tie.Need-sub-copy
-sub-copy c = search needs
-
-part-copy-start : tie.Need-part-copy-start
-part-copy-start c = search needs
-
 part-copy-end : tie.Need-part-copy-end
 part-copy-end c = rw length-set (omega (arith, c .before .before .before .before .if1 .left, c .before .before .if2 .left))
-
-slice-reshare-prefix-copy : tie.Need-slice-reshare-prefix-copy
-slice-reshare-prefix-copy c = search needs
 
 slice-aggregate-copy : tie.Need-slice-aggregate-copy
 slice-aggregate-copy c =
     let at-prepare = c .before .before .before .before .before .before .before .before .before in
     prepared-front (at-prepare .prepare .ensures)
-
-copy-requires : tie.Need-copy-requires
-copy-requires c κs = search needs
 
 same-length-3 : tie.Need-same-length-3
 same-length-3 c =
@@ -72,9 +33,6 @@ same-length-3 c =
     let at-prepare = at-if-2 .before .before .before in
     let at-start = at-prepare .before .before .before .before .before .before in
     put-column (at-prepare .prepare .ensures) (at-start .args .out .now) (at-start .args .at) _ (omega (arith, at-if-2 .if1 .left, at-if .if2 .left)) (c .before .before .copy .ensures) .size
-
-same-length-4 : tie.Need-same-length-4
-same-length-4 c = search needs
 
 returns-3 : tie.Need-returns-3
 returns-3 c =
@@ -88,23 +46,23 @@ pub write-in-spec : {M : Type 1} → statement M
 write-in-spec =
     tie.close
     (tie.spec
-    prepare-requires
-    same-length
+    (λ c κs. search needs)
+    (λ c. search needs)
     returns
-    add-size
-    sub-if2
-    same-length-2
+    (λ c. search needs)
+    (λ c. search needs)
+    (λ c. search needs)
     returns-2
-    cast-out
-    slice-write-out
-    add-start
-    add-end
-    sub-copy
-    part-copy-start
+    (λ c. search needs)
+    (λ c. search needs)
+    (λ c. search needs)
+    (λ c. search needs)
+    (λ c. search needs)
+    (λ c. search needs)
     part-copy-end
-    slice-reshare-prefix-copy
+    (λ c. search needs)
     slice-aggregate-copy
-    copy-requires
+    (λ c κs. search needs)
     same-length-3
-    same-length-4
+    (λ c. search needs)
     returns-3)

@@ -28,42 +28,15 @@ module _ {kind : Kind} (rows : ℕ) (new : List ℕ) (row : ℕ) where
   uniqs : kind ≡ Uniq → opsBytes (pieceOps kind rows (drop row new)) ≡ opsBytes (cut (uniq (take (row + rows - row) (drop row new))))
   uniqs e = let f : row + rows - row ≡ rows = omega arith in rw (e, f)
 
-enum-told : tie.Need-enum-told
-enum-told c = search needs
-
-enum-told-2 : tie.Need-enum-told-2
-enum-told-2 c = search needs
-
 write-skips-requires : tie.Need-write-skips-requires
 write-skips-requires c κs =
     let at-start = c .before .before .before .before .before in
     omega (arith, at-start .pre .2, ap length (skips (at-start .args .piece .rows) (at-start .args .new .now) (at-start .args .row) (c .before .enum-told2 .given .1)))
 
-enum-told-3 : tie.Need-enum-told-3
-enum-told-3 c = search needs
-
-shared-slice-read-write-sames : tie.Need-shared-slice-read-write-sames
-shared-slice-read-write-sames c = search needs
-
 write-sames-requires : tie.Need-write-sames-requires
 write-sames-requires c κs =
     let at-start = c .before .before .before .before .before .before in
     omega (arith, at-start .pre .2, ap length (sames (at-start .args .piece .rows) (at-start .args .new .now) (at-start .args .row) (c .before .before .enum-told3 .given .1)))
-
-enum-told-4 : tie.Need-enum-told-4
-enum-told-4 c = search needs
-
-add-end : tie.Need-add-end
-add-end c = search needs
-
-sub-write-uniqs : tie.Need-sub-write-uniqs
-sub-write-uniqs c = search needs
-
-part-write-uniqs-start : tie.Need-part-write-uniqs-start
-part-write-uniqs-start c = search needs
-
-part-write-uniqs-end : tie.Need-part-write-uniqs-end
-part-write-uniqs-end c = search needs
 
 write-uniqs-requires : tie.Need-write-uniqs-requires
 write-uniqs-requires c κs =
@@ -73,25 +46,16 @@ write-uniqs-requires c κs =
 returns : tie.Need-returns
 returns c = put-as put-nothing (rest (c .before .before .before .before .args .piece .rows) (c .before .before .before .before .args .new .now) (c .before .before .before .before .args .row) (c .enum-told .given .1))
 
-same-length : tie.Need-same-length
-same-length c = search needs
-
 returns-2 : tie.Need-returns-2
 returns-2 c =
     let at-start = c .before .before .before .before .before .before .before .before in
     put-as (c .before .before .write-skips .ensures) (skips (at-start .args .piece .rows) (at-start .args .new .now) (at-start .args .row) (c .before .before .before .before .enum-told2 .given .1))
-
-same-length-2 : tie.Need-same-length-2
-same-length-2 c = search needs
 
 returns-3 : tie.Need-returns-3
 returns-3 c =
     let at-enum-told = c .before .before .before .before .before in
     let at-start = at-enum-told .before .before .before .before in
     put-as (c .before .before .write-sames .ensures) (sames (at-start .args .piece .rows) (at-start .args .new .now) (at-start .args .row) (at-enum-told .enum-told3 .given .1))
-
-same-length-3 : tie.Need-same-length-3
-same-length-3 c = search needs
 
 returns-4 : tie.Need-returns-4
 returns-4 c =
@@ -103,22 +67,22 @@ pub write-piece-spec : {M : Type 1} → statement M
 write-piece-spec =
     tie.close
     (tie.spec
-    enum-told
-    enum-told-2
+    (λ c. search needs)
+    (λ c. search needs)
     write-skips-requires
-    enum-told-3
-    shared-slice-read-write-sames
+    (λ c. search needs)
+    (λ c. search needs)
     write-sames-requires
-    enum-told-4
-    add-end
-    sub-write-uniqs
-    part-write-uniqs-start
-    part-write-uniqs-end
+    (λ c. search needs)
+    (λ c. search needs)
+    (λ c. search needs)
+    (λ c. search needs)
+    (λ c. search needs)
     write-uniqs-requires
     returns
-    same-length
+    (λ c. search needs)
     returns-2
-    same-length-2
+    (λ c. search needs)
     returns-3
-    same-length-3
+    (λ c. search needs)
     returns-4)

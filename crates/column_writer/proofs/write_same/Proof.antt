@@ -20,9 +20,6 @@ slice-write-out : tie.Need-slice-write-out
 unfolding opBytes
 slice-write-out c = omega arith
 
-cast-out : tie.Need-cast-out
-cast-out c = search needs
-
 add-out : tie.Need-add-out
 unfolding opBytes
 add-out c = omega arith
@@ -43,9 +40,6 @@ add-result : tie.Need-add-result
 unfolding opBytes
 add-result c = omega arith
 
-same-length : tie.Need-same-length
-same-length c = search needs
-
 returns : tie.Need-returns
 returns c = three _ _ _ _
 
@@ -54,11 +48,11 @@ write-same-spec =
     tie.close
     (tie.spec
     slice-write-out
-    cast-out
+    (λ c. search needs)
     add-out
     slice-write-out-2
     add-out-2
     slice-write-out-3
     add-result
-    same-length
+    (λ c. search needs)
     returns)

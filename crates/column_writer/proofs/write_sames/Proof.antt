@@ -21,25 +21,16 @@ loop-holds c = putting (c .before .pre)
 write-same-requires : tie.Need-write-same-requires Inv-loop μ-loop
 write-same-requires c κs = (omega arith, putting-room (c .before .before .loop .inv) (same-more _ _ (c .before .loop-test .taken)))
 
-loop-less : tie.Need-loop-less Inv-loop μ-loop
-loop-less c = search needs
-
 loop-again : tie.Need-loop-again Inv-loop μ-loop
 loop-again c =
     let at-loop = c .before .before .before .before .before in
     putting-more (at-loop .loop .inv) (same-more _ _ (c .before .before .before .before .loop-test .taken)) (c .before .before .write-same .ensures)
-
-same-length : tie.Need-same-length Inv-loop μ-loop
-same-length c = search needs
 
 returns : tie.Need-returns Inv-loop μ-loop
 returns c = putting-last (c .before .before .loop .inv) (same-none _ _ (c .if1 .taken))
 
 write-same-requires-2 : tie.Need-write-same-requires-2 Inv-loop μ-loop
 write-same-requires-2 c κs = (omega arith, putting-room (c .before .before .before .loop .inv) (same-last _ _ (omega arith) (c .before .before .loop-test .left)))
-
-same-length-2 : tie.Need-same-length-2 Inv-loop μ-loop
-same-length-2 c = search needs
 
 returns-2 : tie.Need-returns-2 Inv-loop μ-loop
 returns-2 c =
@@ -55,10 +46,10 @@ write-sames-spec =
     μ-loop
     loop-holds
     write-same-requires
-    loop-less
+    (λ c. search needs)
     loop-again
-    same-length
+    (λ c. search needs)
     returns
     write-same-requires-2
-    same-length-2
+    (λ c. search needs)
     returns-2)

@@ -23,29 +23,17 @@ slice-write-out c = omega (arith, putting-room (c .before .loop .inv) (skip-more
 add-place : tie.Need-add-place Inv-loop μ-loop
 add-place c = omega (arith, putting-room (c .before .loop .inv) (skip-more _ (c .loop-test .taken)))
 
-loop-less : tie.Need-loop-less Inv-loop μ-loop
-loop-less c = search needs
-
 loop-again : tie.Need-loop-again Inv-loop μ-loop
 loop-again c = putting-more (c .before .loop .inv) (skip-more _ (c .loop-test .taken)) put-byte
 
-same-length : tie.Need-same-length Inv-loop μ-loop
-same-length c = search needs
-
 returns : tie.Need-returns Inv-loop μ-loop
 returns c = putting-last (c .before .before .loop .inv) (skip-none _ (c .if1 .taken))
-
-cast-out : tie.Need-cast-out Inv-loop μ-loop
-cast-out c = search needs
 
 slice-write-out-2 : tie.Need-slice-write-out-2 Inv-loop μ-loop
 slice-write-out-2 c = omega (arith, putting-room (c .before .before .loop .inv) (skip-last _ (omega arith) (c .before .loop-test .left)))
 
 add-result : tie.Need-add-result Inv-loop μ-loop
 add-result c = omega (arith, putting-room (c .before .before .loop .inv) (skip-last _ (omega arith) (c .before .loop-test .left)))
-
-same-length-2 : tie.Need-same-length-2 Inv-loop μ-loop
-same-length-2 c = search needs
 
 returns-2 : tie.Need-returns-2 Inv-loop μ-loop
 returns-2 c = putting-last (putting-more (c .before .before .loop .inv) (skip-last _ (omega arith) (c .before .loop-test .left)) put-byte) refl
@@ -59,12 +47,12 @@ write-skips-spec =
     loop-holds
     slice-write-out
     add-place
-    loop-less
+    (λ c. search needs)
     loop-again
-    same-length
+    (λ c. search needs)
     returns
-    cast-out
+    (λ c. search needs)
     slice-write-out-2
     add-result
-    same-length-2
+    (λ c. search needs)
     returns-2)

@@ -29,33 +29,12 @@ module _ (out : List ℕ) (at : ℕ) (rows : List ℕ) (h : at + length (opBytes
   unfolding opBytes started
   putRows y e = put-then put-byte (put-copy (set out at (128 + length rows)) (at + 1) (at + 1 + length rows) rows y refl fits e)
 
-add-out : tie.Need-add-out
-add-out c = search needs
-
-cast-out : tie.Need-cast-out
-cast-out c = search needs
-
 slice-write-out : tie.Need-slice-write-out
 slice-write-out c = inside (c .before .before .args .out .now) (c .before .before .args .at) (c .before .before .args .rows .now) (c .before .before .pre .1)
-
-add-start : tie.Need-add-start
-add-start c = search needs
-
-add-end : tie.Need-add-end
-add-end c = search needs
-
-sub-copy : tie.Need-sub-copy
-sub-copy c = search needs
-
-part-copy-start : tie.Need-part-copy-start
-part-copy-start c = search needs
 
 part-copy-end : tie.Need-part-copy-end
 unfolding started
 part-copy-end c = fits (c .before .before .args .out .now) (c .before .before .args .at) (c .before .before .args .rows .now) (c .before .before .pre .1)
-
-copy-requires : tie.Need-copy-requires
-copy-requires c κs = search needs
 
 same-length : tie.Need-same-length
 same-length c =
@@ -71,14 +50,14 @@ pub write-uniq-spec : {M : Type 1} → statement M
 write-uniq-spec =
     tie.close
     (tie.spec
-    add-out
-    cast-out
+    (λ c. search needs)
+    (λ c. search needs)
     slice-write-out
-    add-start
-    add-end
-    sub-copy
-    part-copy-start
+    (λ c. search needs)
+    (λ c. search needs)
+    (λ c. search needs)
+    (λ c. search needs)
     part-copy-end
-    copy-requires
+    (λ c κs. search needs)
     same-length
     returns)

@@ -38,26 +38,8 @@ abbrev μ-loop : tie.MeasureT-loop
 loop-holds : tie.Need-loop-holds Inv-loop μ-loop
 loop-holds c = (omega arith, putting (c .before .before .pre))
 
-sub-loop : tie.Need-sub-loop Inv-loop μ-loop
-sub-loop c = search needs
-
-add-end : tie.Need-add-end Inv-loop μ-loop
-add-end c = search needs
-
-sub-write-uniq : tie.Need-sub-write-uniq Inv-loop μ-loop
-sub-write-uniq c = search needs
-
-part-write-uniq-start : tie.Need-part-write-uniq-start Inv-loop μ-loop
-part-write-uniq-start c = search needs
-
-part-write-uniq-end : tie.Need-part-write-uniq-end Inv-loop μ-loop
-part-write-uniq-end c = search needs
-
 write-uniq-requires : tie.Need-write-uniq-requires Inv-loop μ-loop
 write-uniq-requires c κs = (short _ _ (c .before .before .before .loop .inv .0) _ (omega arith), putting-room (c .before .before .before .loop .inv .1) (next _ _ (c .before .before .before .loop .inv .0) (c .before .before .loop-test .taken)))
-
-loop-less : tie.Need-loop-less Inv-loop μ-loop
-loop-less c = search needs
 
 loop-again : tie.Need-loop-again Inv-loop μ-loop
 loop-again c =
@@ -65,26 +47,11 @@ loop-again c =
     let at-loop = at-loop-test .before in
     (omega arith, putting-more (at-loop .loop .inv .1) (next _ _ (at-loop .loop .inv .0) (at-loop-test .loop-test .taken)) (c .before .before .write-uniq .ensures))
 
-same-length : tie.Need-same-length Inv-loop μ-loop
-same-length c = search needs
-
 returns : tie.Need-returns Inv-loop μ-loop
 returns c = putting-last (c .before .before .loop .inv .1) (none _ _ (c .before .before .loop .inv .0) (c .if1 .taken))
 
-sub-write-uniq-2 : tie.Need-sub-write-uniq-2 Inv-loop μ-loop
-sub-write-uniq-2 c = search needs
-
-part-write-uniq-start-2 : tie.Need-part-write-uniq-start-2 Inv-loop μ-loop
-part-write-uniq-start-2 c = search needs
-
-part-write-uniq-end-2 : tie.Need-part-write-uniq-end-2 Inv-loop μ-loop
-part-write-uniq-end-2 c = search needs
-
 write-uniq-requires-2 : tie.Need-write-uniq-requires-2 Inv-loop μ-loop
 write-uniq-requires-2 c κs = (short _ _ (c .before .before .before .before .loop .inv .0) _ (omega arith), putting-room (c .before .before .before .before .loop .inv .1) (last _ _ (c .before .before .before .before .loop .inv .0) (c .before .before .if1 .left) (c .before .before .before .loop-test .left)))
-
-same-length-2 : tie.Need-same-length-2 Inv-loop μ-loop
-same-length-2 c = search needs
 
 returns-2 : tie.Need-returns-2 Inv-loop μ-loop
 returns-2 c =
@@ -100,19 +67,19 @@ write-uniqs-spec =
     Inv-loop
     μ-loop
     loop-holds
-    sub-loop
-    add-end
-    sub-write-uniq
-    part-write-uniq-start
-    part-write-uniq-end
+    (λ c. search needs)
+    (λ c. search needs)
+    (λ c. search needs)
+    (λ c. search needs)
+    (λ c. search needs)
     write-uniq-requires
-    loop-less
+    (λ c. search needs)
     loop-again
-    same-length
+    (λ c. search needs)
     returns
-    sub-write-uniq-2
-    part-write-uniq-start-2
-    part-write-uniq-end-2
+    (λ c. search needs)
+    (λ c. search needs)
+    (λ c. search needs)
     write-uniq-requires-2
-    same-length-2
+    (λ c. search needs)
     returns-2)

@@ -7,18 +7,6 @@ use borrow.Author.Needs.{needs}
 use Rattle.delta.proofs.apply_first.Statement.{statement}
 use Rattle.delta.proofs.apply_first.Tie as tie
 
-check-requires : tie.Need-check-requires
-check-requires c κs = search needs
-
-enum-known-checked : tie.Need-enum-known-checked
-enum-known-checked c = search needs
-
-enum-known-checked-2 : tie.Need-enum-known-checked-2
-enum-known-checked-2 c = search needs
-
-fill-requires : tie.Need-fill-requires
-fill-requires c κs = search needs
-
 shape-of-requires : tie.Need-shape-of-requires
 shape-of-requires c κs =
     let t = c .before .before .before .before .before .before in
@@ -29,16 +17,10 @@ take-delta-requires c κs =
     let t = c .before .before .before .before .before .before .before in
     planes-for (t .before .before .before .before .check .ensures) (t .checked2 .given .1) (c .shape-of .ensures) (c .before .before .before .before .fill .kept .0)
 
-same-length : tie.Need-same-length
-same-length c = search needs
-
 returns : tie.Need-returns
 returns c =
     let t = c .before .before .before .before .before in
     applies-refused (sym (length-replicate {A = ℕ} _ 0)) (t .check .ensures) (c .before .checked .given .1)
-
-same-length-2 : tie.Need-same-length-2
-same-length-2 c = search needs
 
 returns-2 : tie.Need-returns-2
 returns-2 c =
@@ -51,13 +33,13 @@ pub apply-first-spec : {M : Type 1} → statement M
 apply-first-spec =
     tie.close
     (tie.spec
-    check-requires
-    enum-known-checked
-    enum-known-checked-2
-    fill-requires
+    (λ c κs. search needs)
+    (λ c. search needs)
+    (λ c. search needs)
+    (λ c κs. search needs)
     shape-of-requires
     take-delta-requires
-    same-length
+    (λ c. search needs)
     returns
-    same-length-2
+    (λ c. search needs)
     returns-2)

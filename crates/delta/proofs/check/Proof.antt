@@ -8,15 +8,6 @@ use borrow.Author.Needs.{needs}
 use Rattle.delta.proofs.check.Statement.{statement}
 use Rattle.delta.proofs.check.Tie as tie
 
-frame-length-requires : tie.Need-frame-length-requires
-frame-length-requires c κs = search needs
-
-enum-known-l : tie.Need-enum-known-l
-enum-known-l c = search needs
-
-enum-known-l-2 : tie.Need-enum-known-l-2
-enum-known-l-2 c = search needs
-
 returns : tie.Need-returns
 returns c = check-stops (frame-picture _ _ _ _ _ (told lengthOf (c .before .before .before .before .frame-length .ensures) (c .before .before .l2 .given .1)) (c .if1 .taken))
 
@@ -24,12 +15,6 @@ returns-2 : tie.Need-returns-2
 returns-2 c =
     let t = c .before .before .before .before .before in
     check-stops (frame-work _ _ _ _ _ (told lengthOf (t .frame-length .ensures) (c .before .before .before .l2 .given .1)) (c .before .if1 .left) (c .if2 .taken))
-
-row-bytes-requires : tie.Need-row-bytes-requires
-row-bytes-requires c κs = search needs
-
-columns-ok-requires : tie.Need-columns-ok-requires
-columns-ok-requires c κs = search needs
 
 returns-3 : tie.Need-returns-3
 returns-3 c =
@@ -54,9 +39,6 @@ take-delta-requires c κs =
 returns-4 : tie.Need-returns-4
 returns-4 c = check-stops (frame-limits _ _ _ _ _ (told lengthOf (c .before .before .before .frame-length .ensures) (c .before .l .given .1)))
 
-same-length : tie.Need-same-length
-same-length c = search needs
-
 returns-5 : tie.Need-returns-5
 returns-5 c =
     let k = c .before .before .before .before .before in
@@ -72,16 +54,16 @@ pub check-spec : {M : Type 1} → statement M
 check-spec =
     tie.close
     (tie.spec
-    frame-length-requires
-    enum-known-l
-    enum-known-l-2
+    (λ c κs. search needs)
+    (λ c. search needs)
+    (λ c. search needs)
     returns
     returns-2
-    row-bytes-requires
-    columns-ok-requires
+    (λ c κs. search needs)
+    (λ c κs. search needs)
     returns-3
     shape-of-requires
     take-delta-requires
     returns-4
-    same-length
+    (λ c. search needs)
     returns-5)

@@ -4,9 +4,6 @@ use borrow.Author.Needs.{needs}
 use Rattle.delta.proofs.column_shape.Statement.{statement}
 use Rattle.delta.proofs.column_shape.Tie as tie
 
-row-bytes-requires : tie.Need-row-bytes-requires
-row-bytes-requires c κs = search needs
-
 mul-t6 : tie.Need-mul-t6
 mul-t6 c = let h = rw (← c .row-bytes .ensures) at (c .before .pre) in omega arith
 
@@ -14,4 +11,7 @@ returns : tie.Need-returns
 returns c = rw (← c .row-bytes .ensures)
 
 pub column-shape-spec : {M : Type 1} → statement M
-column-shape-spec = tie.close (tie.spec row-bytes-requires mul-t6 returns)
+column-shape-spec = tie.close (tie.spec
+    (λ c κs. search needs)
+    mul-t6
+    returns)

@@ -3,17 +3,12 @@ use borrow.Author.Needs.{needs}
 use Rattle.delta.proofs.data_pointer.Statement.{statement}
 use Rattle.delta.proofs.data_pointer.Tie as tie
 
-returns : tie.Need-returns
-returns c = search needs
-
-add-list-pointer : tie.Need-add-list-pointer
-add-list-pointer c = search needs
-
-list-pointer-requires : tie.Need-list-pointer-requires
-list-pointer-requires c κs = search needs
-
 returns-2 : tie.Need-returns-2
 returns-2 c = rw (c .before .if1 .left) (c .list-pointer .ensures)
 
 pub data-pointer-spec : {M : Type 1} → statement M
-data-pointer-spec = tie.close (tie.spec returns add-list-pointer list-pointer-requires returns-2)
+data-pointer-spec = tie.close (tie.spec
+    (λ c. search needs)
+    (λ c. search needs)
+    (λ c κs. search needs)
+    returns-2)

@@ -5,12 +5,6 @@ use borrow.Author.Needs.{needs}
 use Rattle.delta.proofs.list_pointer.Statement.{statement}
 use Rattle.delta.proofs.list_pointer.Tie as tie
 
-mul-number32 : tie.Need-mul-number32
-mul-number32 c = search needs
-
-number32-requires : tie.Need-number32-requires
-number32-requires c κs = search needs
-
 returns : tie.Need-returns
 unfolding pointer
 returns c = simp (← c .before .number32 .ensures .0, lt-leb _ _ (c .if1 .taken))
@@ -24,4 +18,9 @@ unfolding pointer
 returns-3 c = simp (← c .before .before .number32 .ensures .0, le-leb _ _ (c .before .if1 .left), le-leb _ _ (c .if2 .left))
 
 pub list-pointer-spec : {M : Type 1} → statement M
-list-pointer-spec = tie.close (tie.spec mul-number32 number32-requires returns returns-2 returns-3)
+list-pointer-spec = tie.close (tie.spec
+    (λ c. search needs)
+    (λ c κs. search needs)
+    returns
+    returns-2
+    returns-3)

@@ -3,36 +3,6 @@ use borrow.Author.Needs.{needs}
 use Rattle.delta.proofs.shape_of.Statement.{statement}
 use Rattle.delta.proofs.shape_of.Tie as tie
 
-enum-told : tie.Need-enum-told
-enum-told c = search needs
-
-column-shape-requires : tie.Need-column-shape-requires
-column-shape-requires c κs = search needs
-
-enum-told-2 : tie.Need-enum-told-2
-enum-told-2 c = search needs
-
-column-shape-requires-2 : tie.Need-column-shape-requires-2
-column-shape-requires-2 c κs = search needs
-
-enum-told-3 : tie.Need-enum-told-3
-enum-told-3 c = search needs
-
-column-shape-requires-3 : tie.Need-column-shape-requires-3
-column-shape-requires-3 c κs = search needs
-
-enum-told-4 : tie.Need-enum-told-4
-enum-told-4 c = search needs
-
-word-shape-requires : tie.Need-word-shape-requires
-word-shape-requires c κs = search needs
-
-enum-told-5 : tie.Need-enum-told-5
-enum-told-5 c = search needs
-
-word-shape-requires-2 : tie.Need-word-shape-requires-2
-word-shape-requires-2 c κs = search needs
-
 returns : tie.Need-returns
 returns c = rw (c .before .enum-told .given .1) (c .column-shape .ensures)
 
@@ -52,16 +22,16 @@ pub shape-of-spec : {M : Type 1} → statement M
 shape-of-spec =
     tie.close
     (tie.spec
-    enum-told
-    column-shape-requires
-    enum-told-2
-    column-shape-requires-2
-    enum-told-3
-    column-shape-requires-3
-    enum-told-4
-    word-shape-requires
-    enum-told-5
-    word-shape-requires-2
+    (λ c. search needs)
+    (λ c κs. search needs)
+    (λ c. search needs)
+    (λ c κs. search needs)
+    (λ c. search needs)
+    (λ c κs. search needs)
+    (λ c. search needs)
+    (λ c κs. search needs)
+    (λ c. search needs)
+    (λ c κs. search needs)
     returns
     returns-2
     returns-3

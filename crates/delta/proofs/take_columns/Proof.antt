@@ -28,12 +28,6 @@ take-column-requires c κs =
     let i = c .before .before .loop .inv in
     (p .0, rw (i .1) (columns-first (i .2) (c .before .loop-test .taken)), record { line = i .3 .line; item = i .3 .item; ops = omega (arith, i .3 .counted, i .3 .few, p .3 .ops) })
 
-enum-known-t : tie.Need-enum-known-t Inv-loop μ-loop
-enum-known-t c = search needs
-
-same-length : tie.Need-same-length Inv-loop μ-loop
-same-length c = search needs
-
 returns : tie.Need-returns Inv-loop μ-loop
 returns c =
     let u = c .before .before .before .before .before in
@@ -42,19 +36,10 @@ returns c =
     let l = u .before .before .before .loop in
     faulty-here _ (walked-refused (l .inv .3) (took-faulty (u .take-column .ensures) (c .before .t .given .1)) (readColumns (a .shape) (a .d .now) (l .left - 1) (l .place + a .shape .item)) (λ ops. columns-more (a .shape) (a .d .now) (l .left) (l .place) (u .before .before .loop-test .taken) (reading (l .at) ops)))
 
-enum-known-t-2 : tie.Need-enum-known-t-2 Inv-loop μ-loop
-enum-known-t-2 c = search needs
-
 add-place : tie.Need-add-place Inv-loop μ-loop
 add-place c =
     let t = c .before .before .before .before .before .before .before in
     omega (arith, columns-first (t .before .loop .inv .2) (t .loop-test .taken) .rows .lies 0 (t .before .before .before .before .pre .1))
-
-sub-left : tie.Need-sub-left Inv-loop μ-loop
-sub-left c = search needs
-
-loop-less : tie.Need-loop-less Inv-loop μ-loop
-loop-less c = search needs
 
 loop-again : tie.Need-loop-again Inv-loop μ-loop
 loop-again c =
@@ -63,9 +48,6 @@ loop-again c =
     let a = u .args in
     let l = t .before .before .before .loop in
     (omega arith, t .take-column .kept .0 ∙ l .inv .1, columns-next (l .inv .2) (t .before .before .loop-test .taken), walked-more (l .inv .3) (took-next (t .take-column .ensures) (c .before .t2 .given .1)) (λ ops. columns-more (a .shape) (a .d .now) (l .left) (l .place) (t .before .before .loop-test .taken) (reading (l .at) ops)) (omega arith))
-
-same-length-2 : tie.Need-same-length-2 Inv-loop μ-loop
-same-length-2 c = search needs
 
 returns-2 : tie.Need-returns-2 Inv-loop μ-loop
 returns-2 c =
@@ -81,13 +63,13 @@ take-columns-spec =
     μ-loop
     loop-holds
     take-column-requires
-    enum-known-t
-    same-length
+    (λ c. search needs)
+    (λ c. search needs)
     returns
-    enum-known-t-2
+    (λ c. search needs)
     add-place
-    sub-left
-    loop-less
+    (λ c. search needs)
+    (λ c. search needs)
     loop-again
-    same-length-2
+    (λ c. search needs)
     returns-2)

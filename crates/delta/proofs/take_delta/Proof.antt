@@ -30,12 +30,6 @@ take-plane-requires c κs =
     let i = c .before .before .before .loop .inv in
     (rw (i .1) (t .pre), c .before .if2 .taken, record { line = i .2 .line; item = i .2 .item; ops = omega (arith, i .2 .counted, i .2 .few, t .pre .planes-most) })
 
-enum-known-t : tie.Need-enum-known-t Inv-loop μ-loop
-enum-known-t c = search needs
-
-same-length : tie.Need-same-length Inv-loop μ-loop
-same-length c = search needs
-
 returns-2 : tie.Need-returns-2 Inv-loop μ-loop
 returns-2 c =
     let u = c .before .before .before .before .before in
@@ -44,16 +38,10 @@ returns-2 c =
     let l = u .before .before .before .before .loop in
     faulty-here _ (walked-refused (l .inv .2) (took-faulty (u .take-plane .ensures) (c .before .t .given .1)) (readPlanes (a .shape) (a .d .now) (a .shape .planes - (l .plane + 1)) (l .plane + 1)) (λ ops. planes-more (a .shape) (a .d .now) (a .shape .planes) (l .plane) (u .before .before .if2 .taken) (reading (l .at) ops)))
 
-enum-known-t-2 : tie.Need-enum-known-t-2 Inv-loop μ-loop
-enum-known-t-2 c = search needs
-
 add-plane : tie.Need-add-plane Inv-loop μ-loop
 add-plane c =
     let t = c .before .before .before .before .before .before .before .before .before .before .before .before .before .before in
     omega (arith, t .pre .planes-most)
-
-loop-less : tie.Need-loop-less Inv-loop μ-loop
-loop-less c = search needs
 
 loop-again : tie.Need-loop-again Inv-loop μ-loop
 loop-again c =
@@ -62,9 +50,6 @@ loop-again c =
     let a = u .args in
     let l = t .before .before .before .before .loop in
     (omega arith, t .take-plane .kept .0 ∙ l .inv .1, walked-more (l .inv .2) (took-next (t .take-plane .ensures) (c .before .t2 .given .1)) (λ ops. planes-more (a .shape) (a .d .now) (a .shape .planes) (l .plane) (t .before .before .if2 .taken) (reading (l .at) ops)) (omega arith))
-
-same-length-2 : tie.Need-same-length-2 Inv-loop μ-loop
-same-length-2 c = search needs
 
 returns-3 : tie.Need-returns-3 Inv-loop μ-loop
 returns-3 c =
@@ -82,12 +67,12 @@ take-delta-spec =
     returns
     loop-holds
     take-plane-requires
-    enum-known-t
-    same-length
+    (λ c. search needs)
+    (λ c. search needs)
     returns-2
-    enum-known-t-2
+    (λ c. search needs)
     add-plane
-    loop-less
+    (λ c. search needs)
     loop-again
-    same-length-2
+    (λ c. search needs)
     returns-3)

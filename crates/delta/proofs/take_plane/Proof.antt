@@ -16,34 +16,10 @@ use borrow.Author.Needs.{needs}
 use Rattle.delta.proofs.take_plane.Statement.{statement}
 use Rattle.delta.proofs.take_plane.Tie as tie
 
-mul-number32 : tie.Need-mul-number32
-mul-number32 c = search needs
-
-number32-requires : tie.Need-number32-requires
-number32-requires c κs = search needs
-
 returns : tie.Need-returns
 returns c =
     let b = c .before .before .before .before in
     next-here (walked-none (λ ops. plane-same (b .args .shape) (b .args .d .now) (b .args .plane) (reading (b .args .c) ops) (sym (c .before .number32 .ensures .0) ∙ c .if1 .taken)) refl (b .pre .2 .line) (b .pre .2 .item) 32640)
-
-list-pointer-requires : tie.Need-list-pointer-requires
-list-pointer-requires c κs = search needs
-
-enum-told : tie.Need-enum-told
-enum-told c = search needs
-
-enum-known-list : tie.Need-enum-known-list
-enum-known-list c = search needs
-
-data-pointer-requires : tie.Need-data-pointer-requires
-data-pointer-requires c κs = search needs
-
-enum-told-2 : tie.Need-enum-told-2
-enum-told-2 c = search needs
-
-enum-known-items : tie.Need-enum-known-items
-enum-known-items c = search needs
 
 mul-base : tie.Need-mul-base
 mul-base c =
@@ -62,9 +38,6 @@ take-words-requires c κs =
       c .before .if2 .taken,
     )
 
-same-length : tie.Need-same-length
-same-length c = search needs
-
 returns-2 : tie.Need-returns-2
 returns-2 c =
     let t = c .before .before .before .before .before .before .before in
@@ -73,9 +46,6 @@ returns-2 c =
     took-as {whole′ = readWords (b .args .shape) (b .args .d .now) (b .args .plane * b .args .shape .plane)} (c .before .before .take-words .ensures)
     (λ ops. plane-words (b .args .shape) (b .args .d .now) (b .args .plane) (reading (b .args .c) ops) (λ e. u .before .if1 .left (u .before .before .number32 .ensures .0 ∙ e))
     (told pointerOf (u .list-pointer .ensures) (t .before .before .before .before .list .given .1)) (told pointerOf (t .before .before .data-pointer .ensures) (t .items .given .1)) (c .before .before .before .before .if2 .taken)) refl (omega arith)
-
-div-take-columns : tie.Need-div-take-columns
-div-take-columns c = search needs
 
 take-columns-requires : tie.Need-take-columns-requires
 take-columns-requires c κs =
@@ -99,9 +69,6 @@ returns-4 c =
     let b = t .before .before .before .before .before in
     refused-here BadPointer (λ ops. plane-bad-data (b .args .shape) (b .args .d .now) (b .args .plane) (reading (b .args .c) ops) (λ e. t .before .if1 .left (t .before .before .number32 .ensures .0 ∙ e)) (told pointerOf (t .list-pointer .ensures) (c .before .before .before .before .list .given .1)) (told pointerOf (c .before .before .data-pointer .ensures) (c .enum-told2 .given .1)))
 
-same-length-2 : tie.Need-same-length-2
-same-length-2 c = search needs
-
 returns-5 : tie.Need-returns-5
 returns-5 c =
     let t = c .before .before .before .before .before in
@@ -116,22 +83,22 @@ pub take-plane-spec : {M : Type 1} → statement M
 take-plane-spec =
     tie.close
     (tie.spec
-    mul-number32
-    number32-requires
+    (λ c. search needs)
+    (λ c κs. search needs)
     returns
-    list-pointer-requires
-    enum-told
-    enum-known-list
-    data-pointer-requires
-    enum-told-2
-    enum-known-items
+    (λ c κs. search needs)
+    (λ c. search needs)
+    (λ c. search needs)
+    (λ c κs. search needs)
+    (λ c. search needs)
+    (λ c. search needs)
     mul-base
     take-words-requires
-    same-length
+    (λ c. search needs)
     returns-2
-    div-take-columns
+    (λ c. search needs)
     take-columns-requires
     returns-3
     returns-4
-    same-length-2
+    (λ c. search needs)
     returns-5)

@@ -4,9 +4,6 @@ use borrow.Author.Needs.{needs}
 use Rattle.delta.proofs.word_shape.Statement.{statement}
 use Rattle.delta.proofs.word_shape.Tie as tie
 
-row-bytes-requires : tie.Need-row-bytes-requires
-row-bytes-requires c κs = search needs
-
 mul-plane : tie.Need-mul-plane
 mul-plane c = let h = rw (← c .before .row-bytes .ensures) at (c .before .before .pre .0) in omega arith
 
@@ -17,4 +14,8 @@ returns : tie.Need-returns
 returns c = rw (← c .before .row-bytes .ensures)
 
 pub word-shape-spec : {M : Type 1} → statement M
-word-shape-spec = tie.close (tie.spec row-bytes-requires mul-plane div-height returns)
+word-shape-spec = tie.close (tie.spec
+    (λ c κs. search needs)
+    mul-plane
+    div-height
+    returns)

@@ -12,22 +12,13 @@ returns : tie.Need-returns
 unfolding animEnd
 returns c = simp (lt-leb _ _ (c .if1 .taken))
 
-number32-requires : tie.Need-number32-requires
-number32-requires c κs = search needs
-
 returns-2 : tie.Need-returns-2
 unfolding animEnd
 returns-2 c = simp (le-leb _ _ (c .before .before .if1 .left), ← c .before .number32 .ensures .0, ne-eqb _ _ (c .if2 .taken))
 
-number32-requires-2 : tie.Need-number32-requires-2
-number32-requires-2 c κs = search needs
-
 returns-3 : tie.Need-returns-3
 unfolding animEnd
 returns-3 c = simp (le-leb _ _ (c .before .before .before .before .if1 .left), ← c .before .before .before .number32 .ensures .0, eq-eqb _ _ (c .before .before .if2 .left), ← c .before .number322 .ensures .0, ne-eqb _ _ (c .if3 .taken))
-
-number32-requires-3 : tie.Need-number32-requires-3
-number32-requires-3 c κs = search needs
 
 returns-4 : tie.Need-returns-4
 unfolding animEnd
@@ -35,9 +26,6 @@ returns-4 c =
     let at-number = c .before .before .before .before .before in
     let at-if = at-number .before in
     simp (le-leb _ _ (at-if .if1 .left), ← at-number .number32 .ensures .0, eq-eqb _ _ (c .before .before .before .before .if2 .left), ← c .before .before .before .number322 .ensures .0, eq-eqb _ _ (c .before .before .if3 .left), ← c .before .number323 .ensures .0, lt-leb _ _ (c .if4 .taken))
-
-sub-if5 : tie.Need-sub-if5
-sub-if5 c = search needs
 
 returns-5 : tie.Need-returns-5
 unfolding animEnd
@@ -48,9 +36,6 @@ returns-5 c =
     let at-start = at-if-2 .before .before in
     let h : length (at-start .args .file .now) < c .before .before .number323 .result + 8 = omega arith in
     simp (le-leb _ _ (at-if-2 .if1 .left), ← at-number .number32 .ensures .0, eq-eqb _ _ (at-if .if2 .left), ← c .before .before .before .before .number322 .ensures .0, eq-eqb _ _ (c .before .before .before .if3 .left), ← c .before .before .number323 .ensures .0, le-leb _ _ (c .before .if4 .left), lt-leb _ _ h)
-
-add-t3 : tie.Need-add-t3
-add-t3 c = search needs
 
 returns-6 : tie.Need-returns-6
 unfolding animEnd
@@ -67,13 +52,13 @@ anim-end-spec =
     tie.close
     (tie.spec
     returns
-    number32-requires
+    (λ c κs. search needs)
     returns-2
-    number32-requires-2
+    (λ c κs. search needs)
     returns-3
-    number32-requires-3
+    (λ c κs. search needs)
     returns-4
-    sub-if5
+    (λ c. search needs)
     returns-5
-    add-t3
+    (λ c. search needs)
     returns-6)

@@ -24,32 +24,17 @@ loop-holds : tie.Need-loop-holds Inv-loop μ-loop
 unfolding nextFrame
 loop-holds c = starts refl
 
-chunk-at-requires : tie.Need-chunk-at-requires Inv-loop μ-loop
-chunk-at-requires c κs = search needs
-
-enum-told : tie.Need-enum-told Inv-loop μ-loop
-enum-told c = search needs
-
 returns : tie.Need-returns Inv-loop μ-loop
 returns c = stops (c .before .before .before .loop .inv) (ap (passOn _) (told standingOf (c .before .before .chunk-at .ensures) (c .enum-told .given .1)))
 
-enum-known-c : tie.Need-enum-known-c Inv-loop μ-loop
-enum-known-c c = search needs
-
 returns-2 : tie.Need-returns-2 Inv-loop μ-loop
 returns-2 c = stops (c .before .before .before .before .loop .inv) (ap (passOn _) (told standingOf (c .before .before .before .chunk-at .ensures) (c .before .c .given .1)))
-
-enum-known-c-2 : tie.Need-enum-known-c-2 Inv-loop μ-loop
-enum-known-c-2 c = search needs
 
 returns-3 : tie.Need-returns-3 Inv-loop μ-loop
 returns-3 c =
     let at-chunk-at = c .before .before .before .before .before in
     let at-loop = at-chunk-at .before in
     stops (at-loop .loop .inv) (ap (passOn _) (told standingOf (at-chunk-at .chunk-at .ensures) (c .before .before .before .c2 .given .1)) ∙ simp (eq-eqb _ _ (c .before .if1 .taken), lt-leb _ _ (c .if2 .taken)))
-
-number32-requires : tie.Need-number32-requires Inv-loop μ-loop
-number32-requires c κs = search needs
 
 add-t14 : tie.Need-add-t14 Inv-loop μ-loop
 add-t14 c =
@@ -92,14 +77,14 @@ next-form-spec =
     Inv-loop
     μ-loop
     loop-holds
-    chunk-at-requires
-    enum-told
+    (λ c κs. search needs)
+    (λ c. search needs)
     returns
-    enum-known-c
+    (λ c. search needs)
     returns-2
-    enum-known-c-2
+    (λ c. search needs)
     returns-3
-    number32-requires
+    (λ c κs. search needs)
     add-t14
     returns-4
     loop-less

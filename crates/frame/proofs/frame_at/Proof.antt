@@ -8,18 +8,6 @@ use borrow.Author.Needs.{needs}
 use Rattle.frame.proofs.frame_at.Statement.{statement}
 use Rattle.frame.proofs.frame_at.Tie as tie
 
-next-form-requires : tie.Need-next-form-requires
-next-form-requires c κs = search needs
-
-enum-known-f : tie.Need-enum-known-f
-enum-known-f c = search needs
-
-enum-told : tie.Need-enum-told
-enum-told c = search needs
-
-enum-known-f-2 : tie.Need-enum-known-f-2
-enum-known-f-2 c = search needs
-
 frame-in-requires : tie.Need-frame-in-requires
 frame-in-requires c κs = let k : Follows _ _ _ = each-some (told formOf (c .before .before .before .next-form .ensures) (c .before .f2 .given .1)) (frame-follows _ _) in omega (arith, k .holds, k .ends)
 
@@ -39,10 +27,10 @@ pub frame-at-spec : {M : Type 1} → statement M
 frame-at-spec =
     tie.close
     (tie.spec
-    next-form-requires
-    enum-known-f
-    enum-told
-    enum-known-f-2
+    (λ c κs. search needs)
+    (λ c. search needs)
+    (λ c. search needs)
+    (λ c. search needs)
     frame-in-requires
     returns
     returns-2

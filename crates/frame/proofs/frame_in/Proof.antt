@@ -11,49 +11,10 @@ use borrow.Author.Needs.{needs}
 use Rattle.frame.proofs.frame_in.Statement.{statement}
 use Rattle.frame.proofs.frame_in.Tie as tie
 
-add-end : tie.Need-add-end
-add-end c = search needs
-
-sub-chunks : tie.Need-sub-chunks
-sub-chunks c = search needs
-
-part-chunks-start : tie.Need-part-chunks-start
-part-chunks-start c = search needs
-
-part-chunks-end : tie.Need-part-chunks-end
-part-chunks-end c = search needs
-
-find-pair-requires : tie.Need-find-pair-requires
-find-pair-requires c κs = search needs
-
-enum-known-h : tie.Need-enum-known-h
-enum-known-h c = search needs
-
-enum-told : tie.Need-enum-told
-enum-told c = search needs
-
-enum-known-h-2 : tie.Need-enum-known-h-2
-enum-known-h-2 c = search needs
-
-enum-known-d : tie.Need-enum-known-d
-enum-known-d c = search needs
-
-enum-told-2 : tie.Need-enum-told-2
-enum-told-2 c = search needs
-
-enum-known-d-2 : tie.Need-enum-known-d-2
-enum-known-d-2 c = search needs
-
 add-stop : tie.Need-add-stop
 add-stop c =
     let h = c .before .before .before .before in
     omega (arith, each-some (told foundOf (h .before .before .find-pair .ensures .0) (h .h2 .given .1)) (find-lies _ _))
-
-sub-frame-with : tie.Need-sub-frame-with
-sub-frame-with c = search needs
-
-part-frame-with-start : tie.Need-part-frame-with-start
-part-frame-with-start c = search needs
 
 part-frame-with-end : tie.Need-part-frame-with-end
 part-frame-with-end c =
@@ -65,9 +26,6 @@ add-frame-with c =
     let h = c .before .before .before .before .before in
     let l : Lies _ _ = each-some (told foundOf (h .before .before .find-pair .ensures .1) (c .before .before .d2 .given .1)) (find-lies _ _) in
     omega (arith, simp (length-take, length-drop) at (l .ends))
-
-frame-with-requires : tie.Need-frame-with-requires
-frame-with-requires c κs = search needs
 
 returns : tie.Need-returns
 unfolding frameIn
@@ -103,23 +61,23 @@ pub frame-in-spec : {M : Type 1} → statement M
 frame-in-spec =
     tie.close
     (tie.spec
-    add-end
-    sub-chunks
-    part-chunks-start
-    part-chunks-end
-    find-pair-requires
-    enum-known-h
-    enum-told
-    enum-known-h-2
-    enum-known-d
-    enum-told-2
-    enum-known-d-2
+    (λ c. search needs)
+    (λ c. search needs)
+    (λ c. search needs)
+    (λ c. search needs)
+    (λ c κs. search needs)
+    (λ c. search needs)
+    (λ c. search needs)
+    (λ c. search needs)
+    (λ c. search needs)
+    (λ c. search needs)
+    (λ c. search needs)
     add-stop
-    sub-frame-with
-    part-frame-with-start
+    (λ c. search needs)
+    (λ c. search needs)
     part-frame-with-end
     add-frame-with
-    frame-with-requires
+    (λ c κs. search needs)
     returns
     returns-2
     returns-3

@@ -5,15 +5,6 @@ use borrow.Author.Needs.{needs}
 use Rattle.frame.proofs.frame_with.Statement.{statement}
 use Rattle.frame.proofs.frame_with.Tie as tie
 
-read-header-requires : tie.Need-read-header-requires
-read-header-requires c κs = search needs
-
-enum-known-h : tie.Need-enum-known-h
-enum-known-h c = search needs
-
-enum-known-h-2 : tie.Need-enum-known-h-2
-enum-known-h-2 c = search needs
-
 returns : tie.Need-returns
 returns c = λ s. rw (told anhdOf (c .before .before .before .read-header .ensures) (c .before .h .given .1))
 
@@ -22,4 +13,9 @@ returns-2 c = λ s. rw (told anhdOf (c .before .before .before .read-header .ens
 
 pub frame-with-spec : {M : Type 1} → statement M
 frame-with-spec =
-    tie.close (tie.spec read-header-requires enum-known-h enum-known-h-2 returns returns-2)
+    tie.close (tie.spec
+    (λ c κs. search needs)
+    (λ c. search needs)
+    (λ c. search needs)
+    returns
+    returns-2)

@@ -12,29 +12,11 @@ returns : tie.Need-returns
 unfolding chunkAt
 returns c = simp (le-leb _ _ (c .if1 .taken))
 
-sub-if2 : tie.Need-sub-if2
-sub-if2 c = search needs
-
 returns-2 : tie.Need-returns-2
 unfolding chunkAt
 returns-2 c =
     let h : length (c .before .before .before .args .s .now) < c .before .before .before .args .at + 8 = omega arith in
     simp (lt-leb _ _ (c .before .if1 .left), lt-leb _ _ h)
-
-add-number32 : tie.Need-add-number32
-add-number32 c = search needs
-
-number32-requires : tie.Need-number32-requires
-number32-requires c κs = search needs
-
-add-padded : tie.Need-add-padded
-add-padded c = search needs
-
-sub-if3 : tie.Need-sub-if3
-sub-if3 c = search needs
-
-sub-if3-2 : tie.Need-sub-if3-2
-sub-if3-2 c = search needs
 
 returns-3 : tie.Need-returns-3
 unfolding chunkAt
@@ -43,18 +25,6 @@ returns-3 c =
     let h : at-start .args .at + 8 ≤ length (at-start .args .s .now) = omega arith in
     let k : length (at-start .args .s .now) < at-start .args .at + 8 + padded (c .before .number32 .result) = omega arith in
     simp (← c .before .number32 .ensures .0, lt-leb _ _ (c .before .before .before .if1 .left), le-leb _ _ h, lt-leb _ _ k)
-
-number32-requires-2 : tie.Need-number32-requires-2
-number32-requires-2 c κs = search needs
-
-add-t7 : tie.Need-add-t7
-add-t7 c = search needs
-
-add-t9 : tie.Need-add-t9
-add-t9 c = search needs
-
-add-t11 : tie.Need-add-t11
-add-t11 c = search needs
 
 returns-4 : tie.Need-returns-4
 unfolding chunkAt
@@ -69,16 +39,16 @@ chunk-at-spec =
     tie.close
     (tie.spec
     returns
-    sub-if2
+    (λ c. search needs)
     returns-2
-    add-number32
-    number32-requires
-    add-padded
-    sub-if3
-    sub-if3-2
+    (λ c. search needs)
+    (λ c κs. search needs)
+    (λ c. search needs)
+    (λ c. search needs)
+    (λ c. search needs)
     returns-3
-    number32-requires-2
-    add-t7
-    add-t9
-    add-t11
+    (λ c κs. search needs)
+    (λ c. search needs)
+    (λ c. search needs)
+    (λ c. search needs)
     returns-4)

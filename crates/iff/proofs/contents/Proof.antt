@@ -8,35 +8,11 @@ use borrow.Author.Needs.{needs}
 use Rattle.iff.proofs.contents.Statement.{statement}
 use Rattle.iff.proofs.contents.Tie as tie
 
-find-requires : tie.Need-find-requires
-find-requires c κs = search needs
-
-enum-known-f : tie.Need-enum-known-f
-enum-known-f c = search needs
-
 add-end : tie.Need-add-end
 add-end c = let l : Lies _ _ = each-some (told foundOf (c .before .before .before .find .ensures) (c .before .f .given .1)) (find-lies _ _) in omega (arith, l .ends)
 
-sub-result : tie.Need-sub-result
-sub-result c = search needs
-
-part-result-start : tie.Need-part-result-start
-part-result-start c = search needs
-
 part-result-end : tie.Need-part-result-end
 part-result-end c = let l : Lies _ _ = each-some (told foundOf (c .before .before .before .find .ensures) (c .before .f .given .1)) (find-lies _ _) in omega (arith, l .ends)
-
-enum-told : tie.Need-enum-told
-enum-told c = search needs
-
-slice-aggregate-result : tie.Need-slice-aggregate-result
-slice-aggregate-result c = search needs
-
-enum-told-2 : tie.Need-enum-told-2
-enum-told-2 c = search needs
-
-slice-aggregate-result-2 : tie.Need-slice-aggregate-result-2
-slice-aggregate-result-2 c = search needs
 
 returns : tie.Need-returns
 unfolding contents
@@ -54,16 +30,16 @@ pub contents-spec : {M : Type 1} → statement M
 contents-spec =
     tie.close
     (tie.spec
-    find-requires
-    enum-known-f
+    (λ c κs. search needs)
+    (λ c. search needs)
     add-end
-    sub-result
-    part-result-start
+    (λ c. search needs)
+    (λ c. search needs)
     part-result-end
-    enum-told
-    slice-aggregate-result
-    enum-told-2
-    slice-aggregate-result-2
+    (λ c. search needs)
+    (λ c. search needs)
+    (λ c. search needs)
+    (λ c. search needs)
     returns
     returns-2
     returns-3)

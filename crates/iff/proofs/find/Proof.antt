@@ -3,11 +3,10 @@ use borrow.Author.Needs.{needs}
 use Rattle.iff.proofs.find.Statement.{statement}
 use Rattle.iff.proofs.find.Tie as tie
 
-find-pair-requires : tie.Need-find-pair-requires
-find-pair-requires c κs = search needs
-
 returns : tie.Need-returns
 returns c = c .find-pair .ensures .0
 
 pub find-spec : {M : Type 1} → statement M
-find-spec = tie.close (tie.spec find-pair-requires returns)
+find-spec = tie.close (tie.spec
+    (λ c κs. search needs)
+    returns)

@@ -18,29 +18,11 @@ abbrev μ-loop : tie.MeasureT-loop
 loop-holds : tie.Need-loop-holds Inv-loop μ-loop
 loop-holds c = search-starts _ _ _
 
-chunk-at-requires : tie.Need-chunk-at-requires Inv-loop μ-loop
-chunk-at-requires c κs = search needs
-
-enum-told : tie.Need-enum-told Inv-loop μ-loop
-enum-told c = search needs
-
 returns : tie.Need-returns Inv-loop μ-loop
 returns c = search-ends (c .before .before .before .loop .inv) (told standingOf (c .before .before .chunk-at .ensures) (c .enum-told .given .1))
 
-enum-known-c : tie.Need-enum-known-c Inv-loop μ-loop
-enum-known-c c = search needs
-
 returns-2 : tie.Need-returns-2 Inv-loop μ-loop
 returns-2 c = search-breaks (c .before .before .before .before .loop .inv) (told standingOf (c .before .before .before .chunk-at .ensures) (c .before .c .given .1))
-
-enum-known-c-2 : tie.Need-enum-known-c-2 Inv-loop μ-loop
-enum-known-c-2 c = search needs
-
-or-part-requires : tie.Need-or-part-requires Inv-loop μ-loop
-or-part-requires c κs = search needs
-
-or-part-requires-2 : tie.Need-or-part-requires-2 Inv-loop μ-loop
-or-part-requires-2 c κs = search needs
 
 loop-less : tie.Need-loop-less Inv-loop μ-loop
 loop-less c =
@@ -59,13 +41,13 @@ find-pair-spec =
     Inv-loop
     μ-loop
     loop-holds
-    chunk-at-requires
-    enum-told
+    (λ c κs. search needs)
+    (λ c. search needs)
     returns
-    enum-known-c
+    (λ c. search needs)
     returns-2
-    enum-known-c-2
-    or-part-requires
-    or-part-requires-2
+    (λ c. search needs)
+    (λ c κs. search needs)
+    (λ c κs. search needs)
     loop-less
     loop-again)

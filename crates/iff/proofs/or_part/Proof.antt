@@ -7,15 +7,6 @@ use Rattle.iff.proofs.or_part.Tie as tie
 returns : tie.Need-returns
 returns c = simp (ne-eqb _ _ (c .if1 .taken))
 
-enum-told : tie.Need-enum-told
-enum-told c = search needs
-
-enum-told-2 : tie.Need-enum-told-2
-enum-told-2 c = search needs
-
-enum-told-3 : tie.Need-enum-told-3
-enum-told-3 c = search needs
-
 returns-2 : tie.Need-returns-2
 returns-2 c = simp (eq-eqb _ _ (c .before .before .if1 .left), c .enum-told .given .1)
 
@@ -27,4 +18,11 @@ returns-4 c = simp (eq-eqb _ _ (c .before .before .if1 .left), c .enum-told3 .gi
 
 pub or-part-spec : {M : Type 1} → statement M
 or-part-spec =
-    tie.close (tie.spec returns enum-told enum-told-2 enum-told-3 returns-2 returns-3 returns-4)
+    tie.close (tie.spec
+    returns
+    (λ c. search needs)
+    (λ c. search needs)
+    (λ c. search needs)
+    returns-2
+    returns-3
+    returns-4)

@@ -6,18 +6,6 @@ use borrow.Author.Needs.{needs}
 use Rattle.listing.proofs.list_file.Statement.{statement}
 use Rattle.listing.proofs.list_file.Tie as tie
 
-plan-for-requires : tie.Need-plan-for-requires
-plan-for-requires c κs = search needs
-
-enum-known-p : tie.Need-enum-known-p
-enum-known-p c = search needs
-
-put-line-requires : tie.Need-put-line-requires
-put-line-requires c κs = search needs
-
-enum-known-p-2 : tie.Need-enum-known-p-2
-enum-known-p-2 c = search needs
-
 list-front-requires : tie.Need-list-front-requires
 list-front-requires c κs =
     let at-p = c .before .before .before .before .before .before in
@@ -70,10 +58,10 @@ pub list-file-spec : {M : Type 1} → statement M
 list-file-spec =
     tie.close
     (tie.spec
-    plan-for-requires
-    enum-known-p
-    put-line-requires
-    enum-known-p-2
+    (λ c κs. search needs)
+    (λ c. search needs)
+    (λ c κs. search needs)
+    (λ c. search needs)
     list-front-requires
     same-length
     returns

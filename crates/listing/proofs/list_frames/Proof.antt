@@ -19,23 +19,8 @@ Inv-loop file a₀ b₀ work₀ rec₀ out₀ state₀ at₀ a b work rec out st
 abbrev μ-loop : tie.MeasureT-loop
 μ-loop file a₀ b₀ work₀ rec₀ out₀ state₀ at₀ a b work rec out state at = length file - state .next
 
-put-line-requires : tie.Need-put-line-requires Inv-loop μ-loop
-put-line-requires c κs = search needs
-
 loop-holds : tie.Need-loop-holds Inv-loop μ-loop
 loop-holds c = λ o h. showing-starts _ _ _ _ _ o _ h
-
-step-on-requires : tie.Need-step-on-requires Inv-loop μ-loop
-step-on-requires c κs = search needs
-
-step-line-requires : tie.Need-step-line-requires Inv-loop μ-loop
-step-line-requires c κs = search needs
-
-put-line-requires-2 : tie.Need-put-line-requires-2 Inv-loop μ-loop
-put-line-requires-2 c κs = search needs
-
-taken-requires : tie.Need-taken-requires Inv-loop μ-loop
-taken-requires c κs = search needs
 
 same-length : tie.Need-same-length Inv-loop μ-loop
 same-length c =
@@ -111,12 +96,12 @@ list-frames-spec =
     (tie.spec
     Inv-loop
     μ-loop
-    put-line-requires
+    (λ c κs. search needs)
     loop-holds
-    step-on-requires
-    step-line-requires
-    put-line-requires-2
-    taken-requires
+    (λ c κs. search needs)
+    (λ c κs. search needs)
+    (λ c κs. search needs)
+    (λ c κs. search needs)
     same-length
     same-length-2
     same-length-3

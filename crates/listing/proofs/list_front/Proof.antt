@@ -46,9 +46,6 @@ slice-aggregate-list-film-4 c =
     let at-start = c .before .before .before .before .before .before .before .before .before .before in
     sym (length-take-le 65536 (at-start .args .rec .now) (at-start .pre .written))
 
-list-film-requires : tie.Need-list-film-requires
-list-film-requires c κs = search needs
-
 same-length : tie.Need-same-length
 same-length c =
     let at-list-film = c .before .before .before .before .before .before .before .before .before .before in
@@ -96,7 +93,7 @@ list-front-spec =
     slice-aggregate-list-film-3
     slice-relend-prefix-list-film-4
     slice-aggregate-list-film-4
-    list-film-requires
+    (λ c κs. search needs)
     same-length
     same-length-2
     same-length-3

@@ -9,15 +9,6 @@ use Rattle.listing.proofs.plan_for.Tie as tie
 returns : tie.Need-returns
 returns c = file-large _ (c .if1 .taken)
 
-frame-size-requires : tie.Need-frame-size-requires
-frame-size-requires c κs = search needs
-
-enum-known-s : tie.Need-enum-known-s
-enum-known-s c = search needs
-
-enum-known-s-2 : tie.Need-enum-known-s-2
-enum-known-s-2 c = search needs
-
 returns-2 : tie.Need-returns-2
 returns-2 c =
     let at-if = c .before .before .before .before .before in
@@ -36,9 +27,9 @@ plan-for-spec =
     tie.close
     (tie.spec
     returns
-    frame-size-requires
-    enum-known-s
-    enum-known-s-2
+    (λ c κs. search needs)
+    (λ c. search needs)
+    (λ c. search needs)
     returns-2
     returns-3
     returns-4)

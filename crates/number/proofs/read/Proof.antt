@@ -28,23 +28,18 @@ one-byte s at h l =
 returns : tie.Need-returns
 returns c = past-end _ _ (c .if1 .taken)
 
-shared-slice-read-first : tie.Need-shared-slice-read-first
-shared-slice-read-first c = search needs
-
 cast-first : tie.Need-cast-first
 cast-first c = omega (arith, c .shared-slice-known2 .given (c .before .before .before .args .at))
-
-add-t8 : tie.Need-add-t8
-add-t8 c = search needs
 
 returns-2 : tie.Need-returns-2
 returns-2 c = one-byte _ _ (c .before .before .if1 .left) (c .if2 .taken)
 
-read-groups-requires : tie.Need-read-groups-requires
-read-groups-requires c κs = search needs
-
-returns-3 : tie.Need-returns-3
-returns-3 c = search needs
-
 pub read-spec : {M : Type 1} → statement M
-read-spec = tie.close (tie.spec returns shared-slice-read-first cast-first add-t8 returns-2 read-groups-requires returns-3)
+read-spec = tie.close (tie.spec
+    returns
+    (λ c. search needs)
+    cast-first
+    (λ c. search needs)
+    returns-2
+    (λ c κs. search needs)
+    (λ c. search needs))

@@ -84,14 +84,8 @@ loop-holds c = record { light = omega arith; below = omega arith; same = unfold 
 returns : tie.Need-returns Inv-loop μ-loop
 returns c = record { is = sym (groups-end _ _ _) ∙ rw (drop-of-length-le (c .before .before .before .args .s .now) (c .if1 .taken)) at (c .before .before .loop .inv .same); within = tt }
 
-shared-slice-read-b : tie.Need-shared-slice-read-b Inv-loop μ-loop
-shared-slice-read-b c = search needs
-
 cast-b : tie.Need-cast-b Inv-loop μ-loop
 cast-b c = omega (arith, c .shared-slice-known .given (c .before .before .before .loop .i))
-
-add-i : tie.Need-add-i Inv-loop μ-loop
-add-i c = search needs
 
 mul-value : tie.Need-mul-value Inv-loop μ-loop
 mul-value c = omega (arith, sum-below (turn (c .before)) _ (turn (c .before) .byte))
@@ -120,12 +114,6 @@ add-sum c = omega (arith, sum-below (turn (c .before)) _ (group (turn (c .before
 mul-weight : tie.Need-mul-weight Inv-loop μ-loop
 mul-weight c = omega (arith, weight-below (turn (c .before)))
 
-sub-left : tie.Need-sub-left Inv-loop μ-loop
-sub-left c = search needs
-
-loop-less : tie.Need-loop-less Inv-loop μ-loop
-loop-less c = search needs
-
 loop-again : tie.Need-loop-again Inv-loop μ-loop
 loop-again c = again (turn (c .before)) (c .if2 .left)
 
@@ -140,9 +128,9 @@ read-groups-spec =
     μ-loop
     loop-holds
     returns
-    shared-slice-read-b
+    (λ c. search needs)
     cast-b
-    add-i
+    (λ c. search needs)
     mul-value
     add-value
     returns-2
@@ -152,7 +140,7 @@ read-groups-spec =
     mul-sum
     add-sum
     mul-weight
-    sub-left
-    loop-less
+    (λ c. search needs)
+    (λ c. search needs)
     loop-again
     returns-6)

@@ -8,20 +8,8 @@ use Rattle.number.proofs.write.Tie as tie
 returns : tie.Need-returns
 returns c = not-fitting (c .before .before .args .out .now) _ _ (omega arith)
 
-sub-if2 : tie.Need-sub-if2
-sub-if2 c = search needs
-
-length-requires : tie.Need-length-requires
-length-requires c κs = search needs
-
 returns-2 : tie.Need-returns-2
 returns-2 c = not-fitting (c .before .before .before .before .args .out .now) _ _ (omega arith)
-
-write-groups-requires : tie.Need-write-groups-requires
-write-groups-requires c κs = search needs
-
-same-length : tie.Need-same-length
-same-length c = search needs
 
 returns-3 : tie.Need-returns-3
 returns-3 c =
@@ -33,9 +21,9 @@ write-spec =
     tie.close
     (tie.spec
     returns
-    sub-if2
-    length-requires
+    (λ c. search needs)
+    (λ c κs. search needs)
     returns-2
-    write-groups-requires
-    same-length
+    (λ c κs. search needs)
+    (λ c. search needs)
     returns-3)

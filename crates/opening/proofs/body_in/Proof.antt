@@ -7,39 +7,6 @@ use borrow.Author.Needs.{needs}
 use Rattle.opening.proofs.body_in.Statement.{statement}
 use Rattle.opening.proofs.body_in.Tie as tie
 
-find-pair-requires : tie.Need-find-pair-requires
-find-pair-requires c κs = search needs
-
-enum-known-h : tie.Need-enum-known-h
-enum-known-h c = search needs
-
-enum-told : tie.Need-enum-told
-enum-told c = search needs
-
-enum-told-2 : tie.Need-enum-told-2
-enum-told-2 c = search needs
-
-enum-told-3 : tie.Need-enum-told-3
-enum-told-3 c = search needs
-
-enum-known-b : tie.Need-enum-known-b
-enum-known-b c = search needs
-
-enum-told-4 : tie.Need-enum-told-4
-enum-told-4 c = search needs
-
-find-requires : tie.Need-find-requires
-find-requires c κs = search needs
-
-enum-known-d : tie.Need-enum-known-d
-enum-known-d c = search needs
-
-enum-told-5 : tie.Need-enum-told-5
-enum-told-5 c = search needs
-
-enum-told-6 : tie.Need-enum-told-6
-enum-told-6 c = search needs
-
 returns : tie.Need-returns
 unfolding bodyIn
 returns c = rw (told foundOf (c .before .before .before .find-pair .ensures .0) (c .before .h .given .1)) refl
@@ -90,17 +57,17 @@ pub body-in-spec : {M : Type 1} → statement M
 body-in-spec =
     tie.close
     (tie.spec
-    find-pair-requires
-    enum-known-h
-    enum-told
-    enum-told-2
-    enum-told-3
-    enum-known-b
-    enum-told-4
-    find-requires
-    enum-known-d
-    enum-told-5
-    enum-told-6
+    (λ c κs. search needs)
+    (λ c. search needs)
+    (λ c. search needs)
+    (λ c. search needs)
+    (λ c. search needs)
+    (λ c. search needs)
+    (λ c. search needs)
+    (λ c κs. search needs)
+    (λ c. search needs)
+    (λ c. search needs)
+    (λ c. search needs)
     returns
     returns-2
     returns-3

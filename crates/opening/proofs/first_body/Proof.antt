@@ -6,25 +6,10 @@ use borrow.Author.Needs.{needs}
 use Rattle.opening.proofs.first_body.Statement.{statement}
 use Rattle.opening.proofs.first_body.Tie as tie
 
-unpack-requires : tie.Need-unpack-requires
-unpack-requires c κs = search needs
-
-enum-known-u : tie.Need-enum-known-u
-enum-known-u c = search needs
-
-enum-told : tie.Need-enum-told
-enum-told c = search needs
-
-same-length : tie.Need-same-length
-same-length c = search needs
-
 returns : tie.Need-returns
 returns c =
     let u = c .before .before .before .before .before in
     body-bad _ _ _ _ (u .before .before .before .before .pre) (told unpackedOf (u .unpack .ensures .0) (c .before .u .given .1)) (u .unpack .ensures .1)
-
-same-length-2 : tie.Need-same-length-2
-same-length-2 c = search needs
 
 returns-2 : tie.Need-returns-2
 returns-2 c =
@@ -34,4 +19,11 @@ returns-2 c =
 pub first-body-spec : {M : Type 1} → statement M
 first-body-spec =
     tie.close
-    (tie.spec unpack-requires enum-known-u enum-told same-length returns same-length-2 returns-2)
+    (tie.spec
+    (λ c κs. search needs)
+    (λ c. search needs)
+    (λ c. search needs)
+    (λ c. search needs)
+    returns
+    (λ c. search needs)
+    returns-2)

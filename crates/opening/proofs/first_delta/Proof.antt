@@ -7,34 +7,10 @@ use borrow.Author.Needs.{needs}
 use Rattle.opening.proofs.first_delta.Statement.{statement}
 use Rattle.opening.proofs.first_delta.Tie as tie
 
-row-bytes-requires : tie.Need-row-bytes-requires
-row-bytes-requires c κs = search needs
-
-read-header-requires : tie.Need-read-header-requires
-read-header-requires c κs = search needs
-
-enum-known-h : tie.Need-enum-known-h
-enum-known-h c = search needs
-
-enum-known-h-2 : tie.Need-enum-known-h-2
-enum-known-h-2 c = search needs
-
-apply-first-requires : tie.Need-apply-first-requires
-apply-first-requires c κs = search needs
-
-enum-known-d : tie.Need-enum-known-d
-enum-known-d c = search needs
-
-enum-told : tie.Need-enum-told
-enum-told c = search needs
-
 returns : tie.Need-returns
 returns c =
     let r = c .before .before .before in
     delta-unread _ _ _ _ (r .before .before .before .before .before .pre) (told anhdOf (r .read-header .ensures ∙ rw (r .before .row-bytes .ensures) refl) (c .before .h .given .1))
-
-same-length : tie.Need-same-length
-same-length c = search needs
 
 returns-2 : tie.Need-returns-2
 returns-2 c =
@@ -42,9 +18,6 @@ returns-2 c =
     let f = y .before .before .before in
     let r = f .before .before in
     delta-bad _ _ _ _ (r .before .before .before .before .before .pre) (told anhdOf (r .read-header .ensures ∙ rw (r .before .row-bytes .ensures) refl) (f .h2 .given .1)) (rw (c .before .d .given .1) at (y .apply-first .ensures))
-
-same-length-2 : tie.Need-same-length-2
-same-length-2 c = search needs
 
 returns-3 : tie.Need-returns-3
 returns-3 c =
@@ -57,15 +30,15 @@ pub first-delta-spec : {M : Type 1} → statement M
 first-delta-spec =
     tie.close
     (tie.spec
-    row-bytes-requires
-    read-header-requires
-    enum-known-h
-    enum-known-h-2
-    apply-first-requires
-    enum-known-d
-    enum-told
+    (λ c κs. search needs)
+    (λ c κs. search needs)
+    (λ c. search needs)
+    (λ c. search needs)
+    (λ c κs. search needs)
+    (λ c. search needs)
+    (λ c. search needs)
     returns
-    same-length
+    (λ c. search needs)
     returns-2
-    same-length-2
+    (λ c. search needs)
     returns-3)

@@ -9,12 +9,6 @@ use borrow.Author.Needs.{needs}
 use Rattle.opening.proofs.first_header.Statement.{statement}
 use Rattle.opening.proofs.first_header.Tie as tie
 
-find-requires : tie.Need-find-requires
-find-requires c κs = search needs
-
-enum-known-h : tie.Need-enum-known-h
-enum-known-h c = search needs
-
 returns : tie.Need-returns
 unfolding firstHeader
 returns c =
@@ -22,24 +16,12 @@ returns c =
     let b : f .before .before .before .args .body ≡ false = told-false refl (f .before .if1 .taken) in
     rw b (rw (told foundOf (f .find .ensures) (c .before .h .given .1)) refl)
 
-enum-told : tie.Need-enum-told
-enum-told c = search needs
-
 returns-2 : tie.Need-returns-2
 unfolding firstHeader
 returns-2 c =
     let f = c .before .before in
     let b : f .before .before .before .args .body ≡ false = told-false refl (f .before .if1 .taken) in
     rw b (rw (told foundOf (f .find .ensures) (c .enum-told .given .1)) refl)
-
-enum-told-2 : tie.Need-enum-told-2
-enum-told-2 c = search needs
-
-contents-requires : tie.Need-contents-requires
-contents-requires c κs = search needs
-
-read-header-requires : tie.Need-read-header-requires
-read-header-requires c κs = search needs
 
 returns-3 : tie.Need-returns-3
 unfolding firstHeader
@@ -54,4 +36,13 @@ returns-3 c =
 pub first-header-spec : {M : Type 1} → statement M
 first-header-spec =
     tie.close
-    (tie.spec find-requires enum-known-h returns enum-told returns-2 enum-told-2 contents-requires read-header-requires returns-3)
+    (tie.spec
+    (λ c κs. search needs)
+    (λ c. search needs)
+    returns
+    (λ c. search needs)
+    returns-2
+    (λ c. search needs)
+    (λ c κs. search needs)
+    (λ c κs. search needs)
+    returns-3)

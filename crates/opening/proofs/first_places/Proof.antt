@@ -12,20 +12,8 @@ use Rattle.opening.proofs.first_places.Tie as tie
 returns : tie.Need-returns
 returns c = sym (too-long _ (c .if1 .taken))
 
-anim-end-requires : tie.Need-anim-end-requires
-anim-end-requires c κs = search needs
-
-enum-known-o : tie.Need-enum-known-o
-enum-known-o c = search needs
-
-enum-known-o-2 : tie.Need-enum-known-o-2
-enum-known-o-2 c = search needs
-
 slice-aggregate-places-in : tie.Need-slice-aggregate-places-in
 slice-aggregate-places-in c = sym (length-take-le _ _ (each-is (told outerOf (c .before .before .before .before .anim-end .ensures) (c .before .before .o2 .given .1)) (anim-closes _) .most))
-
-places-in-requires : tie.Need-places-in-requires
-places-in-requires c κs = search needs
 
 returns-2 : tie.Need-returns-2
 returns-2 c = sym (no-anim _ (c .before .before .before .before .if1 .left) (told outerOf (c .before .before .before .anim-end .ensures) (c .before .o .given .1)))
@@ -41,10 +29,10 @@ first-places-spec =
     tie.close
     (tie.spec
     returns
-    anim-end-requires
-    enum-known-o
-    enum-known-o-2
+    (λ c κs. search needs)
+    (λ c. search needs)
+    (λ c. search needs)
     slice-aggregate-places-in
-    places-in-requires
+    (λ c κs. search needs)
     returns-2
     returns-3)

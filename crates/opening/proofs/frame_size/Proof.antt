@@ -10,35 +10,11 @@ use borrow.Author.Needs.{needs}
 use Rattle.opening.proofs.frame_size.Statement.{statement}
 use Rattle.opening.proofs.frame_size.Tie as tie
 
-first-places-requires : tie.Need-first-places-requires
-first-places-requires c κs = search needs
-
-enum-known-p : tie.Need-enum-known-p
-enum-known-p c = search needs
-
-enum-known-p-2 : tie.Need-enum-known-p-2
-enum-known-p-2 c = search needs
-
 add-stop : tie.Need-add-stop
 add-stop c = omega (arith, chunks-inside _ (told placesOf (c .before .before .before .first-places .ensures) (c .before .p2 .given .1)))
 
-sub-first-header : tie.Need-sub-first-header
-sub-first-header c = search needs
-
-part-first-header-start : tie.Need-part-first-header-start
-part-first-header-start c = search needs
-
 part-first-header-end : tie.Need-part-first-header-end
 part-first-header-end c = omega (arith, chunks-inside _ (told placesOf (c .before .before .before .first-places .ensures) (c .before .p2 .given .1)))
-
-first-header-requires : tie.Need-first-header-requires
-first-header-requires c κs = search needs
-
-enum-known-h : tie.Need-enum-known-h
-enum-known-h c = search needs
-
-enum-known-h-2 : tie.Need-enum-known-h-2
-enum-known-h-2 c = search needs
 
 returns : tie.Need-returns
 returns c = sym (size-nowhere _ (told placesOf (c .before .before .before .first-places .ensures) (c .before .p .given .1)))
@@ -57,16 +33,16 @@ pub frame-size-spec : {M : Type 1} → statement M
 frame-size-spec =
     tie.close
     (tie.spec
-    first-places-requires
-    enum-known-p
-    enum-known-p-2
+    (λ c κs. search needs)
+    (λ c. search needs)
+    (λ c. search needs)
     add-stop
-    sub-first-header
-    part-first-header-start
+    (λ c. search needs)
+    (λ c. search needs)
     part-first-header-end
-    first-header-requires
-    enum-known-h
-    enum-known-h-2
+    (λ c κs. search needs)
+    (λ c. search needs)
+    (λ c. search needs)
     returns
     returns-2
     returns-3)

@@ -9,41 +9,14 @@ use borrow.Author.Needs.{needs}
 use Rattle.opening.proofs.open.Statement.{statement}
 use Rattle.opening.proofs.open.Tie as tie
 
-first-places-requires : tie.Need-first-places-requires
-first-places-requires c κs = search needs
-
-enum-known-p : tie.Need-enum-known-p
-enum-known-p c = search needs
-
-refused-requires : tie.Need-refused-requires
-refused-requires c κs = search needs
-
-enum-known-p-2 : tie.Need-enum-known-p-2
-enum-known-p-2 c = search needs
-
 add-stop : tie.Need-add-stop
 add-stop c = omega (arith, chunks-inside _ (told placesOf (c .before .before .before .first-places .ensures) (c .before .p2 .given .1)))
-
-sub-open-picture : tie.Need-sub-open-picture
-sub-open-picture c = search needs
-
-part-open-picture-start : tie.Need-part-open-picture-start
-part-open-picture-start c = search needs
 
 part-open-picture-end : tie.Need-part-open-picture-end
 part-open-picture-end c = omega (arith, chunks-inside _ (told placesOf (c .before .before .before .first-places .ensures) (c .before .p2 .given .1)))
 
-open-picture-requires : tie.Need-open-picture-requires
-open-picture-requires c κs = search needs
-
 returns : tie.Need-returns
 returns c = opens-nowhere _ _ _ (told placesOf (c .before .before .before .before .first-places .ensures) (c .before .before .p .given .1)) (c .refused .ensures)
-
-same-length : tie.Need-same-length
-same-length c = search needs
-
-same-length-2 : tie.Need-same-length-2
-same-length-2 c = search needs
 
 returns-2 : tie.Need-returns-2
 returns-2 c =
@@ -55,16 +28,16 @@ pub open-spec : {M : Type 1} → statement M
 open-spec =
     tie.close
     (tie.spec
-    first-places-requires
-    enum-known-p
-    refused-requires
-    enum-known-p-2
+    (λ c κs. search needs)
+    (λ c. search needs)
+    (λ c κs. search needs)
+    (λ c. search needs)
     add-stop
-    sub-open-picture
-    part-open-picture-start
+    (λ c. search needs)
+    (λ c. search needs)
     part-open-picture-end
-    open-picture-requires
+    (λ c κs. search needs)
     returns
-    same-length
-    same-length-2
+    (λ c. search needs)
+    (λ c. search needs)
     returns-2)

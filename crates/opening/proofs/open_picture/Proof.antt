@@ -10,28 +10,10 @@ use borrow.Author.Needs.{needs}
 use Rattle.opening.proofs.open_picture.Statement.{statement}
 use Rattle.opening.proofs.open_picture.Tie as tie
 
-first-header-requires : tie.Need-first-header-requires
-first-header-requires c κs = search needs
-
-enum-known-h : tie.Need-enum-known-h
-enum-known-h c = search needs
-
-refused-requires : tie.Need-refused-requires
-refused-requires c κs = search needs
-
-enum-known-h-2 : tie.Need-enum-known-h-2
-enum-known-h-2 c = search needs
-
-refused-requires-2 : tie.Need-refused-requires-2
-refused-requires-2 c κs = search needs
-
 returns : tie.Need-returns
 returns c =
     let h = c .before .before .before .before in
     first-refused (first-left _ _ _ _ (told headerOf (h .before .before .first-header .ensures) (h .h2 .given .1)) (c .before .if1 .taken)) (c .refused2 .ensures) refl
-
-refused-requires-3 : tie.Need-refused-requires-3
-refused-requires-3 c κs = search needs
 
 returns-2 : tie.Need-returns-2
 returns-2 c =
@@ -47,26 +29,8 @@ first-picture-requires c κs =
     let h = l .before .before .before in
     first-fits _ _ (told headerOf (h .before .before .first-header .ensures) (h .h2 .given .1)) (l .if1 .left)
 
-enum-known-f : tie.Need-enum-known-f
-enum-known-f c = search needs
-
-refused-requires-4 : tie.Need-refused-requires-4
-refused-requires-4 c κs = search needs
-
-enum-told : tie.Need-enum-told
-enum-told c = search needs
-
-copy-long-requires : tie.Need-copy-long-requires
-copy-long-requires c κs = search needs
-
-opened-requires : tie.Need-opened-requires
-opened-requires c κs = search needs
-
 returns-3 : tie.Need-returns-3
 returns-3 c = first-refused (first-unread _ _ _ _ (told headerOf (c .before .before .before .before .first-header .ensures) (c .before .before .h .given .1))) (c .refused .ensures) refl
-
-same-length : tie.Need-same-length
-same-length c = search needs
 
 returns-4 : tie.Need-returns-4
 returns-4 c =
@@ -76,12 +40,6 @@ returns-4 c =
     let z = h .before .before .before .before .before .before .args in
     let e = told filledOf (u .first-picture .ensures .answer) (c .before .before .f .given .1) in
     first-refused (first-bad _ _ (length (z .a .now)) (length (z .b .now)) (told headerOf (h .before .before .first-header .ensures) (h .h2 .given .1)) (l .before .before .if1 .left) (l .if2 .left) e) (c .refused4 .ensures) (fills-kept (u .first-picture .ensures) (c .before .before .f .given .1))
-
-same-length-2 : tie.Need-same-length-2
-same-length-2 c = search needs
-
-same-length-3 : tie.Need-same-length-3
-same-length-3 c = search needs
 
 returns-5 : tie.Need-returns-5
 returns-5 c =
@@ -99,23 +57,23 @@ pub open-picture-spec : {M : Type 1} → statement M
 open-picture-spec =
     tie.close
     (tie.spec
-    first-header-requires
-    enum-known-h
-    refused-requires
-    enum-known-h-2
-    refused-requires-2
+    (λ c κs. search needs)
+    (λ c. search needs)
+    (λ c κs. search needs)
+    (λ c. search needs)
+    (λ c κs. search needs)
     returns
-    refused-requires-3
+    (λ c κs. search needs)
     returns-2
     first-picture-requires
-    enum-known-f
-    refused-requires-4
-    enum-told
-    copy-long-requires
-    opened-requires
+    (λ c. search needs)
+    (λ c κs. search needs)
+    (λ c. search needs)
+    (λ c κs. search needs)
+    (λ c κs. search needs)
     returns-3
-    same-length
+    (λ c. search needs)
     returns-4
-    same-length-2
-    same-length-3
+    (λ c. search needs)
+    (λ c. search needs)
     returns-5)

@@ -3,11 +3,10 @@ use borrow.Author.Needs.{needs}
 use Rattle.opening.proofs.refused.Statement.{statement}
 use Rattle.opening.proofs.refused.Tie as tie
 
-zeros-requires : tie.Need-zeros-requires
-zeros-requires c κs = search needs
-
 returns : tie.Need-returns
 returns c = rw (c .zeros .ensures)
 
 pub refused-spec : {M : Type 1} → statement M
-refused-spec = tie.close (tie.spec zeros-requires returns)
+refused-spec = tie.close (tie.spec
+    (λ c κs. search needs)
+    returns)

@@ -66,23 +66,11 @@ returns c = two-lengths _ _ _ _ _ (c .if1 .taken)
 returns-2 : tie.Need-returns-2
 returns-2 c = too-long _ _ _ _ _ (c .before .if1 .left) (c .if2 .taken)
 
-count-requires : tie.Need-count-requires
-count-requires c κs = search needs
-
-length-requires : tie.Need-length-requires
-length-requires c κs = search needs
-
-length-requires-2 : tie.Need-length-requires-2
-length-requires-2 c κs = search needs
-
 add-head : tie.Need-add-head
 add-head c = let b = begin (c .before .before) in omega (arith, write-length (b .args .frame) (omega arith), write-length (b .args .place) (omega arith))
 
 cast-length : tie.Need-cast-length
 cast-length c = omega (arith, pictures (c .before .before) .few, pictures (c .before .before) .short)
-
-length-requires-3 : tie.Need-length-requires-3
-length-requires-3 c κs = search needs
 
 add-head-2 : tie.Need-add-head-2
 add-head-2 c =
@@ -90,20 +78,8 @@ add-head-2 c =
     let p = pictures (c .before .before .before) in
     omega (arith, write-length (b .args .frame) (omega arith), write-length (b .args .place) (omega arith), write-length (c .before .before .before .count .result .runs) (omega (arith, p .few, p .short)))
 
-same-length : tie.Need-same-length
-same-length c = search needs
-
 returns-3 : tie.Need-returns-3
 returns-3 c = let k = c .before .before .before .before in no-room _ _ _ _ _ (k .before .before .before .if1 .left) (k .before .before .if2 .left) (omega (arith, head (c .before), c .if3 .taken))
-
-sub-runs-fit : tie.Need-sub-runs-fit
-sub-runs-fit c = search needs
-
-runs-fit-requires : tie.Need-runs-fit-requires
-runs-fit-requires c κs = search needs
-
-same-length-2 : tie.Need-same-length-2
-same-length-2 c = search needs
 
 returns-4 : tie.Need-returns-4
 returns-4 c = let k = counting (c .before) in no-room _ _ _ _ _ (k .before .before .before .if1 .left) (k .before .before .if2 .left) (too-much (c .before) (c .if4 .taken))
@@ -113,15 +89,6 @@ put-picture-requires c κs =
     let f = c .before .before .before .before in
     let b = begin (counting f) in
     (pictures (counting f), rw (← (record-is (b .args .frame) (b .args .place) (b .args .old .now) (b .args .new .now))) (fits f (c .before .before .before .if4 .left)))
-
-replace-requires : tie.Need-replace-requires
-replace-requires c κs = search needs
-
-same-length-3 : tie.Need-same-length-3
-same-length-3 c = search needs
-
-same-length-4 : tie.Need-same-length-4
-same-length-4 c = search needs
 
 returns-5 : tie.Need-returns-5
 returns-5 c =
@@ -141,21 +108,21 @@ commit-spec =
     (tie.spec
     returns
     returns-2
-    count-requires
-    length-requires
-    length-requires-2
+    (λ c κs. search needs)
+    (λ c κs. search needs)
+    (λ c κs. search needs)
     add-head
     cast-length
-    length-requires-3
+    (λ c κs. search needs)
     add-head-2
-    same-length
+    (λ c. search needs)
     returns-3
-    sub-runs-fit
-    runs-fit-requires
-    same-length-2
+    (λ c. search needs)
+    (λ c κs. search needs)
+    (λ c. search needs)
     returns-4
     put-picture-requires
-    replace-requires
-    same-length-3
-    same-length-4
+    (λ c κs. search needs)
+    (λ c. search needs)
+    (λ c. search needs)
     returns-5)

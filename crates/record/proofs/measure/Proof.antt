@@ -47,19 +47,10 @@ ahead c = ahead-of _ _ _ _ _ (told changeOf (c .before .before .before .next-run
 loop-holds : tie.Need-loop-holds Inv-loop μ-loop
 loop-holds c = record { inside = omega arith; short = omega arith; left = omega arith }
 
-next-run-requires : tie.Need-next-run-requires Inv-loop μ-loop
-next-run-requires c κs = search needs
-
-enum-told : tie.Need-enum-told Inv-loop μ-loop
-enum-told c = search needs
-
 returns : tie.Need-returns Inv-loop μ-loop
 returns c =
     let at-start = c .before .before .before .before .before .before in
     all (c .before .before .before .loop .inv) (none-ahead _ _ _ (at-start .pre .0) (told changeOf (c .before .before .next-run .ensures) (c .enum-told .given .1)))
-
-enum-known-c : tie.Need-enum-known-c Inv-loop μ-loop
-enum-known-c c = search needs
 
 run-length-requires : tie.Need-run-length-requires Inv-loop μ-loop
 run-length-requires c κs = omega (arith, ahead c .inside)
@@ -88,10 +79,10 @@ measure-spec =
     Inv-loop
     μ-loop
     loop-holds
-    next-run-requires
-    enum-told
+    (λ c κs. search needs)
+    (λ c. search needs)
     returns
-    enum-known-c
+    (λ c. search needs)
     run-length-requires
     add-bytes
     add-at

@@ -5,9 +5,6 @@ use borrow.Author.Needs.{needs}
 use Rattle.record.proofs.put_list.Statement.{statement}
 use Rattle.record.proofs.put_list.Tie as tie
 
-cast-put-number : tie.Need-cast-put-number
-cast-put-number c = search needs
-
 put-number-requires : tie.Need-put-number-requires
 put-number-requires c κs = omega (arith, list-length (c .before .before .before .before .pre .0))
 
@@ -16,12 +13,6 @@ put-runs-requires c κs =
     let first = c .before .before .before .before in
     let p = first .before .before .before .before .before .pre in
     (p .0 .one-length, p .0 .short, omega (arith, list-length (p .0)))
-
-same-length : tie.Need-same-length
-same-length c = search needs
-
-same-length-2 : tie.Need-same-length-2
-same-length-2 c = search needs
 
 returns : tie.Need-returns
 returns c =
@@ -34,9 +25,9 @@ pub put-list-spec : {M : Type 1} → statement M
 put-list-spec =
     tie.close
     (tie.spec
-    cast-put-number
+    (λ c. search needs)
     put-number-requires
     put-runs-requires
-    same-length
-    same-length-2
+    (λ c. search needs)
+    (λ c. search needs)
     returns)

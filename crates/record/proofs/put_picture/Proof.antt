@@ -21,12 +21,6 @@ put-list-requires c κs =
     let b = first .before .before .before .before .before in
     (b .pre .0, omega (arith, picture-length (b .args .frame) (b .args .place) (b .args .old .now) (b .args .new .now)))
 
-same-length : tie.Need-same-length
-same-length c = search needs
-
-same-length-2 : tie.Need-same-length-2
-same-length-2 c = search needs
-
 returns : tie.Need-returns
 returns c =
     let list = c .before .before .before .before in
@@ -41,6 +35,6 @@ put-picture-spec =
     put-number-requires
     put-number-requires-2
     put-list-requires
-    same-length
-    same-length-2
+    (λ c. search needs)
+    (λ c. search needs)
     returns)

@@ -78,23 +78,8 @@ found c =
 loop-holds : tie.Need-loop-holds Inv-loop μ-loop
 loop-holds c = let b = c .before .before .before in record { inside = omega arith; size = refl; same = b .pre .0; fits = b .pre .2; whole = λ p. p; picture = committing-starts }
 
-next-run-requires : tie.Need-next-run-requires Inv-loop μ-loop
-next-run-requires c κs = search needs
-
-enum-told : tie.Need-enum-told Inv-loop μ-loop
-enum-told c = search needs
-
-same-length : tie.Need-same-length Inv-loop μ-loop
-same-length c = search needs
-
-same-length-2 : tie.Need-same-length-2 Inv-loop μ-loop
-same-length-2 c = search needs
-
 returns : tie.Need-returns Inv-loop μ-loop
 returns c = let w = c .before .before .before .before .loop .inv in all w (none-ahead _ _ _ (w .same) (told changeOf (c .before .before .next-run .ensures) (c .enum-told .given .1)))
-
-enum-known-c : tie.Need-enum-known-c Inv-loop μ-loop
-enum-known-c c = search needs
 
 add-start : tie.Need-add-start Inv-loop μ-loop
 add-start c = omega (arith, ahead c .inside)
@@ -130,12 +115,12 @@ put-runs-spec =
     Inv-loop
     μ-loop
     loop-holds
-    next-run-requires
-    enum-told
-    same-length
-    same-length-2
+    (λ c κs. search needs)
+    (λ c. search needs)
+    (λ c. search needs)
+    (λ c. search needs)
     returns
-    enum-known-c
+    (λ c. search needs)
     add-start
     add-end
     put-run-requires

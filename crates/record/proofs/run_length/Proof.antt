@@ -5,18 +5,6 @@ use borrow.Author.Needs.{needs}
 use Rattle.record.proofs.run_length.Statement.{statement}
 use Rattle.record.proofs.run_length.Tie as tie
 
-cast-length : tie.Need-cast-length
-cast-length c = search needs
-
-length-requires : tie.Need-length-requires
-length-requires c κs = search needs
-
-cast-length-2 : tie.Need-cast-length-2
-cast-length-2 c = search needs
-
-length-requires-2 : tie.Need-length-requires-2
-length-requires-2 c κs = search needs
-
 add-result : tie.Need-add-result
 add-result c = omega (arith, write-length (c .before .before .args .gap) (omega arith), write-length (c .before .before .args .count) (omega arith))
 
@@ -30,10 +18,10 @@ pub run-length-spec : {M : Type 1} → statement M
 run-length-spec =
     tie.close
     (tie.spec
-    cast-length
-    length-requires
-    cast-length-2
-    length-requires-2
+    (λ c. search needs)
+    (λ c κs. search needs)
+    (λ c. search needs)
+    (λ c κs. search needs)
     add-result
     add-result-2
     returns)

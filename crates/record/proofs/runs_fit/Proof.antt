@@ -37,11 +37,14 @@ add-if1-2 c = let b = c .before .before .before .before in omega (arith, few (b 
 returns : tie.Need-returns
 returns c = let b = c .before .before .before .before .before in sym (le-leb _ _ (enough (b .args .old .now) (b .args .new .now) (b .pre .0) (b .pre .2) (c .if1 .taken)))
 
-measure-requires : tie.Need-measure-requires
-measure-requires c κs = search needs
-
 returns-2 : tie.Need-returns-2
 returns-2 c = rw (c .measure .ensures)
 
 pub runs-fit-spec : {M : Type 1} → statement M
-runs-fit-spec = tie.close (tie.spec mul-if1 add-if1 add-if1-2 returns measure-requires returns-2)
+runs-fit-spec = tie.close (tie.spec
+    mul-if1
+    add-if1
+    add-if1-2
+    returns
+    (λ c κs. search needs)
+    returns-2)

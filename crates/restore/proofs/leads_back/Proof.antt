@@ -23,39 +23,12 @@ header : (t : tie.After-take-list)
     ≡ pastFrom (t .before .before .before .h .given .0 .0) (t .before .before .before .h .given .0 .1 .0) (beforeOf (drop (list t) (begin t .args .bytes .now)) (begin t .args .shown .now))
 header t = subst (HeaderAt _) (t .before .before .before .h .given .1) (t .before .before .before .before .before .read-header .ensures) (begin t .args .shown .now)
 
-read-header-requires : tie.Need-read-header-requires
-read-header-requires c κs = search needs
-
-enum-told : tie.Need-enum-told
-enum-told c = search needs
-
-enum-known-h : tie.Need-enum-known-h
-enum-known-h c = search needs
-
-take-list-requires : tie.Need-take-list-requires
-take-list-requires c κs = search needs
-
-enum-told-2 : tie.Need-enum-told-2
-enum-told-2 c = search needs
-
-enum-known-c : tie.Need-enum-known-c
-enum-known-c c = search needs
-
-same-length : tie.Need-same-length
-same-length c = search needs
-
 returns : tie.Need-returns
 returns c =
     let t = c .before .before .before .before .before .before in
     let a = begin t .args in
     let w = subst (Took _ _ _ _ _) (c .before .before .c .given .1) (t .take-list .ensures) in
     (left-over (a .bytes .now) (a .shown .now) (a .frame) (a .next) _ _ (list t) (header t) w (c .if1 .taken), w .left)
-
-belongs-requires : tie.Need-belongs-requires
-belongs-requires c κs = search needs
-
-same-length-2 : tie.Need-same-length-2
-same-length-2 c = search needs
 
 returns-2 : tie.Need-returns-2
 returns-2 c =
@@ -70,18 +43,12 @@ returns-3 c =
     let a = at-start .args in
     (bad-record (a .bytes .now) (a .shown .now) (a .frame) (a .next) (subst (HeaderAt _) (c .enum-told .given .1) (c .before .before .read-header .ensures) (a .shown .now)), refl)
 
-same-length-3 : tie.Need-same-length-3
-same-length-3 c = search needs
-
 returns-4 : tie.Need-returns-4
 returns-4 c =
     let t = c .before .before .before .before in
     let a = begin t .args in
     let w = subst (Took _ _ _ _ _) (c .enum-told2 .given .1) (t .take-list .ensures) in
     (bad-runs (a .bytes .now) (a .shown .now) (a .frame) (a .next) _ _ (list t) (header t) w, w .kept refl)
-
-same-length-4 : tie.Need-same-length-4
-same-length-4 c = search needs
 
 returns-5 : tie.Need-returns-5
 returns-5 c =
@@ -94,19 +61,19 @@ pub leads-back-spec : {M : Type 1} → statement M
 leads-back-spec =
     tie.close
     (tie.spec
-    read-header-requires
-    enum-told
-    enum-known-h
-    take-list-requires
-    enum-told-2
-    enum-known-c
-    same-length
+    (λ c κs. search needs)
+    (λ c. search needs)
+    (λ c. search needs)
+    (λ c κs. search needs)
+    (λ c. search needs)
+    (λ c. search needs)
+    (λ c. search needs)
     returns
-    belongs-requires
-    same-length-2
+    (λ c κs. search needs)
+    (λ c. search needs)
     returns-2
     returns-3
-    same-length-3
+    (λ c. search needs)
     returns-4
-    same-length-4
+    (λ c. search needs)
     returns-5)

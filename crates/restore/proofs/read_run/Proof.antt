@@ -13,26 +13,8 @@ gap-at c = number-found (c .before .before .before .read .ensures) (c .before .g
 count-at : (c : tie.After-known-told2) → Found (c .before .before .before .before .before .before .before .before .before .before .args .bytes .now) (c .before .before .before .before .before .before .g .given .0 .1 .0) (c .before .n .given .0 .0) (c .before .n .given .0 .1 .0)
 count-at c = number-found (c .before .before .before .read2 .ensures) (c .before .n .given .1)
 
-read-requires : tie.Need-read-requires
-read-requires c κs = search needs
-
-enum-told : tie.Need-enum-told
-enum-told c = search needs
-
-enum-known-g : tie.Need-enum-known-g
-enum-known-g c = search needs
-
 returns : tie.Need-returns
 returns c = short-gap _ _ _ _ (gap-at (c .before)) (omega (arith, c .if1 .taken))
-
-read-requires-2 : tie.Need-read-requires-2
-read-requires-2 c κs = search needs
-
-enum-told-2 : tie.Need-enum-told-2
-enum-told-2 c = search needs
-
-enum-known-n : tie.Need-enum-known-n
-enum-known-n c = search needs
 
 returns-2 : tie.Need-returns-2
 returns-2 c =
@@ -73,13 +55,13 @@ pub read-run-spec : {M : Type 1} → statement M
 read-run-spec =
     tie.close
     (tie.spec
-    read-requires
-    enum-told
-    enum-known-g
+    (λ c κs. search needs)
+    (λ c. search needs)
+    (λ c. search needs)
     returns
-    read-requires-2
-    enum-told-2
-    enum-known-n
+    (λ c κs. search needs)
+    (λ c. search needs)
+    (λ c. search needs)
     returns-2
     add-if3
     returns-3

@@ -6,29 +6,11 @@ use borrow.Author.Needs.{needs}
 use Rattle.restore.proofs.restore.Statement.{statement}
 use Rattle.restore.proofs.restore.Tie as tie
 
-leads-back-requires : tie.Need-leads-back-requires
-leads-back-requires c κs = search needs
-
-enum-known-l : tie.Need-enum-known-l
-enum-known-l c = search needs
-
-enum-known-l-2 : tie.Need-enum-known-l-2
-enum-known-l-2 c = search needs
-
-take-list-requires : tie.Need-take-list-requires
-take-list-requires c κs = search needs
-
-same-length : tie.Need-same-length
-same-length c = search needs
-
 returns : tie.Need-returns
 returns c =
     let b = c .before .before .before .before .before in
     let a = b .before .before .before .before .args in
     is-kept (a .bytes .now) (a .shown .now) (a .frame) (a .next) (subst (LeadsBack _ _ _ _) (c .before .l .given .1) (b .leads-back .ensures .0)) (b .leads-back .ensures .1)
-
-same-length-2 : tie.Need-same-length-2
-same-length-2 c = search needs
 
 returns-2 : tie.Need-returns-2
 returns-2 c =
@@ -41,11 +23,11 @@ pub restore-spec : {M : Type 1} → statement M
 restore-spec =
     tie.close
     (tie.spec
-    leads-back-requires
-    enum-known-l
-    enum-known-l-2
-    take-list-requires
-    same-length
+    (λ c κs. search needs)
+    (λ c. search needs)
+    (λ c. search needs)
+    (λ c κs. search needs)
+    (λ c. search needs)
     returns
-    same-length-2
+    (λ c. search needs)
     returns-2)

@@ -6,26 +6,11 @@ use borrow.Author.Needs.{needs}
 use Rattle.restore.proofs.take_list.Statement.{statement}
 use Rattle.restore.proofs.take_list.Tie as tie
 
-read-requires : tie.Need-read-requires
-read-requires c κs = search needs
-
-enum-told : tie.Need-enum-told
-enum-told c = search needs
-
-enum-known-n : tie.Need-enum-known-n
-enum-known-n c = search needs
-
-take-runs-requires : tie.Need-take-runs-requires
-take-runs-requires c κs = search needs
-
 returns : tie.Need-returns
 returns c =
     let at-start = c .before .before .before .before .before in
     let a = at-start .args in
     none-taken (list-faulty (a .bytes .now) (a .at) _ (none-found (c .before .before .read .ensures) (c .enum-told .given .1))) (λ p. refl)
-
-same-length : tie.Need-same-length
-same-length c = search needs
 
 returns-2 : tie.Need-returns-2
 returns-2 c =
@@ -36,10 +21,10 @@ pub take-list-spec : {M : Type 1} → statement M
 take-list-spec =
     tie.close
     (tie.spec
-    read-requires
-    enum-told
-    enum-known-n
-    take-runs-requires
+    (λ c κs. search needs)
+    (λ c. search needs)
+    (λ c. search needs)
+    (λ c κs. search needs)
     returns
-    same-length
+    (λ c. search needs)
     returns-2)

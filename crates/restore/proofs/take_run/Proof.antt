@@ -3,22 +3,10 @@ use borrow.Author.Needs.{needs}
 use Rattle.restore.proofs.take_run.Statement.{statement}
 use Rattle.restore.proofs.take_run.Tie as tie
 
-copy-part-requires : tie.Need-copy-part-requires
-copy-part-requires c κs = search needs
-
-same-length : tie.Need-same-length
-same-length c = search needs
-
 returns : tie.Need-returns
 returns c =
     let t = c .before .before .before .before .if1 .taken in
     record { is = simp t; left = simp t (c .before .before .copy-part .ensures) }
-
-differs-requires : tie.Need-differs-requires
-differs-requires c κs = search needs
-
-same-length-2 : tie.Need-same-length-2
-same-length-2 c = search needs
 
 returns-2 : tie.Need-returns-2
 returns-2 c = let t = c .before .before .if1 .left in record { is = simp t (c .differs .ensures); left = simp t }
@@ -26,4 +14,10 @@ returns-2 c = let t = c .before .before .if1 .left in record { is = simp t (c .d
 pub take-run-spec : {M : Type 1} → statement M
 take-run-spec =
     tie.close
-    (tie.spec copy-part-requires same-length returns differs-requires same-length-2 returns-2)
+    (tie.spec
+    (λ c κs. search needs)
+    (λ c. search needs)
+    returns
+    (λ c κs. search needs)
+    (λ c. search needs)
+    returns-2)

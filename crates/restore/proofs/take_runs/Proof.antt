@@ -28,32 +28,14 @@ found c = subst (RunAt _ _ _ _) (c .before .s .given .1) (c .before .before .bef
 loop-holds : tie.Need-loop-holds Inv-loop μ-loop
 loop-holds c = take-starts _
 
-sub-read-run : tie.Need-sub-read-run Inv-loop μ-loop
-sub-read-run c = search needs
-
-read-run-requires : tie.Need-read-run-requires Inv-loop μ-loop
-read-run-requires c κs = search needs
-
-enum-told : tie.Need-enum-told Inv-loop μ-loop
-enum-told c = search needs
-
-same-length : tie.Need-same-length Inv-loop μ-loop
-same-length c = search needs
-
 returns : tie.Need-returns Inv-loop μ-loop
 returns c = take-faulty (c .before .before .before .before .loop .inv) (c .before .before .before .loop-test .taken) (subst (RunAt _ _ _ _) (c .enum-told .given .1) (c .before .before .read-run .ensures))
-
-enum-known-s : tie.Need-enum-known-s Inv-loop μ-loop
-enum-known-s c = search needs
 
 add-to : tie.Need-add-to Inv-loop μ-loop
 add-to c = omega (arith, found c .fits)
 
 take-run-requires : tie.Need-take-run-requires Inv-loop μ-loop
 take-run-requires c κs = (found (c .before) .inside, omega (arith, found (c .before) .fits))
-
-same-length-2 : tie.Need-same-length-2 Inv-loop μ-loop
-same-length-2 c = search needs
 
 returns-2 : tie.Need-returns-2 Inv-loop μ-loop
 returns-2 c =
@@ -67,20 +49,11 @@ add-place c = omega (arith, found (c .before .before .before .before .before) .f
 add-at : tie.Need-add-at Inv-loop μ-loop
 add-at c = omega (arith, found (c .before .before .before .before .before) .inside)
 
-sub-left : tie.Need-sub-left Inv-loop μ-loop
-sub-left c = search needs
-
-loop-less : tie.Need-loop-less Inv-loop μ-loop
-loop-less c = search needs
-
 loop-again : tie.Need-loop-again Inv-loop μ-loop
 loop-again c =
     let t = c .before .before .before in
     let k = t .before .before in
     take-more (turn k .loop .inv) (k .before .before .before .before .loop-test .taken) (found k) (t .take-run .ensures) (not-false _ (c .if1 .left))
-
-same-length-3 : tie.Need-same-length-3 Inv-loop μ-loop
-same-length-3 c = search needs
 
 returns-3 : tie.Need-returns-3 Inv-loop μ-loop
 returns-3 c = take-ends (c .before .loop .inv) (omega arith)
@@ -92,20 +65,20 @@ take-runs-spec =
     Inv-loop
     μ-loop
     loop-holds
-    sub-read-run
-    read-run-requires
-    enum-told
-    same-length
+    (λ c. search needs)
+    (λ c κs. search needs)
+    (λ c. search needs)
+    (λ c. search needs)
     returns
-    enum-known-s
+    (λ c. search needs)
     add-to
     take-run-requires
-    same-length-2
+    (λ c. search needs)
     returns-2
     add-place
     add-at
-    sub-left
-    loop-less
+    (λ c. search needs)
+    (λ c. search needs)
     loop-again
-    same-length-3
+    (λ c. search needs)
     returns-3)

@@ -10,20 +10,8 @@ returns c = two-lengths _ _ _ (c .if1 .taken)
 returns-2 : tie.Need-returns-2
 returns-2 c = past-end _ _ _ (c .before .if1 .left) (c .if2 .taken)
 
-stretch-end-requires : tie.Need-stretch-end-requires
-stretch-end-requires c κs = search needs
-
 returns-3 : tie.Need-returns-3
 returns-3 c = nothing-ahead _ _ _ (c .before .before .before .if1 .left) _ (c .before .before .if2 .left) (c .before .stretch-end .ensures) (c .if3 .taken)
-
-stretch-end-requires-2 : tie.Need-stretch-end-requires-2
-stretch-end-requires-2 c κs = search needs
-
-sub-t6 : tie.Need-sub-t6
-sub-t6 c = search needs
-
-sub-t7 : tie.Need-sub-t7
-sub-t7 c = search needs
 
 returns-4 : tie.Need-returns-4
 returns-4 c = run-ahead _ _ _ (c .before .before .before .before .if1 .left) _ (c .before .before .before .if2 .left) (c .before .before .stretch-end .ensures) _ (c .before .if3 .left) (c .stretch-end2 .ensures)
@@ -34,9 +22,9 @@ next-run-spec =
     (tie.spec
     returns
     returns-2
-    stretch-end-requires
+    (λ c κs. search needs)
     returns-3
-    stretch-end-requires-2
-    sub-t6
-    sub-t7
+    (λ c κs. search needs)
+    (λ c. search needs)
+    (λ c. search needs)
     returns-4)

@@ -6,18 +6,6 @@ use borrow.Author.Needs.{needs}
 use Rattle.runs.proofs.stretch_end.Statement.{statement}
 use Rattle.runs.proofs.stretch_end.Tie as tie
 
-sub-if1 : tie.Need-sub-if1
-sub-if1 c = search needs
-
-byte-end-requires : tie.Need-byte-end-requires
-byte-end-requires c κs = search needs
-
-returns : tie.Need-returns
-returns c = search needs
-
-stop-requires : tie.Need-stop-requires
-stop-requires c κs = search needs
-
 cast-result : tie.Need-cast-result
 cast-result c = omega (arith, eighth (c .before .stop .result))
 
@@ -29,15 +17,6 @@ returns-2 c =
     let at-start = c .before .before .before .before .before in
     scan-word (scan-starts (at-start .pre .1)) (c .before .stop .ensures) (omega arith)
 
-add-skip-blocks : tie.Need-add-skip-blocks
-add-skip-blocks c = search needs
-
-skip-blocks-requires : tie.Need-skip-blocks-requires
-skip-blocks-requires c κs = search needs
-
-word-end-requires : tie.Need-word-end-requires
-word-end-requires c κs = search needs
-
 returns-3 : tie.Need-returns-3
 returns-3 c =
     let b = c .before .before .before .before .before .before .before in
@@ -48,14 +27,14 @@ pub stretch-end-spec : {M : Type 1} → statement M
 stretch-end-spec =
     tie.close
     (tie.spec
-    sub-if1
-    byte-end-requires
-    returns
-    stop-requires
+    (λ c. search needs)
+    (λ c κs. search needs)
+    (λ c. search needs)
+    (λ c κs. search needs)
     cast-result
     add-result
     returns-2
-    add-skip-blocks
-    skip-blocks-requires
-    word-end-requires
+    (λ c. search needs)
+    (λ c κs. search needs)
+    (λ c κs. search needs)
     returns-3)

@@ -18,12 +18,6 @@ abbrev μ-loop : tie.MeasureT-loop
 loop-holds : tie.Need-loop-holds Inv-loop μ-loop
 loop-holds c = scan-starts (c .before .before .pre .1)
 
-sub-loop : tie.Need-sub-loop Inv-loop μ-loop
-sub-loop c = search needs
-
-stop-requires : tie.Need-stop-requires Inv-loop μ-loop
-stop-requires c κs = search needs
-
 cast-result : tie.Need-cast-result Inv-loop μ-loop
 cast-result c = omega (arith, eighth (c .before .stop .result))
 
@@ -32,12 +26,6 @@ add-result c = omega (arith, eighth (c .before .stop .result))
 
 returns : tie.Need-returns Inv-loop μ-loop
 returns c = scan-word (c .before .before .before .loop .inv) (c .before .stop .ensures) (omega arith)
-
-add-i : tie.Need-add-i Inv-loop μ-loop
-add-i c = search needs
-
-loop-less : tie.Need-loop-less Inv-loop μ-loop
-loop-less c = search needs
 
 loop-again : tie.Need-loop-again Inv-loop μ-loop
 loop-again c =
@@ -57,13 +45,13 @@ word-end-spec =
     Inv-loop
     μ-loop
     loop-holds
-    sub-loop
-    stop-requires
+    (λ c. search needs)
+    (λ c κs. search needs)
     cast-result
     add-result
     returns
-    add-i
-    loop-less
+    (λ c. search needs)
+    (λ c. search needs)
     loop-again
     byte-end-requires
     returns-2)

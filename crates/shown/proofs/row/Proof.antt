@@ -9,31 +9,10 @@ use borrow.Author.Needs.{needs}
 use Rattle.shown.proofs.row.Statement.{statement}
 use Rattle.shown.proofs.row.Tie as tie
 
-row-place-requires : tie.Need-row-place-requires
-row-place-requires c κs = search needs
-
-enum-told : tie.Need-enum-told
-enum-told c = search needs
-
-slice-aggregate-result : tie.Need-slice-aggregate-result
-slice-aggregate-result c = search needs
-
-enum-known-p : tie.Need-enum-known-p
-enum-known-p c = search needs
-
-row-bytes-requires : tie.Need-row-bytes-requires
-row-bytes-requires c κs = search needs
-
 add-end : tie.Need-add-end
 add-end c =
     let at-start = c .before .before .before .before .before .before .before .before in
     let k = at-start .args in omega (arith, lies-a (record { a = k .a .now; b = k .b .now; state = k .state }) (k .plane) (k .row) (told placeOf (c .before .before .before .before .row-place .ensures) (c .before .before .p .given .1)) (c .row-bytes .ensures))
-
-sub-result : tie.Need-sub-result
-sub-result c = search needs
-
-part-result-start : tie.Need-part-result-start
-part-result-start c = search needs
 
 part-result-end : tie.Need-part-result-end
 part-result-end c =
@@ -48,12 +27,6 @@ returns c =
     let at-row-place = at-p .before .before in
     let at-start = at-row-place .before .before .before .before in
     let k = at-start .args in row-odd (record { a = k .a .now; b = k .b .now; state = k .state }) (k .plane) (k .row) (told placeOf (at-row-place .row-place .ensures) (at-p .p .given .1)) (c .before .before .before .row-bytes .ensures) (eq-eqb _ _ (c .before .if1 .taken))
-
-sub-result-2 : tie.Need-sub-result-2
-sub-result-2 c = search needs
-
-part-result-start-2 : tie.Need-part-result-start-2
-part-result-start-2 c = search needs
 
 part-result-end-2 : tie.Need-part-result-end-2
 part-result-end-2 c =
@@ -78,18 +51,18 @@ pub row-spec : {M : Type 1} → statement M
 row-spec =
     tie.close
     (tie.spec
-    row-place-requires
-    enum-told
-    slice-aggregate-result
-    enum-known-p
-    row-bytes-requires
+    (λ c κs. search needs)
+    (λ c. search needs)
+    (λ c. search needs)
+    (λ c. search needs)
+    (λ c κs. search needs)
     add-end
-    sub-result
-    part-result-start
+    (λ c. search needs)
+    (λ c. search needs)
     part-result-end
     returns
-    sub-result-2
-    part-result-start-2
+    (λ c. search needs)
+    (λ c. search needs)
     part-result-end-2
     returns-2
     returns-3)

@@ -8,15 +8,6 @@ use borrow.Author.Needs.{needs}
 use Rattle.shown.proofs.row_place.Statement.{statement}
 use Rattle.shown.proofs.row_place.Tie as tie
 
-lent-length-requires : tie.Need-lent-length-requires
-lent-length-requires c κs = search needs
-
-enum-known-l : tie.Need-enum-known-l
-enum-known-l c = search needs
-
-enum-told : tie.Need-enum-told
-enum-told c = search needs
-
 returns : tie.Need-returns
 returns c = no-plane _ _ _ _ _ (told lengthOf (c .before .before .before .before .lent-length .ensures) (c .before .before .enum-told .given .1)) (c .if1 .taken)
 
@@ -37,9 +28,6 @@ mul-t15 c = omega (arith, small (c .before) .lines)
 add-t16 : tie.Need-add-t16
 add-t16 c = omega (arith, small (c .before) .lines)
 
-row-bytes-requires : tie.Need-row-bytes-requires
-row-bytes-requires c κs = search needs
-
 mul-t18 : tie.Need-mul-t18
 mul-t18 c = omega (arith, small (c .before .before) .bytes (c .row-bytes .ensures))
 
@@ -55,14 +43,14 @@ pub row-place-spec : {M : Type 1} → statement M
 row-place-spec =
     tie.close
     (tie.spec
-    lent-length-requires
-    enum-known-l
-    enum-told
+    (λ c κs. search needs)
+    (λ c. search needs)
+    (λ c. search needs)
     returns
     returns-2
     mul-t15
     add-t16
-    row-bytes-requires
+    (λ c κs. search needs)
     mul-t18
     returns-3
     returns-4)

@@ -6,24 +6,12 @@ use borrow.Author.Needs.{needs}
 use Rattle.step_back.proofs.restore_shown.Statement.{statement}
 use Rattle.step_back.proofs.restore_shown.Tie as tie
 
-restore-requires : tie.Need-restore-requires
-restore-requires c κs = search needs
-
-same-length : tie.Need-same-length
-same-length c = search needs
-
 returns : tie.Need-returns
 unfolding isOdd
 returns c =
     let at-start = c .before .before .before .before .before .before .before .before in
     let k = at-start .args in
     shown-odd (record { a = k .a .now; b = k .b .now; state = k .state }) (k .bytes .now) (eq-eqb _ _ (c .before .before .before .before .if1 .taken)) (c .before .before .restore .ensures .answer) (c .before .before .restore .ensures .picture)
-
-restore-requires-2 : tie.Need-restore-requires-2
-restore-requires-2 c κs = search needs
-
-same-length-2 : tie.Need-same-length-2
-same-length-2 c = search needs
 
 returns-2 : tie.Need-returns-2
 unfolding isOdd
@@ -35,4 +23,10 @@ returns-2 c =
 pub restore-shown-spec : {M : Type 1} → statement M
 restore-shown-spec =
     tie.close
-    (tie.spec restore-requires same-length returns restore-requires-2 same-length-2 returns-2)
+    (tie.spec
+    (λ c κs. search needs)
+    (λ c. search needs)
+    returns
+    (λ c κs. search needs)
+    (λ c. search needs)
+    returns-2)

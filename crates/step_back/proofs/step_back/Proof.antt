@@ -8,32 +8,11 @@ use borrow.Author.Needs.{needs}
 use Rattle.step_back.proofs.step_back.Statement.{statement}
 use Rattle.step_back.proofs.step_back.Tie as tie
 
-lent-length-requires : tie.Need-lent-length-requires
-lent-length-requires c κs = search needs
-
-enum-known-l : tie.Need-enum-known-l
-enum-known-l c = search needs
-
-enum-told : tie.Need-enum-told
-enum-told c = search needs
-
-restore-shown-requires : tie.Need-restore-shown-requires
-restore-shown-requires c κs = search needs
-
-enum-known-p : tie.Need-enum-known-p
-enum-known-p c = search needs
-
-enum-known-p-2 : tie.Need-enum-known-p-2
-enum-known-p-2 c = search needs
-
 sub-moved : tie.Need-sub-moved
 sub-moved c =
     let t = c .before .before .before .before .before .before .before .before .before .before .before in
     let s = each-is (told lengthOf (t .before .before .lent-length .ensures) (t .enum-told .given .1)) (lent-sound _ _ _) in
     omega (arith, s .state .frame-least)
-
-moved-requires : tie.Need-moved-requires
-moved-requires c κs = search needs
 
 returns : tie.Need-returns
 returns c =
@@ -41,24 +20,12 @@ returns c =
     let k = l .before .before .before .before .args in
     back-refused (record { a = k .a .now; b = k .b .now; state = k .state }) (k .bytes .now) (told lengthOf (l .lent-length .ensures) (c .before .l .given .1))
 
-same-length : tie.Need-same-length
-same-length c = search needs
-
-same-length-2 : tie.Need-same-length-2
-same-length-2 c = search needs
-
 returns-2 : tie.Need-returns-2
 returns-2 c =
     let h = c .before .before .before .before .before .before .before in
     let t = h .before .before .before in
     let k = t .before .before .before .before .before .before .args in
     back-kept (record { a = k .a .now; b = k .b .now; state = k .state }) (k .bytes .now) (told lengthOf (t .before .before .lent-length .ensures) (t .enum-told .given .1)) (rw (c .before .p .given .1) at (h .restore-shown .ensures))
-
-same-length-3 : tie.Need-same-length-3
-same-length-3 c = search needs
-
-same-length-4 : tie.Need-same-length-4
-same-length-4 c = search needs
 
 returns-3 : tie.Need-returns-3
 returns-3 c =
@@ -71,18 +38,18 @@ pub step-back-spec : {M : Type 1} → statement M
 step-back-spec =
     tie.close
     (tie.spec
-    lent-length-requires
-    enum-known-l
-    enum-told
-    restore-shown-requires
-    enum-known-p
-    enum-known-p-2
+    (λ c κs. search needs)
+    (λ c. search needs)
+    (λ c. search needs)
+    (λ c κs. search needs)
+    (λ c. search needs)
+    (λ c. search needs)
     sub-moved
-    moved-requires
+    (λ c κs. search needs)
     returns
-    same-length
-    same-length-2
+    (λ c. search needs)
+    (λ c. search needs)
     returns-2
-    same-length-3
-    same-length-4
+    (λ c. search needs)
+    (λ c. search needs)
     returns-3)

@@ -5,27 +5,12 @@ use borrow.Author.Needs.{needs}
 use Rattle.step_on.proofs.build.Statement.{statement}
 use Rattle.step_on.proofs.build.Tie as tie
 
-apply-frame-requires : tie.Need-apply-frame-requires
-apply-frame-requires c κs = search needs
-
-enum-known-d : tie.Need-enum-known-d
-enum-known-d c = search needs
-
-enum-told : tie.Need-enum-told
-enum-told c = search needs
-
-same-length : tie.Need-same-length
-same-length c = search needs
-
 returns : tie.Need-returns
 returns c =
     let d = c .before .before .before .before .before in
     let s = d .before .before .before .before .before .before in
     let k = s .args in
     build-refused (k .state) (frameOf (k .next) (k .header) (k .dlta .now)) (k .shown .now) (k .hidden .now) (k .work .now) (s .pre .0) (s .pre .1) (s .pre .2) (rw (c .before .d .given .1) at (d .apply-frame .ensures))
-
-same-length-2 : tie.Need-same-length-2
-same-length-2 c = search needs
 
 returns-2 : tie.Need-returns-2
 returns-2 c =
@@ -38,10 +23,10 @@ pub build-spec : {M : Type 1} → statement M
 build-spec =
     tie.close
     (tie.spec
-    apply-frame-requires
-    enum-known-d
-    enum-told
-    same-length
+    (λ c κs. search needs)
+    (λ c. search needs)
+    (λ c. search needs)
+    (λ c. search needs)
     returns
-    same-length-2
+    (λ c. search needs)
     returns-2)

@@ -10,33 +10,12 @@ use borrow.Author.Needs.{needs}
 use Rattle.step_on.proofs.look.Statement.{statement}
 use Rattle.step_on.proofs.look.Tie as tie
 
-row-bytes-requires : tie.Need-row-bytes-requires
-row-bytes-requires c κs = search needs
-
-frame-at-requires : tie.Need-frame-at-requires
-frame-at-requires c κs = search needs
-
-enum-known-f : tie.Need-enum-known-f
-enum-known-f c = search needs
-
-enum-told : tie.Need-enum-told
-enum-told c = search needs
-
-enum-known-f-2 : tie.Need-enum-known-f-2
-enum-known-f-2 c = search needs
-
 add-stop : tie.Need-add-stop
 add-stop c =
     let f = c .before .before .before in
     let k = f .before .before .before .before .before .before .before .args in
     let l : Rises _ _ _ = frame-rises _ _ _ _ (told (nextOf (k .anim .now)) (rw (f .before .row-bytes .ensures) at (f .frame-at .ensures)) (c .before .f2 .given .1)) in
     omega (arith, l .holds)
-
-sub-dlta : tie.Need-sub-dlta
-sub-dlta c = search needs
-
-part-dlta-start : tie.Need-part-dlta-start
-part-dlta-start c = search needs
 
 part-dlta-end : tie.Need-part-dlta-end
 part-dlta-end c =
@@ -65,9 +44,6 @@ returns-2 c =
     let k = f .before .before .before .before .before .before .before .args in
     look-ended (k .anim .now) (k .state) (k .shown .now) (k .hidden .now) (k .work .now) (told (nextOf (k .anim .now)) (rw (f .before .row-bytes .ensures) at (f .frame-at .ensures)) (c .enum-told .given .1))
 
-same-length : tie.Need-same-length
-same-length c = search needs
-
 returns-3 : tie.Need-returns-3
 returns-3 c =
     let t = c .before .before .before .before .before .before in
@@ -80,17 +56,17 @@ pub look-spec : {M : Type 1} → statement M
 look-spec =
     tie.close
     (tie.spec
-    row-bytes-requires
-    frame-at-requires
-    enum-known-f
-    enum-told
-    enum-known-f-2
+    (λ c κs. search needs)
+    (λ c κs. search needs)
+    (λ c. search needs)
+    (λ c. search needs)
+    (λ c. search needs)
     add-stop
-    sub-dlta
-    part-dlta-start
+    (λ c. search needs)
+    (λ c. search needs)
     part-dlta-end
     build-requires
     returns
     returns-2
-    same-length
+    (λ c. search needs)
     returns-3)

@@ -11,15 +11,6 @@ use borrow.Author.Needs.{needs}
 use Rattle.step_on.proofs.look_ahead.Statement.{statement}
 use Rattle.step_on.proofs.look_ahead.Tie as tie
 
-ready-requires : tie.Need-ready-requires
-ready-requires c κs = search needs
-
-enum-known-t : tie.Need-enum-known-t
-enum-known-t c = search needs
-
-enum-told : tie.Need-enum-told
-enum-told c = search needs
-
 slice-aggregate-anim : tie.Need-slice-aggregate-anim
 slice-aggregate-anim c =
     let t = c .before in
@@ -30,9 +21,6 @@ look-requires c κs =
     let t = c .before .before .before .before in
     let p = each-is (told readyOf (t .before .before .ready .ensures) (t .enum-told .given .1)) (ready-passed _ _ _ _ _) in
     (p .onA, p .onB)
-
-same-length : tie.Need-same-length
-same-length c = search needs
 
 returns : tie.Need-returns
 unfolding isOdd
@@ -53,9 +41,6 @@ returns-2 c =
     let k = r .before .before .before .before .before .args in
     ahead-refused (k .file .now) (record { a = k .a .now; b = k .b .now; state = k .state }) (k .work .now) (told readyOf (r .ready .ensures) (c .before .t .given .1))
 
-same-length-2 : tie.Need-same-length-2
-same-length-2 c = search needs
-
 returns-3 : tie.Need-returns-3
 unfolding isOdd
 returns-3 c =
@@ -67,14 +52,14 @@ pub look-ahead-spec : {M : Type 1} → statement M
 look-ahead-spec =
     tie.close
     (tie.spec
-    ready-requires
-    enum-known-t
-    enum-told
+    (λ c κs. search needs)
+    (λ c. search needs)
+    (λ c. search needs)
     slice-aggregate-anim
     look-requires
-    same-length
+    (λ c. search needs)
     returns
     look-requires-2
     returns-2
-    same-length-2
+    (λ c. search needs)
     returns-3)

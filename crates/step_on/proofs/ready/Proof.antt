@@ -11,15 +11,6 @@ returns : tie.Need-returns
 unfolding ready
 returns c = simp (lt-leb _ _ (c .if1 .taken))
 
-lent-length-requires : tie.Need-lent-length-requires
-lent-length-requires c κs = search needs
-
-enum-known-l : tie.Need-enum-known-l
-enum-known-l c = search needs
-
-enum-known-l-2 : tie.Need-enum-known-l-2
-enum-known-l-2 c = search needs
-
 returns-2 : tie.Need-returns-2
 unfolding ready
 returns-2 c =
@@ -47,9 +38,9 @@ ready-spec =
     tie.close
     (tie.spec
     returns
-    lent-length-requires
-    enum-known-l
-    enum-known-l-2
+    (λ c κs. search needs)
+    (λ c. search needs)
+    (λ c. search needs)
     returns-2
     returns-3
     returns-4

@@ -5,30 +5,9 @@ use borrow.Author.Needs.{needs}
 use Rattle.words.proofs.read_state.Statement.{statement}
 use Rattle.words.proofs.read_state.Tie as tie
 
-zeros-requires : tie.Need-zeros-requires
-zeros-requires c κs = search needs
-
 returns : tie.Need-returns
 unfolding stateIn
 returns c = simp (ne-eqb _ _ (c .before .if1 .taken)) (c .zeros .ensures)
-
-number64-requires : tie.Need-number64-requires
-number64-requires c κs = search needs
-
-number64-requires-2 : tie.Need-number64-requires-2
-number64-requires-2 c κs = search needs
-
-number64-requires-3 : tie.Need-number64-requires-3
-number64-requires-3 c κs = search needs
-
-number64-requires-4 : tie.Need-number64-requires-4
-number64-requires-4 c κs = search needs
-
-number64-requires-5 : tie.Need-number64-requires-5
-number64-requires-5 c κs = search needs
-
-number64-requires-6 : tie.Need-number64-requires-6
-number64-requires-6 c κs = search needs
 
 returns-2 : tie.Need-returns-2
 unfolding stateIn
@@ -41,12 +20,12 @@ pub read-state-spec : {M : Type 1} → statement M
 read-state-spec =
     tie.close
     (tie.spec
-    zeros-requires
+    (λ c κs. search needs)
     returns
-    number64-requires
-    number64-requires-2
-    number64-requires-3
-    number64-requires-4
-    number64-requires-5
-    number64-requires-6
+    (λ c κs. search needs)
+    (λ c κs. search needs)
+    (λ c κs. search needs)
+    (λ c κs. search needs)
+    (λ c κs. search needs)
+    (λ c κs. search needs)
     returns-2)

@@ -8,14 +8,12 @@ use Rattle.write_words.proofs.write_number.Tie as tie
 returns : tie.Need-returns
 returns c = not-laid (_ ∷ []) (c .if1 .taken)
 
-put64-requires : tie.Need-put64-requires
-put64-requires c κs = search needs
-
-same-length : tie.Need-same-length
-same-length c = search needs
-
 returns-2 : tie.Need-returns-2
 returns-2 c = laid (_ ∷ []) (c .before .before .before .before .if1 .left) (put-more [] _ put-none (c .before .before .put64 .ensures .0))
 
 pub write-number-spec : {M : Type 1} → statement M
-write-number-spec = tie.close (tie.spec returns put64-requires same-length returns-2)
+write-number-spec = tie.close (tie.spec
+    returns
+    (λ c κs. search needs)
+    (λ c. search needs)
+    returns-2)

@@ -10,21 +10,6 @@ returns : tie.Need-returns
 unfolding reportWords
 returns c = not-laid (_ ∷ _ ∷ _ ∷ _ ∷ []) (c .if1 .taken)
 
-put64-requires : tie.Need-put64-requires
-put64-requires c κs = search needs
-
-put64-requires-2 : tie.Need-put64-requires-2
-put64-requires-2 c κs = search needs
-
-put64-requires-3 : tie.Need-put64-requires-3
-put64-requires-3 c κs = search needs
-
-put64-requires-4 : tie.Need-put64-requires-4
-put64-requires-4 c κs = search needs
-
-same-length : tie.Need-same-length
-same-length c = search needs
-
 returns-2 : tie.Need-returns-2
 unfolding reportWords
 returns-2 c =
@@ -42,9 +27,9 @@ write-report-spec =
     tie.close
     (tie.spec
     returns
-    put64-requires
-    put64-requires-2
-    put64-requires-3
-    put64-requires-4
-    same-length
+    (λ c κs. search needs)
+    (λ c κs. search needs)
+    (λ c κs. search needs)
+    (λ c κs. search needs)
+    (λ c. search needs)
     returns-2)

@@ -10,27 +10,6 @@ returns : tie.Need-returns
 unfolding stateWords
 returns c = not-laid (_ ∷ _ ∷ _ ∷ _ ∷ _ ∷ _ ∷ []) (c .if1 .taken)
 
-put64-requires : tie.Need-put64-requires
-put64-requires c κs = search needs
-
-put64-requires-2 : tie.Need-put64-requires-2
-put64-requires-2 c κs = search needs
-
-put64-requires-3 : tie.Need-put64-requires-3
-put64-requires-3 c κs = search needs
-
-put64-requires-4 : tie.Need-put64-requires-4
-put64-requires-4 c κs = search needs
-
-put64-requires-5 : tie.Need-put64-requires-5
-put64-requires-5 c κs = search needs
-
-put64-requires-6 : tie.Need-put64-requires-6
-put64-requires-6 c κs = search needs
-
-same-length : tie.Need-same-length
-same-length c = search needs
-
 returns-2 : tie.Need-returns-2
 unfolding stateWords
 returns-2 c =
@@ -48,11 +27,11 @@ write-state-spec =
     tie.close
     (tie.spec
     returns
-    put64-requires
-    put64-requires-2
-    put64-requires-3
-    put64-requires-4
-    put64-requires-5
-    put64-requires-6
-    same-length
+    (λ c κs. search needs)
+    (λ c κs. search needs)
+    (λ c κs. search needs)
+    (λ c κs. search needs)
+    (λ c κs. search needs)
+    (λ c κs. search needs)
+    (λ c. search needs)
     returns-2)

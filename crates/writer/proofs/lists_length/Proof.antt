@@ -47,12 +47,6 @@ add-at c =
     let at-start = c .before .before .before .before .before in
     omega (arith, walking-plane (c .before .before .loop .inv .walk) (c .before .loop-test .taken) (at-start .pre) .inNew, at-start .pre .most)
 
-sub-left : tie.Need-sub-left Inv-loop μ-loop
-sub-left c = search needs
-
-loop-less : tie.Need-loop-less Inv-loop μ-loop
-loop-less c = search needs
-
 loop-again : tie.Need-loop-again Inv-loop μ-loop
 loop-again c = more (c .before .before .loop .inv) (c .before .loop-test .taken) (c .plane-length .ensures)
 
@@ -70,7 +64,7 @@ lists-length-spec =
     plane-length-requires
     add-sum
     add-at
-    sub-left
-    loop-less
+    (λ c. search needs)
+    (λ c. search needs)
     loop-again
     returns)

@@ -6,12 +6,6 @@ use borrow.Author.Needs.{needs}
 use Rattle.writer.proofs.too_long.Statement.{statement}
 use Rattle.writer.proofs.too_long.Tie as tie
 
-add-longest : tie.Need-add-longest
-add-longest c = search needs
-
-add-longest-2 : tie.Need-add-longest-2
-add-longest-2 c = search needs
-
 mul-longest : tie.Need-mul-longest
 mul-longest c = omega (arith, plane-small (c .before .before .pre .wide) (c .before .before .pre .tall))
 
@@ -24,12 +18,6 @@ add-longest-3 c = omega (arith, lists-small (c .before .before .pre .wide) (c .b
 returns : tie.Need-returns
 returns c = longest-fits _ _ _ _ _ _ (c .if1 .taken)
 
-lists-length-requires : tie.Need-lists-length-requires
-lists-length-requires c κs = search needs
-
-add-result : tie.Need-add-result
-add-result c = search needs
-
 returns-2 : tie.Need-returns-2
 returns-2 c = rw (c .lists-length .ensures .0)
 
@@ -37,12 +25,12 @@ pub too-long-spec : {M : Type 1} → statement M
 too-long-spec =
     tie.close
     (tie.spec
-    add-longest
-    add-longest-2
+    (λ c. search needs)
+    (λ c. search needs)
     mul-longest
     mul-longest-2
     add-longest-3
     returns
-    lists-length-requires
-    add-result
+    (λ c κs. search needs)
+    (λ c. search needs)
     returns-2)

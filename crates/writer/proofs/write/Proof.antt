@@ -6,15 +6,6 @@ use borrow.Author.Needs.{needs}
 use Rattle.writer.proofs.write.Statement.{statement}
 use Rattle.writer.proofs.write.Tie as tie
 
-frame-length-requires : tie.Need-frame-length-requires
-frame-length-requires c κs = search needs
-
-enum-known-l : tie.Need-enum-known-l
-enum-known-l c = search needs
-
-enum-known-l-2 : tie.Need-enum-known-l-2
-enum-known-l-2 c = search needs
-
 returns : tie.Need-returns
 returns c = not-old _ _ _ _ (told lengthOf (c .before .before .before .before .frame-length .ensures) (c .before .before .l2 .given .1)) (c .if1 .taken)
 
@@ -22,9 +13,6 @@ returns-2 : tie.Need-returns-2
 returns-2 c =
     let at-frame-length = c .before .before .before .before .before in
     not-new _ _ _ _ (told lengthOf (at-frame-length .frame-length .ensures) (c .before .before .before .l2 .given .1)) (c .before .if1 .left) (c .if2 .taken)
-
-row-bytes-requires : tie.Need-row-bytes-requires
-row-bytes-requires c κs = search needs
 
 too-long-requires : tie.Need-too-long-requires
 too-long-requires c κs =
@@ -48,9 +36,6 @@ write-delta-requires c κs =
 returns-4 : tie.Need-returns-4
 returns-4 c = limits _ _ _ _ (told lengthOf (c .before .before .before .frame-length .ensures) (c .before .l .given .1))
 
-same-length : tie.Need-same-length
-same-length c = search needs
-
 returns-5 : tie.Need-returns-5
 returns-5 c =
     let at-too-long = c .before .before .before .before .before in
@@ -65,15 +50,15 @@ pub write-spec : {M : Type 1} → statement M
 write-spec =
     tie.close
     (tie.spec
-    frame-length-requires
-    enum-known-l
-    enum-known-l-2
+    (λ c κs. search needs)
+    (λ c. search needs)
+    (λ c. search needs)
     returns
     returns-2
-    row-bytes-requires
+    (λ c κs. search needs)
     too-long-requires
     returns-3
     write-delta-requires
     returns-4
-    same-length
+    (λ c. search needs)
     returns-5)

@@ -41,21 +41,12 @@ add-at c =
     let at-start = at-loop .before .before .before .before in
     let p = walking-plane (at-loop .loop .inv .walk) (at-loop-test .loop-test .taken) (at-start .pre .0) in omega (arith, p .inNew, p .most)
 
-sub-left : tie.Need-sub-left Inv-loop μ-loop
-sub-left c = search needs
-
-loop-less : tie.Need-loop-less Inv-loop μ-loop
-loop-less c = search needs
-
 loop-again : tie.Need-loop-again Inv-loop μ-loop
 loop-again c =
     let at-write-plane = c .before .before .before .before .before .before in
     let at-loop-test = at-write-plane .before .before in
     let at-loop = at-loop-test .before in
     writing-more (at-loop .loop .inv) (at-loop-test .loop-test .taken) (at-write-plane .write-plane .ensures) (c .before .before .write-pointer .ensures)
-
-same-length : tie.Need-same-length Inv-loop μ-loop
-same-length c = search needs
 
 returns : tie.Need-returns Inv-loop μ-loop
 returns c = writing-last (c .before .loop .inv) (omega (arith, c .loop-test .left))
@@ -72,8 +63,8 @@ write-planes-spec =
     write-pointer-requires
     add-pointer
     add-at
-    sub-left
-    loop-less
+    (λ c. search needs)
+    (λ c. search needs)
     loop-again
-    same-length
+    (λ c. search needs)
     returns)

@@ -13,28 +13,13 @@ Inv-loop old new from value i₀ i = GroupPart old new from i
 abbrev μ-loop : tie.MeasureT-loop
 μ-loop old new from value i₀ i = length new - i
 
-shared-slice-read-value : tie.Need-shared-slice-read-value Inv-loop μ-loop
-shared-slice-read-value c = search needs
-
-add-i : tie.Need-add-i Inv-loop μ-loop
-add-i c = search needs
-
 loop-holds : tie.Need-loop-holds Inv-loop μ-loop
 loop-holds c = group-starts _ _ _ (c .before .pre .0) (c .before .pre .1) (c .before .pre .2)
-
-shared-slice-read-if1 : tie.Need-shared-slice-read-if1 Inv-loop μ-loop
-shared-slice-read-if1 c = search needs
 
 returns : tie.Need-returns Inv-loop μ-loop
 returns c =
     let at-start = c .before .before .before .before .before in
     group-other (c .before .before .before .loop .inv) (at-start .pre .0) (c .before .before .loop-test .taken) (c .if1 .taken)
-
-shared-slice-read-if2 : tie.Need-shared-slice-read-if2 Inv-loop μ-loop
-shared-slice-read-if2 c = search needs
-
-shared-slice-read-if2-2 : tie.Need-shared-slice-read-if2-2 Inv-loop μ-loop
-shared-slice-read-if2-2 c = search needs
 
 returns-2 : tie.Need-returns-2 Inv-loop μ-loop
 returns-2 c =
@@ -42,12 +27,6 @@ returns-2 c =
     let at-loop = at-loop-test .before in
     let at-start = at-loop .before .before in
     group-unchanged (at-loop .loop .inv) (at-start .pre .0) (at-loop-test .loop-test .taken) (c .if2 .taken)
-
-add-i-2 : tie.Need-add-i-2 Inv-loop μ-loop
-add-i-2 c = search needs
-
-loop-less : tie.Need-loop-less Inv-loop μ-loop
-loop-less c = search needs
 
 loop-again : tie.Need-loop-again Inv-loop μ-loop
 loop-again c =
@@ -65,15 +44,15 @@ group-end-spec =
     (tie.spec
     Inv-loop
     μ-loop
-    shared-slice-read-value
-    add-i
+    (λ c. search needs)
+    (λ c. search needs)
     loop-holds
-    shared-slice-read-if1
+    (λ c. search needs)
     returns
-    shared-slice-read-if2
-    shared-slice-read-if2-2
+    (λ c. search needs)
+    (λ c. search needs)
     returns-2
-    add-i-2
-    loop-less
+    (λ c. search needs)
+    (λ c. search needs)
     loop-again
     returns-3)

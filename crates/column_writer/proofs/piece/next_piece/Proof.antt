@@ -4,17 +4,8 @@ use borrow.Author.Needs.{needs}
 use Rattle.column_writer.proofs.piece.next_piece.Statement.{statement}
 use Rattle.column_writer.proofs.piece.next_piece.Tie as tie
 
-first-changed-requires : tie.Need-first-changed-requires
-first-changed-requires c κs = search needs
-
-sub-t10 : tie.Need-sub-t10
-sub-t10 c = search needs
-
 returns : tie.Need-returns
 returns c = piece-rest (c .before .first-changed .ensures) (c .before .before .before .before .pre .1) (c .if1 .taken)
-
-sub-t12 : tie.Need-sub-t12
-sub-t12 c = search needs
 
 returns-2 : tie.Need-returns-2
 returns-2 c =
@@ -26,20 +17,8 @@ group-end-requires c κs =
     let at-start = c .before .before .before .before .before in
     (at-start .pre .0, at-start .pre .1, changed-here (c .before .before .first-changed .ensures) (c .before .if1 .left) (c .if2 .left))
 
-sub-if3 : tie.Need-sub-if3
-sub-if3 c = search needs
-
-sub-t14 : tie.Need-sub-t14
-sub-t14 c = search needs
-
 returns-3 : tie.Need-returns-3
 returns-3 c = piece-same (c .before .group-end .ensures) (c .if3 .taken)
-
-loose-end-requires : tie.Need-loose-end-requires
-loose-end-requires c κs = search needs
-
-sub-t7 : tie.Need-sub-t7
-sub-t7 c = search needs
 
 returns-4 : tie.Need-returns-4
 returns-4 c = piece-uniq (c .loose-end .ensures)
@@ -48,15 +27,15 @@ pub next-piece-spec : {M : Type 1} → statement M
 next-piece-spec =
     tie.close
     (tie.spec
-    first-changed-requires
-    sub-t10
+    (λ c κs. search needs)
+    (λ c. search needs)
     returns
-    sub-t12
+    (λ c. search needs)
     returns-2
     group-end-requires
-    sub-if3
-    sub-t14
+    (λ c. search needs)
+    (λ c. search needs)
     returns-3
-    loose-end-requires
-    sub-t7
+    (λ c κs. search needs)
+    (λ c. search needs)
     returns-4)

@@ -4,12 +4,6 @@ use borrow.Author.Needs.{needs}
 use Rattle.delta.proofs.column.after_fill.Statement.{statement}
 use Rattle.delta.proofs.column.after_fill.Tie as tie
 
-add-line : tie.Need-add-line
-add-line c = search needs
-
-add-ops : tie.Need-add-ops
-add-ops c = search needs
-
 add-t9 : tie.Need-add-t9
 add-t9 c = omega (arith, rw (c .if1 .taken) at (c .before .before .before .pre .place))
 
@@ -23,4 +17,10 @@ returns-2 : tie.Need-returns-2
 returns-2 c = rw (c .before .if1 .left)
 
 pub after-fill-spec : {M : Type 1} → statement M
-after-fill-spec = tie.close (tie.spec add-line add-ops add-t9 returns add-t10 returns-2)
+after-fill-spec = tie.close (tie.spec
+    (λ c. search needs)
+    (λ c. search needs)
+    add-t9
+    returns
+    add-t10
+    returns-2)

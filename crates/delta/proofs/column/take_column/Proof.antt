@@ -12,22 +12,13 @@ use Rattle.delta.proofs.column.take_column.Tie as tie
 returns : tie.Need-returns
 returns c = let a = c .before .before .before .args in refused-here DeltaTooShort (λ ops. column-none (a .shape) (a .d .now) (a .base) (reading (a .c) ops) (c .if1 .taken))
 
-shared-slice-read-count : tie.Need-shared-slice-read-count
-shared-slice-read-count c = search needs
-
 cast-count : tie.Need-cast-count
 cast-count c = omega (arith, c .shared-slice-known2 .given (c .before .before .before .before .args .c .op))
-
-add-t10 : tie.Need-add-t10
-add-t10 c = search needs
 
 take-ops-requires : tie.Need-take-ops-requires
 take-ops-requires c κs =
     let b = c .before .before .before .before .before in
     (b .pre .0, b .pre .1, record { line = omega arith; item = b .pre .2 .item; ops = omega (arith, b .pre .2 .ops, c .before .shared-slice-known2 .given (b .args .c .op)) })
-
-same-length : tie.Need-same-length
-same-length c = search needs
 
 returns-2 : tie.Need-returns-2
 returns-2 c =
@@ -40,9 +31,9 @@ take-column-spec =
     tie.close
     (tie.spec
     returns
-    shared-slice-read-count
+    (λ c. search needs)
     cast-count
-    add-t10
+    (λ c. search needs)
     take-ops-requires
-    same-length
+    (λ c. search needs)
     returns-2)

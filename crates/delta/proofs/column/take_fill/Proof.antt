@@ -7,14 +7,8 @@ use borrow.Author.Needs.{needs}
 use Rattle.delta.proofs.column.take_fill.Statement.{statement}
 use Rattle.delta.proofs.column.take_fill.Tie as tie
 
-sub-if1 : tie.Need-sub-if1
-sub-if1 c = search needs
-
 returns : tie.Need-returns
 returns c = let a = c .before .before .before .before .args in fill-past (a .shape) (a .d .now) (a .c) (a .next) (a .count) (a .size) (a .step) (omega arith)
-
-pick-requires : tie.Need-pick-requires
-pick-requires c κs = search needs
 
 sub-if2 : tie.Need-sub-if2
 sub-if2 c =
@@ -37,17 +31,14 @@ returns-3 c =
     let l : a .c .line + a .count ≤ a .shape .height = omega (arith, b .pre .0 .line) in
     fill-read (a .shape) (a .d .now) (a .c) (a .next) (a .count) (a .size) (a .step) l (from .result) (from .ensures) (b .pre .0 .item) (omega (arith, from .ensures, m)) (b .pre .2) (c .after-fill .ensures)
 
-after-fill-requires : tie.Need-after-fill-requires
-after-fill-requires c κs = search needs
-
 pub take-fill-spec : {M : Type 1} → statement M
 take-fill-spec =
     tie.close
     (tie.spec
-    sub-if1
+    (λ c. search needs)
     returns
-    pick-requires
+    (λ c κs. search needs)
     sub-if2
     returns-2
-    after-fill-requires
+    (λ c κs. search needs)
     returns-3)

@@ -13,25 +13,10 @@ use Rattle.delta.proofs.column.take_op.Tie as tie
 returns : tie.Need-returns
 returns c = let a = c .before .before .args in λ base ops. op-none (a .shape) (a .d .now) base (reading (a .c) ops) (c .if1 .taken)
 
-shared-slice-read-b : tie.Need-shared-slice-read-b
-shared-slice-read-b c = search needs
-
-take-same-requires : tie.Need-take-same-requires
-take-same-requires c κs = search needs
-
-cast-take-skip : tie.Need-cast-take-skip
-cast-take-skip c = search needs
-
-take-skip-requires : tie.Need-take-skip-requires
-take-skip-requires c κs = search needs
-
 cast-take-uniq : tie.Need-cast-take-uniq
 cast-take-uniq c =
     let at-start = c .before .before .before .before .before in
     omega (arith, c .before .before .shared-slice-known2 .given (at-start .args .c .op))
-
-sub-take-uniq : tie.Need-sub-take-uniq
-sub-take-uniq c = search needs
 
 take-uniq-requires : tie.Need-take-uniq-requires
 take-uniq-requires c κs =
@@ -67,12 +52,12 @@ take-op-spec =
     tie.close
     (tie.spec
     returns
-    shared-slice-read-b
-    take-same-requires
-    cast-take-skip
-    take-skip-requires
+    (λ c. search needs)
+    (λ c κs. search needs)
+    (λ c. search needs)
+    (λ c κs. search needs)
     cast-take-uniq
-    sub-take-uniq
+    (λ c. search needs)
     take-uniq-requires
     returns-2
     returns-3

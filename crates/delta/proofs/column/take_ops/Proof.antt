@@ -34,12 +34,6 @@ draw-taken-requires c κs =
     let l = c .before .before .before .loop in
     (b .pre .0 .width, rw (l .inv .1) (b .pre .1), op-lies (a .shape) (a .d .now) 1 (readOp (a .shape) (a .d .now)) (l .at) (c .before .take-op .result) (c .before .take-op .ensures))
 
-enum-known-t : tie.Need-enum-known-t Inv-loop μ-loop
-enum-known-t c = search needs
-
-same-length : tie.Need-same-length Inv-loop μ-loop
-same-length c = search needs
-
 returns : tie.Need-returns Inv-loop μ-loop
 returns c =
     let u = c .before .before .before .before .before in
@@ -48,15 +42,6 @@ returns c =
     let l = u .before .before .before .before .loop in
     faulty-here _ (walked-refused (l .inv .2) (took-faulty (op-walked (a .shape) (a .d .now) 1 (readOp (a .shape) (a .d .now)) (l .at) (rw (b .pre .0 .columns)) (a .drawing) (l .frame) (a .base) (u .before .before .take-op .result) (u .before .before .take-op .ensures) (u .draw-taken .ensures)) (c .before .t .given .1)) (readOps (a .shape) (a .d .now) (a .base) (l .left - 1)) (λ ops. ops-more (a .shape) (a .d .now) (a .base) (l .left) (u .before .before .before .loop-test .taken) (reading (l .at) ops)))
 
-enum-known-t-2 : tie.Need-enum-known-t-2 Inv-loop μ-loop
-enum-known-t-2 c = search needs
-
-sub-left : tie.Need-sub-left Inv-loop μ-loop
-sub-left c = search needs
-
-loop-less : tie.Need-loop-less Inv-loop μ-loop
-loop-less c = search needs
-
 loop-again : tie.Need-loop-again Inv-loop μ-loop
 loop-again c =
     let t = c .before .before .before .before .before in
@@ -64,9 +49,6 @@ loop-again c =
     let a = b .args in
     let l = t .before .before .before .before .loop in
     (omega arith, t .draw-taken .kept .0 ∙ l .inv .1, walked-more (l .inv .2) (took-next (op-walked (a .shape) (a .d .now) 1 (readOp (a .shape) (a .d .now)) (l .at) (rw (b .pre .0 .columns)) (a .drawing) (l .frame) (a .base) (t .before .before .take-op .result) (t .before .before .take-op .ensures) (t .draw-taken .ensures)) (c .before .t2 .given .1)) (λ ops. ops-more (a .shape) (a .d .now) (a .base) (l .left) (t .before .before .before .loop-test .taken) (reading (l .at) ops)) (omega arith))
-
-same-length-2 : tie.Need-same-length-2 Inv-loop μ-loop
-same-length-2 c = search needs
 
 returns-2 : tie.Need-returns-2 Inv-loop μ-loop
 returns-2 c =
@@ -83,12 +65,12 @@ take-ops-spec =
     loop-holds
     take-op-requires
     draw-taken-requires
-    enum-known-t
-    same-length
+    (λ c. search needs)
+    (λ c. search needs)
     returns
-    enum-known-t-2
-    sub-left
-    loop-less
+    (λ c. search needs)
+    (λ c. search needs)
+    (λ c. search needs)
     loop-again
-    same-length-2
+    (λ c. search needs)
     returns-2)

@@ -10,26 +10,11 @@ use borrow.Author.Needs.{needs}
 use Rattle.delta.proofs.column.take_same.Statement.{statement}
 use Rattle.delta.proofs.column.take_same.Tie as tie
 
-sub-if1 : tie.Need-sub-if1
-sub-if1 c = search needs
-
 returns : tie.Need-returns
 returns c = let a = c .before .before .args in λ base ops. same-none (a .shape) (a .d .now) base (reading (a .c) ops) (omega arith)
 
-add-count : tie.Need-add-count
-add-count c = search needs
-
-shared-slice-read-count : tie.Need-shared-slice-read-count
-shared-slice-read-count c = search needs
-
 cast-count : tie.Need-cast-count
 cast-count c = omega (arith, c .shared-slice-known2 .given (c .before .before .before .args .c .op + 1))
-
-add-take-fill : tie.Need-add-take-fill
-add-take-fill c = search needs
-
-take-fill-requires : tie.Need-take-fill-requires
-take-fill-requires c κs = search needs
 
 returns-2 : tie.Need-returns-2
 returns-2 c =
@@ -40,11 +25,11 @@ pub take-same-spec : {M : Type 1} → statement M
 take-same-spec =
     tie.close
     (tie.spec
-    sub-if1
+    (λ c. search needs)
     returns
-    add-count
-    shared-slice-read-count
+    (λ c. search needs)
+    (λ c. search needs)
     cast-count
-    add-take-fill
-    take-fill-requires
+    (λ c. search needs)
+    (λ c κs. search needs)
     returns-2)

@@ -9,9 +9,6 @@ use borrow.Author.Needs.{needs}
 use Rattle.delta.proofs.column.take_uniq.Statement.{statement}
 use Rattle.delta.proofs.column.take_uniq.Tie as tie
 
-add-take-fill : tie.Need-add-take-fill
-add-take-fill c = search needs
-
 mul-take-fill : tie.Need-mul-take-fill
 mul-take-fill c = let b = c .before .before in omega (arith, mul-le-mul-right (b .args .shape .item) (b .pre .3), b .pre .0 .most)
 
@@ -24,4 +21,8 @@ returns c =
     read-as (a .shape) (a .d .now) 1 (λ base x. opAs (a .shape) (a .d .now) base x (uniq (a .count))) (a .c) (λ base x. fill (a .shape) (a .d .now) base x (a .c .op + 1) (a .count) (a .count * a .shape .item) (a .shape .item)) (c .take-fill .result) (c .take-fill .ensures) (λ base ops. refl)
 
 pub take-uniq-spec : {M : Type 1} → statement M
-take-uniq-spec = tie.close (tie.spec add-take-fill mul-take-fill take-fill-requires returns)
+take-uniq-spec = tie.close (tie.spec
+    (λ c. search needs)
+    mul-take-fill
+    take-fill-requires
+    returns)

@@ -41,33 +41,15 @@ add-to c =
     let b = c .before .before .before .before .before .before in
     omega (arith, run-inside (b .pre .2 .inside) (c .before .if3 .taken) (c .if4 .taken))
 
-sub-copy : tie.Need-sub-copy Inv-loop μ-loop
-sub-copy c = search needs
-
-part-copy-start : tie.Need-part-copy-start Inv-loop μ-loop
-part-copy-start c = search needs
-
 part-copy-end : tie.Need-part-copy-end Inv-loop μ-loop
 part-copy-end c =
     let b = c .before .before .before .before .before .before in
     run-inside (b .pre .1 .rows) (c .before .before .if2 .taken) (c .if4 .taken)
 
-sub-copy-2 : tie.Need-sub-copy-2 Inv-loop μ-loop
-sub-copy-2 c = search needs
-
-part-copy-start-2 : tie.Need-part-copy-start-2 Inv-loop μ-loop
-part-copy-start-2 c = search needs
-
 part-copy-end-2 : tie.Need-part-copy-end-2 Inv-loop μ-loop
 part-copy-end-2 c =
     let b = c .before .before .before .before .before .before .before in
     run-inside (b .pre .2 .inside) (c .before .before .if3 .taken) (c .before .if4 .taken)
-
-copy-requires : tie.Need-copy-requires Inv-loop μ-loop
-copy-requires c κs = search needs
-
-same-length : tie.Need-same-length Inv-loop μ-loop
-same-length c = search needs
 
 returns-2 : tie.Need-returns-2 Inv-loop μ-loop
 returns-2 c =
@@ -133,14 +115,14 @@ draw-rows-spec =
     add-end
     mul-to
     add-to
-    sub-copy
-    part-copy-start
+    (λ c. search needs)
+    (λ c. search needs)
     part-copy-end
-    sub-copy-2
-    part-copy-start-2
+    (λ c. search needs)
+    (λ c. search needs)
     part-copy-end-2
-    copy-requires
-    same-length
+    (λ c κs. search needs)
+    (λ c. search needs)
     returns-2
     loop-holds
     put-item-requires

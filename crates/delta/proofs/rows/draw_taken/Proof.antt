@@ -8,15 +8,6 @@ use borrow.Author.Needs.{needs}
 use Rattle.delta.proofs.rows.draw_taken.Statement.{statement}
 use Rattle.delta.proofs.rows.draw_taken.Tie as tie
 
-enum-known-op : tie.Need-enum-known-op
-enum-known-op c = search needs
-
-enum-known-op-2 : tie.Need-enum-known-op-2
-enum-known-op-2 c = search needs
-
-enum-known-op-3 : tie.Need-enum-known-op-3
-enum-known-op-3 c = search needs
-
 mul-place : tie.Need-mul-place
 mul-place c =
     let b = c .before .before .before .before .before .before in
@@ -43,9 +34,6 @@ returns c = rw (c .before .op .given .1) (refl, refl)
 returns-2 : tie.Need-returns-2
 returns-2 c = rw (c .before .op2 .given .1) (refl, refl)
 
-same-length : tie.Need-same-length
-same-length c = search needs
-
 returns-3 : tie.Need-returns-3
 returns-3 c =
     let t = c .before .before .before .before .before .before in
@@ -55,13 +43,13 @@ pub draw-taken-spec : {M : Type 1} → statement M
 draw-taken-spec =
     tie.close
     (tie.spec
-    enum-known-op
-    enum-known-op-2
-    enum-known-op-3
+    (λ c. search needs)
+    (λ c. search needs)
+    (λ c. search needs)
     mul-place
     add-place
     draw-rows-requires
     returns
     returns-2
-    same-length
+    (λ c. search needs)
     returns-3)

@@ -5,9 +5,6 @@ use borrow.Author.Needs.{needs}
 use Rattle.delta.proofs.words.move_of.Statement.{statement}
 use Rattle.delta.proofs.words.move_of.Tie as tie
 
-sub-result : tie.Need-sub-result
-sub-result c = search needs
-
 returns : tie.Need-returns
 returns c = rw (lt-ltb _ _ (c .if1 .taken))
 
@@ -15,4 +12,7 @@ returns-2 : tie.Need-returns-2
 returns-2 c = rw (le-ltb _ _ (c .if1 .left)) (omega arith)
 
 pub move-of-spec : {M : Type 1} → statement M
-move-of-spec = tie.close (tie.spec sub-result returns returns-2)
+move-of-spec = tie.close (tie.spec
+    (λ c. search needs)
+    returns
+    returns-2)

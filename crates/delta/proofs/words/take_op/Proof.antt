@@ -14,27 +14,12 @@ use borrow.Author.Needs.{needs}
 use Rattle.delta.proofs.words.take_op.Statement.{statement}
 use Rattle.delta.proofs.words.take_op.Tie as tie
 
-move-of-requires : tie.Need-move-of-requires
-move-of-requires c κs = search needs
-
-sub-if1 : tie.Need-sub-if1
-sub-if1 c = search needs
-
 returns : tie.Need-returns
 returns c =
     let at-start = c .before .before .before .before .before in
     let m = c .before .before .before .move-of in
     let a = at-start .args in
     λ base ops. word-far (a .shape) (a .d .now) base (reading (a .c) ops) (a .offset) (ap (λ (k : ℕ). a .c .line + k) (m .ensures)) (omega arith)
-
-add-line : tie.Need-add-line
-add-line c = search needs
-
-add-from : tie.Need-add-from
-add-from c = search needs
-
-sub-if3 : tie.Need-sub-if3
-sub-if3 c = search needs
 
 returns-2 : tie.Need-returns-2
 returns-2 c =
@@ -43,15 +28,6 @@ returns-2 c =
     let a = t .before .before .args in
     let h : a .c .line + m .result < a .shape .height = omega arith in
     λ base ops. word-uncounted (a .shape) (a .d .now) base (reading (a .c) ops) (a .offset) (ap (λ (k : ℕ). a .c .line + k) (m .ensures)) h (c .before .if2 .taken) (omega arith)
-
-add-from-2 : tie.Need-add-from-2
-add-from-2 c = search needs
-
-add-number16 : tie.Need-add-number16
-add-number16 c = search needs
-
-number16-requires : tie.Need-number16-requires
-number16-requires c κs = search needs
 
 take-run-requires : tie.Need-take-run-requires
 take-run-requires c κs =
@@ -79,15 +55,15 @@ pub take-op-spec : {M : Type 1} → statement M
 take-op-spec =
     tie.close
     (tie.spec
-    move-of-requires
-    sub-if1
+    (λ c κs. search needs)
+    (λ c. search needs)
     returns
-    add-line
-    add-from
-    sub-if3
+    (λ c. search needs)
+    (λ c. search needs)
+    (λ c. search needs)
     returns-2
-    add-from-2
-    add-number16
-    number16-requires
+    (λ c. search needs)
+    (λ c. search needs)
+    (λ c κs. search needs)
     take-run-requires
     returns-3)

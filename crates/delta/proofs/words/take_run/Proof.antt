@@ -9,32 +9,17 @@ use borrow.Author.Needs.{needs}
 use Rattle.delta.proofs.words.take_run.Statement.{statement}
 use Rattle.delta.proofs.words.take_run.Tie as tie
 
-sub-if1 : tie.Need-sub-if1
-sub-if1 c = search needs
-
 returns : tie.Need-returns
 returns c = let a = c .before .before .args in run-past (a .shape) (a .d .now) (a .c) (a .line) (a .from) (a .count) (omega arith)
 
 mul-size : tie.Need-mul-size
 mul-size c = let b = c .before .before in omega (arith, b .pre .4, mul-le-mul-left (b .args .count) (b .pre .0 .most))
 
-sub-if2 : tie.Need-sub-if2
-sub-if2 c = search needs
-
 returns-2 : tie.Need-returns-2
 returns-2 c =
     let a = c .before .before .before .args in
     let l : a .line + a .count ≤ a .shape .height = omega arith in
     run-short (a .shape) (a .d .now) (a .c) (a .line) (a .from) (a .count) l (omega arith)
-
-add-last : tie.Need-add-last
-add-last c = search needs
-
-sub-last : tie.Need-sub-last
-sub-last c = search needs
-
-add-t11 : tie.Need-add-t11
-add-t11 c = search needs
 
 returns-3 : tie.Need-returns-3
 returns-3 c =
@@ -47,4 +32,13 @@ returns-3 c =
 pub take-run-spec : {M : Type 1} → statement M
 take-run-spec =
     tie.close
-    (tie.spec sub-if1 returns mul-size sub-if2 returns-2 add-last sub-last add-t11 returns-3)
+    (tie.spec
+    (λ c. search needs)
+    returns
+    mul-size
+    (λ c. search needs)
+    returns-2
+    (λ c. search needs)
+    (λ c. search needs)
+    (λ c. search needs)
+    returns-3)

@@ -22,24 +22,12 @@ abbrev μ-loop : tie.MeasureT-loop
 loop-holds : tie.Need-loop-holds Inv-loop μ-loop
 loop-holds c = let p = c .before .before .pre in (refl, p .3, walked-none (λ ops. refl) refl (p .2 .line) (p .2 .item) 0)
 
-sub-if1 : tie.Need-sub-if1 Inv-loop μ-loop
-sub-if1 c = search needs
-
-same-length : tie.Need-same-length Inv-loop μ-loop
-same-length c = search needs
-
 returns : tie.Need-returns Inv-loop μ-loop
 returns c =
     let t = c .before .before .before .before .before in
     let a = t .args in
     let l = c .before .before .loop in
     faulty-here DeltaTooShort (walked-fault (l .inv .2) (λ ops. words-none (a .shape) (a .d .now) (a .base) (reading (l .at) ops) (omega (arith, c .if1 .taken, l .inv .1))))
-
-number16-requires : tie.Need-number16-requires Inv-loop μ-loop
-number16-requires c κs = search needs
-
-same-length-2 : tie.Need-same-length-2 Inv-loop μ-loop
-same-length-2 c = search needs
 
 returns-2 : tie.Need-returns-2 Inv-loop μ-loop
 returns-2 c =
@@ -65,12 +53,6 @@ draw-taken-requires c κs =
     let o = c .before .before .before .number16 in
     (b .pre .0, rw (l .inv .0) (b .pre .1), op-lies (a .shape) (a .d .now) 0 (λ base x. wordOp (a .shape) (a .d .now) base x (o .result)) (l .at) (c .before .take-op .result) (c .before .take-op .ensures))
 
-enum-known-t : tie.Need-enum-known-t Inv-loop μ-loop
-enum-known-t c = search needs
-
-same-length-3 : tie.Need-same-length-3 Inv-loop μ-loop
-same-length-3 c = search needs
-
 returns-3 : tie.Need-returns-3 Inv-loop μ-loop
 returns-3 c =
     let u = c .before .before .before .before .before in
@@ -81,9 +63,6 @@ returns-3 c =
     let o = u .before .before .before .before .number16 in
     let h : l .at .op + 2 ≤ length (a .d .now) = omega (arith, l .inv .1, v .if1 .left) in
     faulty-here _ (walked-refused (l .inv .2) (took-faulty (word-walked (b .pre .4) (a .base) (o .result) (l .at) (a .drawing) (l .frame) (u .before .before .take-op .result) (u .before .before .take-op .ensures) (u .draw-taken .ensures)) (c .before .t .given .1)) (readWords (a .shape) (a .d .now) (a .base)) (λ ops. words-more (a .shape) (a .d .now) (a .base) (reading (l .at) ops) h (o .ensures .0) (u .before .before .before .if2 .left)))
-
-enum-known-t-2 : tie.Need-enum-known-t-2 Inv-loop μ-loop
-enum-known-t-2 c = search needs
 
 loop-less : tie.Need-loop-less Inv-loop μ-loop
 loop-less c =
@@ -115,17 +94,17 @@ take-words-spec =
     Inv-loop
     μ-loop
     loop-holds
-    sub-if1
-    same-length
+    (λ c. search needs)
+    (λ c. search needs)
     returns
-    number16-requires
-    same-length-2
+    (λ c κs. search needs)
+    (λ c. search needs)
     returns-2
     take-op-requires
     draw-taken-requires
-    enum-known-t
-    same-length-3
+    (λ c. search needs)
+    (λ c. search needs)
     returns-3
-    enum-known-t-2
+    (λ c. search needs)
     loop-less
     loop-again)

@@ -4,19 +4,10 @@ use borrow.Author.Needs.{needs}
 use Rattle.runs.proofs.word.stop.Statement.{statement}
 use Rattle.runs.proofs.word.stop.Tie as tie
 
-word-requires : tie.Need-word-requires
-word-requires c κs = search needs
-
-word-requires-2 : tie.Need-word-requires-2
-word-requires-2 c κs = search needs
-
 returns : tie.Need-returns
 returns c =
     let b = c .before .before .before .before .before in
     rw (c .if1 .taken) (equal-stop _ _ _ (b .pre .0) (b .pre .1) (c .before .before .word .ensures .1) (c .before .word2 .ensures .1) _ _ (c .before .before .word .ensures .0) (c .before .word2 .ensures .0))
-
-zero-bytes-requires : tie.Need-zero-bytes-requires
-zero-bytes-requires c κs = search needs
 
 returns-2 : tie.Need-returns-2
 returns-2 c =
@@ -25,4 +16,9 @@ returns-2 c =
 
 pub stop-spec : {M : Type 1} → statement M
 stop-spec =
-    tie.close (tie.spec word-requires word-requires-2 returns zero-bytes-requires returns-2)
+    tie.close (tie.spec
+    (λ c κs. search needs)
+    (λ c κs. search needs)
+    returns
+    (λ c κs. search needs)
+    returns-2)

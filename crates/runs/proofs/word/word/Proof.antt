@@ -5,21 +5,6 @@ use borrow.Author.Needs.{needs}
 use Rattle.runs.proofs.word.word.Statement.{statement}
 use Rattle.runs.proofs.word.word.Tie as tie
 
-half-word-requires : tie.Need-half-word-requires
-half-word-requires c κs = search needs
-
-add-half-word : tie.Need-add-half-word
-add-half-word c = search needs
-
-half-word-requires-2 : tie.Need-half-word-requires-2
-half-word-requires-2 c κs = search needs
-
-mul-result : tie.Need-mul-result
-mul-result c = search needs
-
-add-result : tie.Need-add-result
-add-result c = search needs
-
 returns : tie.Need-returns
 returns c =
     let b = c .before .before .before in
@@ -28,4 +13,10 @@ returns c =
 pub word-spec : {M : Type 1} → statement M
 word-spec =
     tie.close
-    (tie.spec half-word-requires add-half-word half-word-requires-2 mul-result add-result returns)
+    (tie.spec
+    (λ c κs. search needs)
+    (λ c. search needs)
+    (λ c κs. search needs)
+    (λ c. search needs)
+    (λ c. search needs)
+    returns)

@@ -19,31 +19,19 @@ limits c =
     (between (told-true (at-within .within2 .ensures) (c .before .before .before .before .if2 .left)))
     (between (told-true (c .before .before .before .within3 .ensures) (c .before .before .if3 .left)))
 
-within-requires : tie.Need-within-requires
-within-requires c κs = search needs
-
 returns : tie.Need-returns
 unfolding frameLength
 returns c = simp (told-false (c .before .within .ensures) (c .if1 .taken))
 
-within-requires-2 : tie.Need-within-requires-2
-within-requires-2 c κs = search needs
-
 returns-2 : tie.Need-returns-2
 unfolding frameLength
 returns-2 c = simp (told-true (c .before .before .before .within .ensures) (c .before .before .if1 .left), told-false (c .before .within2 .ensures) (c .if2 .taken))
-
-within-requires-3 : tie.Need-within-requires-3
-within-requires-3 c κs = search needs
 
 returns-3 : tie.Need-returns-3
 unfolding frameLength
 returns-3 c =
     let at-within = c .before .before .before .before .before in
     simp (told-true (at-within .within .ensures) (c .before .before .before .before .if1 .left), told-true (c .before .before .before .within2 .ensures) (c .before .before .if2 .left), told-false (c .before .within3 .ensures) (c .if3 .taken))
-
-row-bytes-requires : tie.Need-row-bytes-requires
-row-bytes-requires c κs = search needs
 
 mul-plane : tie.Need-mul-plane
 mul-plane c = rw (c .before .row-bytes .ensures) (omega (arith, limits c .plane-most))
@@ -70,13 +58,13 @@ pub frame-length-spec : {M : Type 1} → statement M
 frame-length-spec =
     tie.close
     (tie.spec
-    within-requires
+    (λ c κs. search needs)
     returns
-    within-requires-2
+    (λ c κs. search needs)
     returns-2
-    within-requires-3
+    (λ c κs. search needs)
     returns-3
-    row-bytes-requires
+    (λ c κs. search needs)
     mul-plane
     mul-frame
     returns-4)

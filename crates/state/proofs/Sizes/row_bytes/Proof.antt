@@ -5,18 +5,13 @@ use borrow.Author.Needs.{needs}
 use Rattle.state.proofs.Sizes.row_bytes.Statement.{statement}
 use Rattle.state.proofs.Sizes.row_bytes.Tie as tie
 
-add-result : tie.Need-add-result
-add-result c = search needs
-
-add-result-2 : tie.Need-add-result-2
-add-result-2 c = search needs
-
-mul-result : tie.Need-mul-result
-mul-result c = search needs
-
 returns : tie.Need-returns
 unfolding rowBytes
 returns c = omega arith
 
 pub row-bytes-spec : {M : Type 1} → statement M
-row-bytes-spec = tie.close (tie.spec add-result add-result-2 mul-result returns)
+row-bytes-spec = tie.close (tie.spec
+    (λ c. search needs)
+    (λ c. search needs)
+    (λ c. search needs)
+    returns)

@@ -8,15 +8,9 @@ use borrow.Author.Needs.{needs}
 use Rattle.state.proofs.State.frame_length.Statement.{statement}
 use Rattle.state.proofs.State.frame_length.Tie as tie
 
-within-requires : tie.Need-within-requires
-within-requires c κs = search needs
-
 returns : tie.Need-returns
 unfolding stateLength
 returns c = simp (told-false (c .before .within .ensures) (c .if1 .taken))
-
-within-requires-2 : tie.Need-within-requires-2
-within-requires-2 c κs = search needs
 
 returns-2 : tie.Need-returns-2
 returns-2 c = no-places _ (told-true (c .before .before .before .within .ensures) (c .before .before .if1 .left)) λ l m n. outside (told-false (c .before .within2 .ensures) (c .if2 .taken)) l (omega (arith, m, n))
@@ -25,9 +19,6 @@ returns-3 : tie.Need-returns-3
 returns-3 c =
     let at-within = c .before .before .before .before .before in
     no-places _ (told-true (at-within .within .ensures) (c .before .before .before .before .if1 .left)) λ l m n. omega (arith, n, c .if3 .taken)
-
-frame-length-requires : tie.Need-frame-length-requires
-frame-length-requires c κs = search needs
 
 returns-4 : tie.Need-returns-4
 unfolding stateLength
@@ -46,10 +37,10 @@ pub frame-length-spec : {M : Type 1} → statement M
 frame-length-spec =
     tie.close
     (tie.spec
-    within-requires
+    (λ c κs. search needs)
     returns
-    within-requires-2
+    (λ c κs. search needs)
     returns-2
     returns-3
-    frame-length-requires
+    (λ c κs. search needs)
     returns-4)

@@ -6,15 +6,6 @@ use borrow.Author.Needs.{needs}
 use Rattle.state.proofs.State.lent_length.Statement.{statement}
 use Rattle.state.proofs.State.lent_length.Tie as tie
 
-frame-length-requires : tie.Need-frame-length-requires
-frame-length-requires c κs = search needs
-
-enum-known-l : tie.Need-enum-known-l
-enum-known-l c = search needs
-
-enum-known-l-2 : tie.Need-enum-known-l-2
-enum-known-l-2 c = search needs
-
 returns : tie.Need-returns
 unfolding lentLength
 returns c = simp (told lengthOf (c .before .before .before .before .frame-length .ensures) (c .before .before .l2 .given .1), ne-eqb _ _ (c .if1 .taken))
@@ -39,9 +30,9 @@ pub lent-length-spec : {M : Type 1} → statement M
 lent-length-spec =
     tie.close
     (tie.spec
-    frame-length-requires
-    enum-known-l
-    enum-known-l-2
+    (λ c κs. search needs)
+    (λ c. search needs)
+    (λ c. search needs)
     returns
     returns-2
     returns-3

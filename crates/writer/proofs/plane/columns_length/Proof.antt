@@ -49,12 +49,6 @@ add-sum c =
     let at-start = c .before .before .before .before .before in
     omega (arith, c .before .before .loop .inv .small, c .length-at .ensures .1, at-start .pre .wide)
 
-add-column : tie.Need-add-column Inv-loop μ-loop
-add-column c = search needs
-
-loop-less : tie.Need-loop-less Inv-loop μ-loop
-loop-less c = search needs
-
 loop-again : tie.Need-loop-again Inv-loop μ-loop
 loop-again c = more (c .before .before .loop .inv) (c .before .loop-test .taken) (c .length-at .ensures)
 
@@ -71,7 +65,7 @@ columns-length-spec =
     add-length-at
     length-at-requires
     add-sum
-    add-column
-    loop-less
+    (λ c. search needs)
+    (λ c. search needs)
     loop-again
     returns)

@@ -53,12 +53,6 @@ add-column c = omega (arith, c .before .before .pre (c .before .loop .i) (omega 
 shared-slice-read-column : tie.Need-shared-slice-read-column Inv-loop μ-loop
 shared-slice-read-column c = c .before .before .before .pre (c .before .before .loop .i) (omega (arith, c .before .before .loop .inv .size))
 
-slice-write-column : tie.Need-slice-write-column Inv-loop μ-loop
-slice-write-column c = search needs
-
-add-i : tie.Need-add-i Inv-loop μ-loop
-add-i c = search needs
-
 loop-less : tie.Need-loop-less Inv-loop μ-loop
 loop-less c = omega (arith, c .before .before .loop .inv .size)
 
@@ -81,8 +75,8 @@ copy-column-spec =
     mul-column
     add-column
     shared-slice-read-column
-    slice-write-column
-    add-i
+    (λ c. search needs)
+    (λ c. search needs)
     loop-less
     loop-again
     same-length

@@ -4,9 +4,6 @@ use borrow.Author.Needs.{needs}
 use Rattle.writer.proofs.plane.copy_columns.Statement.{statement}
 use Rattle.writer.proofs.plane.copy_columns.Tie as tie
 
-slice-relend-prefix-copy-column : tie.Need-slice-relend-prefix-copy-column
-slice-relend-prefix-copy-column c = search needs
-
 slice-aggregate-copy-column : tie.Need-slice-aggregate-copy-column
 slice-aggregate-copy-column c =
     let at-start = c .before .before .before .before .before in
@@ -16,9 +13,6 @@ copy-column-requires : tie.Need-copy-column-requires
 copy-column-requires c κs =
     let at-start = c .before .before .before .before .before in
     rows-inside (at-start .args .old .now) (at-start .args .row) (at-start .args .at) (at-start .args .height) (at-start .args .was .now) (at-start .pre .2 .inOld) (at-start .pre .0)
-
-slice-relend-prefix-copy-column-2 : tie.Need-slice-relend-prefix-copy-column-2
-slice-relend-prefix-copy-column-2 c = search needs
 
 slice-aggregate-copy-column-2 : tie.Need-slice-aggregate-copy-column-2
 slice-aggregate-copy-column-2 c =
@@ -30,12 +24,6 @@ copy-column-requires-2 c κs =
     let at-start = c .before .before .before .before .before .before .before .before .before in
     rows-inside (at-start .args .new .now) (at-start .args .row) (at-start .args .at) (at-start .args .height) (at-start .args .is .now) (at-start .pre .2 .inNew) (at-start .pre .1)
 
-same-length : tie.Need-same-length
-same-length c = search needs
-
-same-length-2 : tie.Need-same-length-2
-same-length-2 c = search needs
-
 returns : tie.Need-returns
 returns c =
     let at-copy-column = c .before .before .before .before .before .before in
@@ -46,12 +34,12 @@ pub copy-columns-spec : {M : Type 1} → statement M
 copy-columns-spec =
     tie.close
     (tie.spec
-    slice-relend-prefix-copy-column
+    (λ c. search needs)
     slice-aggregate-copy-column
     copy-column-requires
-    slice-relend-prefix-copy-column-2
+    (λ c. search needs)
     slice-aggregate-copy-column-2
     copy-column-requires-2
-    same-length
-    same-length-2
+    (λ c. search needs)
+    (λ c. search needs)
     returns)

@@ -7,14 +7,8 @@ use borrow.Author.Needs.{needs}
 use Rattle.writer.proofs.plane.plane_length.Statement.{statement}
 use Rattle.writer.proofs.plane.plane_length.Tie as tie
 
-unchanged-requires : tie.Need-unchanged-requires
-unchanged-requires c κs = search needs
-
 returns : tie.Need-returns
 returns c = (sym (ap length (plane-unchanged _ _ _ _ _ (c .before .unchanged .ensures) (c .if1 .taken))), omega arith)
-
-columns-length-requires : tie.Need-columns-length-requires
-columns-length-requires c κs = search needs
 
 returns-2 : tie.Need-returns-2
 returns-2 c =
@@ -23,4 +17,8 @@ returns-2 c =
 
 pub plane-length-spec : {M : Type 1} → statement M
 plane-length-spec =
-    tie.close (tie.spec unchanged-requires returns columns-length-requires returns-2)
+    tie.close (tie.spec
+    (λ c κs. search needs)
+    returns
+    (λ c κs. search needs)
+    returns-2)

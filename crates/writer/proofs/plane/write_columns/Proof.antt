@@ -28,19 +28,10 @@ write-at-requires c κs =
     let at-start = c .before .before .before .before .before .before in
     (plane-column (at-start .pre .0) _ (c .before .loop-test .taken), putting-room (c .before .before .loop .inv) (columns-parts _ _ _ _ _ _ (c .before .loop-test .taken)))
 
-add-column : tie.Need-add-column Inv-loop μ-loop
-add-column c = search needs
-
-loop-less : tie.Need-loop-less Inv-loop μ-loop
-loop-less c = search needs
-
 loop-again : tie.Need-loop-again Inv-loop μ-loop
 loop-again c =
     let at-loop = c .before .before .before .before .before in
     putting-more (at-loop .loop .inv) (columns-parts _ _ _ _ _ _ (c .before .before .before .before .loop-test .taken)) (c .before .before .write-at .ensures)
-
-same-length : tie.Need-same-length Inv-loop μ-loop
-same-length c = search needs
 
 returns : tie.Need-returns Inv-loop μ-loop
 returns c = putting-last (c .before .loop .inv) (columns-none _ _ _ _ _ _ (c .loop-test .left))
@@ -54,8 +45,8 @@ write-columns-spec =
     loop-holds
     add-write-at
     write-at-requires
-    add-column
-    loop-less
+    (λ c. search needs)
+    (λ c. search needs)
     loop-again
-    same-length
+    (λ c. search needs)
     returns)

@@ -8,9 +8,6 @@ use borrow.Author.Needs.{needs}
 use Rattle.writer.proofs.plane.write_plane.Statement.{statement}
 use Rattle.writer.proofs.plane.write_plane.Tie as tie
 
-unchanged-requires : tie.Need-unchanged-requires
-unchanged-requires c κs = search needs
-
 returns : tie.Need-returns
 returns c = put-as put-nothing (plane-unchanged _ _ _ _ _ (c .before .unchanged .ensures) (c .if1 .taken))
 
@@ -19,9 +16,6 @@ write-columns-requires c κs =
     let at-start = c .before .before .before .before .before .before in
     (at-start .pre .0, omega (arith, at-start .pre .1, ap length (plane-changed (at-start .args .old .now) (at-start .args .new .now) (at-start .args .row) (at-start .args .height) (at-start .args .at) (c .before .before .unchanged .ensures) (c .before .if1 .left))))
 
-same-length : tie.Need-same-length
-same-length c = search needs
-
 returns-2 : tie.Need-returns-2
 returns-2 c =
     let at-unchanged = c .before .before .before .before .before in
@@ -29,4 +23,9 @@ returns-2 c =
 
 pub write-plane-spec : {M : Type 1} → statement M
 write-plane-spec =
-    tie.close (tie.spec unchanged-requires returns write-columns-requires same-length returns-2)
+    tie.close (tie.spec
+    (λ c κs. search needs)
+    returns
+    write-columns-requires
+    (λ c. search needs)
+    returns-2)
