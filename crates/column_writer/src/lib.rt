@@ -15,7 +15,7 @@ use crate::piece::Totals;
 use crate::piece::measure;
 use crate::piece::next_piece;
 use crate::piece::piece_totals;
-use buffer::copy;
+use copies::copy;
 use refusal::Refusal;
 
 // How many bytes a column is written in.

@@ -12,10 +12,10 @@ mod rows;
 mod words;
 
 use anhd::Items;
-use buffer::copy_long;
 use buffer::fill;
 use buffer::number32;
 use column::take_column;
+use copies::copy_long;
 use refusal::Refusal;
 use state::Length;
 use state::Sizes;

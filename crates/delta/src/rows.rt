@@ -7,7 +7,7 @@ ghost use Rattle.delta.specs.Walk.{Width, Column, Down, ItemsIn, Lies, d
 use crate::Shape;
 use crate::Step;
 use crate::Taken;
-use buffer::copy;
+use copies::copy;
 
 // Puts two bytes at a place of the frame.
 fn put_pair(frame: &mut [u8], at: usize, d: &[u8], from: usize)

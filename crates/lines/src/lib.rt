@@ -3,7 +3,7 @@ ghost use mathlib.Core.List.{[], _∷_, _++_};
 ghost use Prim.Native.Nat.{_≤_, min};
 ghost use lib.ListN.{length};
 ghost use Rattle.lines.specs.Lines.{decimal, newline, pictureLine, frameLine, lineOf, Adds};
-use buffer::copy;
+use copies::copy;
 use refusal::Refusal;
 use state::Report;
 use state::Sizes;

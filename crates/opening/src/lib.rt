@@ -12,7 +12,7 @@ use anhd::Anhd;
 use bmhd::Bmhd;
 use bmhd::Header;
 use body::Unpacked;
-use buffer::copy_long;
+use copies::copy_long;
 use delta::Applied;
 use form::Form;
 use form::Outer;

@@ -12,10 +12,10 @@ ghost use Rattle.changes.specs.Count.{countOf};
 ghost use Rattle.record.specs.RunList.{runBytes, runsBytes, listBytes};
 ghost use Rattle.record.specs.Record.{pictureBytes, Commits, recordedOf};
 ghost use Rattle.record.specs.Walk.{Counted};
-use buffer::copy;
-use buffer::copy_long;
 use changes::Counts;
 use changes::count;
+use copies::copy;
+use copies::copy_long;
 use refusal::Refusal;
 use runs::Change;
 use runs::next_run;
@@ -77,7 +77,7 @@ fn put_number(out: &mut [u8], at: usize, n: u32) -> usize
     }
 }
 
-// Copies count bytes from a place of src to a place of dst, if they are wanted. Unlike `buffer::copy_part` it asks no lengths: a light step
+// Copies count bytes from a place of src to a place of dst, if they are wanted. Unlike `copies::copy_part` it asks no lengths: a light step
 // would take longer.
 fn replace(dst: &mut [u8], to: usize, src: &[u8], from: usize, count: usize, wanted: bool)
     requires { ⌜ (to + count ≤ length (now dst)) × (from + count ≤ length (now src)) ⌝ }

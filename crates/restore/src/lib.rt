@@ -6,7 +6,7 @@ ghost use Rattle.runs.specs.Runs.{differ};
 ghost use Rattle.record.specs.RunList.{readRuns, readList};
 ghost use Rattle.restore.specs.Restored.{Restores, restoredOf};
 ghost use Rattle.restore.specs.Walk.{RunAt, RunTaken, Took, HeaderAt, belonging, LeadsBack};
-use buffer::copy_part;
+use copies::copy_part;
 use number::Parsed;
 use refusal::Refusal;
 

@@ -1,8 +1,8 @@
--- `buffer::copy`: as many bytes as both have.
+-- `copies::copy`: as many bytes as both have.
 use Rattle.laws.proofs.StoreLaws.{copied-all}
 use borrow.Author.Needs.{needs}
-use Rattle.buffer.proofs.copy.Statement.{statement}
-use Rattle.buffer.proofs.copy.Tie as tie
+use Rattle.copies.proofs.copy.Statement.{statement}
+use Rattle.copies.proofs.copy.Tie as tie
 
 returns : tie.Need-returns
 returns c = copied-all (c .before .before .copy-front .ensures) (c .before .before .before .before .smaller .ensures)

@@ -1,10 +1,10 @@
--- `buffer::copy_long`: the last block goes on with a copy that has gone as far as it begins, or farther.
+-- `copies::copy_long`: the last block goes on with a copy that has gone as far as it begins, or farther.
 use native.Mathlib.Omega.{arith}
 use Prim.Native.Nat.{_-_}
 use Rattle.laws.proofs.StoreLaws.{copied-front, copied-then, copied-all}
 use borrow.Author.Needs.{needs}
-use Rattle.buffer.proofs.copy_long.Statement.{statement}
-use Rattle.buffer.proofs.copy_long.Tie as tie
+use Rattle.copies.proofs.copy_long.Statement.{statement}
+use Rattle.copies.proofs.copy_long.Tie as tie
 
 returns : tie.Need-returns
 returns c =

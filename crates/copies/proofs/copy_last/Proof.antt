@@ -1,8 +1,8 @@
--- `buffer::copy_last`: four blocks of eight bytes.
+-- `copies::copy_last`: four blocks of eight bytes.
 use Rattle.laws.proofs.StoreLaws.{copied-last}
 use borrow.Author.Needs.{needs}
-use Rattle.buffer.proofs.copy_last.Statement.{statement}
-use Rattle.buffer.proofs.copy_last.Tie as tie
+use Rattle.copies.proofs.copy_last.Statement.{statement}
+use Rattle.copies.proofs.copy_last.Tie as tie
 
 returns : tie.Need-returns
 returns c =

@@ -1,11 +1,11 @@
--- `buffer::copy_part`: a copy into the part that was lent for it; what lies past an end isn't stored.
+-- `copies::copy_part`: a copy into the part that was lent for it; what lies past an end isn't stored.
 use native.Mathlib.Omega.{arith}
 use mathlib.Core.Path.{_∙_}
 use borrow.Author.Tests.{not-true, not-false}
 use Rattle.laws.proofs.StoreLaws.{lent-copy, copied-most}
 use borrow.Author.Needs.{needs}
-use Rattle.buffer.proofs.copy_part.Statement.{statement}
-use Rattle.buffer.proofs.copy_part.Tie as tie
+use Rattle.copies.proofs.copy_part.Statement.{statement}
+use Rattle.copies.proofs.copy_part.Tie as tie
 
 returns : tie.Need-returns
 returns c = simp (not-true (c .before .before .before .args .wanted) (c .if1 .taken))

@@ -1,4 +1,4 @@
--- `buffer::copy_front`: after i turns the first i bytes of dst are those of src.
+-- `copies::copy_front`: after i turns the first i bytes of dst are those of src.
 use native.Mathlib.Omega.{arith}
 use Prim.Native.Nat.{_-_, _≤_}
 use mathlib.Core.Path.{_≡_, refl}
@@ -6,8 +6,8 @@ use lib.ListN.{length, length-set}
 use Rattle.laws.specs.Store.{Copied}
 use Rattle.laws.proofs.StoreLaws.{copied-none, copied-more, copied-to}
 use borrow.Author.Needs.{needs}
-use Rattle.buffer.proofs.copy_front.Statement.{statement}
-use Rattle.buffer.proofs.copy_front.Tie as tie
+use Rattle.copies.proofs.copy_front.Statement.{statement}
+use Rattle.copies.proofs.copy_front.Tie as tie
 
 abbrev Inv-loop : tie.InvT-loop
 Inv-loop dst₀ src n i₀ dst i = (i ≤ n) × (length dst ≡ length dst₀) × Copied src dst₀ i dst

@@ -1,11 +1,11 @@
--- `buffer::copy_eight`: eight stores.
+-- `copies::copy_eight`: eight stores.
 use native.Mathlib.Omega.{arith}
 use mathlib.Core.Path.{refl}
 use lib.ListN.{length-set}
 use Rattle.laws.proofs.StoreLaws.{stored-eight}
 use borrow.Author.Needs.{needs}
-use Rattle.buffer.proofs.copy_eight.Statement.{statement}
-use Rattle.buffer.proofs.copy_eight.Tie as tie
+use Rattle.copies.proofs.copy_eight.Statement.{statement}
+use Rattle.copies.proofs.copy_eight.Tie as tie
 
 slice-write-dst-2 : tie.Need-slice-write-dst-2
 slice-write-dst-2 c = simp length-set (omega arith)
