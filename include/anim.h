@@ -93,13 +93,13 @@ extern "C" {
 #define ANIM_NO_ROOM 51            /* a record or delta longer than its buffer */
 #define ANIM_LAST_FRAME 53         /* stepping on from frame 1000000 */
 #define ANIM_BAD_RECORD 61         /* a malformed record, bytes left over, or an old byte equal to the one it replaces */
-#define ANIM_OTHER_RECORD 62       /* a record of another frame, or of a place that isn't before the state's */
+#define ANIM_OTHER_RECORD 62       /* a record of a frame below 2 or not the state's, or of a place below 12 or not before the state's */
 
 /*
  * Where a player stands. anim_open fills it; hand it to the other calls as anim_open or the last step
  * left it. It may be copied, kept and put back together with A and B.
  *
- * It crosses as its 48 bytes, each number with its low byte first, as on x86-64. It is lent as
+ * It is handed over as its 48 bytes, each number with its low byte first, as on x86-64. It is lent as
  * (uint8_t *)&state, sizeof state, which the typed calls do: a struct of six uint64_t has no gaps, and
  * its bytes may be read and written through a uint8_t pointer.
  */
@@ -112,7 +112,7 @@ typedef struct anim_state {
     uint64_t end;    /* where FORM ANIM ends, from next to 2147483647 */
 } anim_state;
 
-/* What a step on tells of the frame it reached; it crosses as its 32 bytes, lent likewise. */
+/* What a step on tells of the frame it reached; it is handed over as its 32 bytes, lent likewise. */
 typedef struct anim_report {
     uint64_t method;        /* 2, 3, 5 or 7 */
     uint64_t time;          /* ANHD's relative time, in sixtieths of a second */

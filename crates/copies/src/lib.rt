@@ -25,7 +25,7 @@ fn copy_front(dst: &mut [u8], src: &[u8], n: usize)
     }
 }
 
-// Copies the eight bytes at a place. All are read before one is written, so that they become one.
+// Copies the eight bytes at a place. All are read before one is written, so that they become one load and one store.
 fn copy_eight(dst: &mut [u8], src: &[u8], at: usize)
     requires { ⌜ (at + 8 ≤ length (now dst)) × (at + 8 ≤ length (now src)) ⌝ }
     ensures { λ _. ⌜ now (dst .exit) ≡ sets (now (dst .entry)) at (take 8 (drop at (now (src .entry)))) ⌝ }

@@ -1,15 +1,15 @@
--- A Uniq of none and a Same of none (document 02, E4) move nothing; the Same still takes its item, and an absent one is 42.
+-- A Uniq of none and a Same of none (document 02, E4) are taken and move nothing; the Same still takes its item, and an absent one is 42.
 use Prim.Native.Nat.{ℕ, _+_, _*_, _<_, _≤_}
 use native.Mathlib.Omega.{arith}
 use mathlib.Core.Bool.{true}
-use mathlib.Core.List.{List}
+use mathlib.Core.List.{List, [], _∷_, _++_}
 use mathlib.Core.Path.{_≡_, refl}
 use lib.Dec.{leb}
 use lib.ListN.{length}
 use borrow.Author.Tests.{le-leb, lt-leb}
 use Rattle.laws.specs.Result.{Res.ok, Res.fault, pick, Each, Each.each}
 use Rattle.laws.proofs.ResultLaws.{each-any, each-map, each-need}
-use Rattle.delta.specs.Reading.{Reading, byteAt}
+use Rattle.delta.specs.Reading.{Op, Reading, byteAt}
 use Rattle.delta.specs.Column.{noRows, skip, fill, Kind, Kind.same, Kind.skips, Kind.uniq, opAs}
 use Rattle.delta.specs.Delta.{put, draw}
 use Rattle.delta.specs.declared.Shape.{Shape}
@@ -22,16 +22,24 @@ module _ (S : Shape) (d : List ℕ) (base : ℕ) (c : Reading) where
       each-need (leb (c .line + n) (S .height)) 43 _ λ _. each-need (leb (pick (S .inline) p (c .itemAt) + size) (length d)) 42 _ λ _.
       each (record { line = refl; opAt = refl; itemAt = refl; op = _; counted = refl; count = refl; from = refl })
 
-  fill-none : (p size step : ℕ) → Each (MovesNothing S d c p size) (fill S d base c p 0 size step)
-  unfolding draw put
-  fill-none p size step = each-map (λ next w. record { read = w; line = omega (arith, w .line); drawn = λ f. rw (w .count) }) (fill-reads p 0 size step)
+  -- an op of none is taken where reading stands in the column and the bytes of its items are there, and moves nothing
+  fill-none : (p size step : ℕ) → c .line ≤ S .height → pick (S .inline) p (c .itemAt) + size ≤ length d
+      → (next : Reading) × (fill S d base c p 0 size step ≡ ok next) × MovesNothing S d c p size next
+  unfolding fill draw put
+  fill-none p size step l h =
+      let o : Op = record { place = base + c .line * S .row; count = 0; from = pick (S .inline) p (c .itemAt); step = step } in
+      let next : Reading = record { opAt = pick (S .inline) (p + size) p; itemAt = pick (S .inline) (c .itemAt) (c .itemAt + size); line = c .line + 0; ops = c .ops ++ (o ∷ []) } in
+      let read : Fills S c p 0 size next = record { line = refl; opAt = refl; itemAt = refl; op = o; counted = refl; count = refl; from = refl } in
+      (next, simp (le-leb (c .line + 0) (S .height) (omega arith), le-leb _ _ h), record { read = read; line = omega arith; drawn = λ f. refl })
 
-  pub uniq-of-none : Each (MovesNothing S d c (c .opAt + 1) 0) (opAs S d base c (uniq 0))
-  uniq-of-none = let z : 0 * S .item ≡ 0 = omega arith in rw z (fill-none (c .opAt + 1) 0 (S .item))
+  pub uniq-of-none : c .line ≤ S .height → pick (S .inline) (c .opAt + 1) (c .itemAt) ≤ length d
+      → (next : Reading) × (opAs S d base c (uniq 0) ≡ ok next) × MovesNothing S d c (c .opAt + 1) 0 next
+  uniq-of-none l h = let z : 0 * S .item ≡ 0 = omega arith in rw z (fill-none (c .opAt + 1) 0 (S .item) l (omega arith))
 
   module _ (e : byteAt d (c .opAt + 1) ≡ ok 0) where
-    pub same-of-none : Each (MovesNothing S d c (c .opAt + 2) (S .item)) (opAs S d base c same)
-    same-of-none = rw e (fill-none (c .opAt + 2) (S .item) 0)
+    pub same-of-none : c .line ≤ S .height → pick (S .inline) (c .opAt + 2) (c .itemAt) + S .item ≤ length d
+        → (next : Reading) × (opAs S d base c same ≡ ok next) × MovesNothing S d c (c .opAt + 2) (S .item) next
+    same-of-none l h = rw e (fill-none (c .opAt + 2) (S .item) 0 l h)
 
     pub same-absent : c .line ≤ S .height → length d < pick (S .inline) (c .opAt + 2) (c .itemAt) + S .item → opAs S d base c same ≡ fault 42
     unfolding fill

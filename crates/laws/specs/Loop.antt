@@ -11,6 +11,6 @@ abbrev pub run : {S O : Type 0} → (S → Step S O) → O → ℕ → S → O
 run f late zero s = late
 run f late (suc n) s = elim (f s) [ next t ↦ run f late n t | done o ↦ o ]
 
--- the answer from s on, where `left` falls with each turn, so that `late` is never the answer
+-- the answer from s on; where `left` falls with each turn, `late` is never the answer
 unfoldable pub iterate : {S O : Type 0} → (S → Step S O) → (S → ℕ) → O → S → O
 iterate f left late s = run f late (suc (left s)) s

@@ -45,7 +45,7 @@ pick true a b = a
 pick false a b = b
 
 infixl 20 _>>?_
--- the same for what is well formed or not, with no number of its own
+-- a chain of what is well formed or not, with no number of its own
 abbrev pub _>>?_ : {A B : Type 0} → Option A → (A → Option B) → Option B
 _>>?_ (some a) f = f a
 _>>?_ none f = none

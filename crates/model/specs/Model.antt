@@ -1,8 +1,8 @@
 -- The model of demand 3 (document 01, "Opening, stepping on, stepping back", and document 02, E1, E5 and E7). It is fed the file and the calls in order, and holds
 -- a number n, at first 1. Here m is n − 1: picture m + 1 is shown at n, and picture m hidden, where picture 0 is picture 1 too.
 -- With opening and the steps it shares the readings of chunks, BMHD, BODY, ANHD, deltas and records, what ops draw, the bytes of a record,
--- the lengths of a row and of a frame, how many bytes differ, what an odd number is, the ids of chunks, and the types of what is
--- answered; and nothing of what an opening or a step comes to.
+-- the lengths of a row and of a frame, how many bytes differ, what an odd number is, the ids of chunks, and the types of what a file
+-- fixes, of what is handed on and of what is answered; and nothing of what an opening or a step comes to.
 use Prim.Native.Nat.{ℕ, zero, suc}
 use mathlib.Core.Bool.{true}
 use mathlib.Core.List.{List, [], _∷_}

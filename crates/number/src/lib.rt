@@ -50,7 +50,7 @@ fn read_groups(s: &[u8], at: usize) -> Parsed
     Parsed::Malformed
 }
 
-// The number at a place of s. Nearly all are of one byte, which is its value.
+// The number at a place of s. Most numbers have one byte, which is the value.
 pub fn read(s: &[u8], at: usize) -> Parsed
     ensures { λ r. ⌜ ReadAt (now (s .entry)) at r ⌝ }
 {

@@ -1,4 +1,4 @@
-// Opening: both picture buffers get the first picture of a file. The length of its frame is asked beforehand.
+// Opening: both picture buffers get the first picture of a file. The length of its frame can be asked before, by `frame_size`.
 ghost use mathlib.Core.Path.{_≡_};
 ghost use lib.ListN.{length};
 ghost use Rattle.opening.specs.declared.Opening.the-variants.{Refused};

@@ -101,10 +101,10 @@ fn put_run(out: &mut [u8], at: usize, gap: usize, old: &[u8], start: usize, coun
         × (at + (length (writeNumber gap) + length (writeNumber count) + count) ≤ length (now out)) ⌝ }
     ensures { λ r. ⌜ Put (now (out .entry)) at (runBytes (record { gap = gap; bytes = take count (drop start (now (old .entry))) })) (now (out .exit)) r ⌝ }
 {
-    let second = put_number(out, at, gap as u32);
-    let first = put_number(out, second, count as u32);
-    replace(out, first, old, start, count, true);
-    first + count
+    let count_at = put_number(out, at, gap as u32);
+    let bytes_at = put_number(out, count_at, count as u32);
+    replace(out, bytes_at, old, start, count, true);
+    bytes_at + count
 }
 
 // Writes the runs of two pictures at a place of out where they fit, and answers the place after them. If commit is true, each run's new
@@ -163,8 +163,8 @@ fn put_picture(
     ensures { λ r. ⌜ Put (now (out .entry)) 0 (pictureBytes frame place (now (old .entry)) (now (new .entry))) (now (out .exit)) r
         × (now (old .exit) ≡ pick commit (now (new .entry)) (now (old .entry))) ⌝ }
 {
-    let second = put_number(out, 0, frame);
-    let list = put_number(out, second, place);
+    let place_at = put_number(out, 0, frame);
+    let list = put_number(out, place_at, place);
     put_list(out, list, runs, old, new, commit)
 }
 

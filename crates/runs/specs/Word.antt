@@ -13,7 +13,7 @@ unfoldable pub wordOf : List ℕ → ℕ
 wordOf [] = 0
 wordOf (x ∷ xs) = wordOf xs * 256 + x
 
--- 128 in each byte of a word that is 0, and 0 in the others, for words of bytes that are 127 and 128
+-- 128 in each byte of w that is 0, and 0 in the others, where each byte of low is 127 and each of high 128
 unfoldable pub zeroBytes : ℕ → ℕ → ℕ → ℕ
 zeroBytes low high w = high - bitAnd (bitOr (bitAnd w low + low) w) high
 

@@ -10,7 +10,7 @@ pub struct Sizes {
     pub planes: usize,
 }
 
-// The state of a player: the sizes, the frame number, the place of the next frame and the end of FORM ANIM.
+// The state of a player: the sizes, the frame number, the place where the file is read on, and the end of FORM ANIM.
 pub struct State {
     pub sizes: Sizes,
     pub frame: usize,
