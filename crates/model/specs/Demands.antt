@@ -20,12 +20,13 @@ use Rattle.anhd.specs.declared.FrameHeader.{FrameHeader}
 use Rattle.anhd.specs.Anhd.{frameHeader}
 use Rattle.delta.specs.Reading.{Op, shapeOf}
 use Rattle.delta.specs.Delta.{readDelta, draw}
+use Rattle.runs.specs.Runs.{differing}
 use Rattle.record.specs.Record.{recordBytes}
 use Rattle.frame.specs.Frame.{Frame, frameAt}
 use Rattle.opening.specs.declared.OpenedFile.{OpenedFile}
 use Rattle.opening.specs.Open.{Places, firstPlaces, firstHeader, openingOf, MeetsOpen}
 use Rattle.step_on.specs.declared.SteppedOn.{SteppedOn}
-use Rattle.step_on.specs.Step.{ready, reportOf, onOf, MeetsOn}
+use Rattle.step_on.specs.Step.{ready, onOf, MeetsOn}
 use Rattle.step_back.specs.declared.SteppedBack.{SteppedBack}
 use Rattle.step_back.specs.Back.{backOf, MeetsBack}
 use Rattle.writer.specs.declared.Delta.{Delta}
@@ -87,7 +88,7 @@ recordOf w f = recordBytes (suc (w .state .frame)) (w .state .next) (hiddenIn w)
 -- what a taken step to frame x, whose picture is f, answers and leaves: f is in the hidden buffer, which is now the shown one, and in the
 -- work buffer; the shown picture doesn't change; the record stands at the front of its buffer, and the bytes past it stay
 pub record Takes (w : World) (rec : List ℕ) (x : Frame) (f : List ℕ) (y : Answer) (l : Lent) : Type 0 where
-  pub answer : y ≡ tookOn (reportOf (w .state) (hiddenIn w) (x .header) f)
+  pub answer : y ≡ tookOn (record { method = x .header .method; time = x .header .time; changed = differing (hiddenIn w) f; record_length = length (recordOf w f) })
   pub state : l .world .state ≡ record { sizes = w .state .sizes; frame = suc (w .state .frame); next = x .next; end = w .state .end }
   pub shown : shownIn (l .world) ≡ f
   pub hidden : hiddenIn (l .world) ≡ shownIn w
