@@ -11,7 +11,7 @@ use borrow.Author.Tests.{leb-true, eqb-true}
 use Rattle.laws.specs.Result.{Res, Res.ok, Res.fault, _>>=_, orRefuse, pick, Each, Each.each, Each.no-value, All, All.all-some, All.all-none}
 use Rattle.laws.specs.Every.{Every, Every.every-none, Every.every-cons}
 use Rattle.laws.proofs.EveryLaws.{every-more}
-use Rattle.laws.proofs.ResultLaws.{each-need, each-ok, each-pick, each-bind, each-self, pick-both, all-value, each-some}
+use Rattle.laws.proofs.ResultLaws.{each-need, each-ok, each-pick, each-bind, each-self, pick-both, all-value, each-some, never}
 use Rattle.laws.proofs.LoopLaws.{Going, starts, turns, stops, Comes, Comes.comes-next, Comes.comes-done, iterate-holds}
 use Rattle.laws.specs.Bytes.{be32}
 use Rattle.iff.specs.Chunk.{Chunk, padded, chunkAt, Walk, walkOn, walkStep, chunks, Part, partOf, first, find, orPart, Within, Lies}
@@ -99,7 +99,7 @@ module _ (x y : ℕ) (differ : x ≡ y → ⊥) where
           let g : first x cs ≡ some p = cc in
           let h : first y cs ≡ some q = cc in
           omega (arith, b .room, rw (g, h) at (both-fit cs))
-      go (fault n) h e f = let z : _≡_ {A = ℕ} 0 1 = cc in absurd (omega arith)
+      go (fault n) h e f = never (cc)
 
 -- the first chunk of an id in a list with one chunk more
 first-more : (id : ℕ) (cs : List Chunk) (c : Chunk) → ok (first id (cs ++ (c ∷ []))) ≡ pick (eqb (c .id) id) (orPart (ok (first id cs)) (partOf c)) (ok (first id cs))

@@ -1,11 +1,11 @@
 -- Demand 3: after an opening that wasn't refused both pictures and the state are the model's, and so are every answer, every taken step
 -- on's record, both pictures and the state after every call.
 use Prim.Native.Nat.{ℕ}
-use native.Mathlib.Omega.{arith}
 use mathlib.Core.List.{List, []}
 use mathlib.Core.Path.{_≡_, refl, sym, _∙_}
 use lib.ListN.{length}
 use Rattle.laws.specs.Result.{Res, Res.ok, Res.fault, answer, Each, Each.each}
+use Rattle.laws.proofs.ResultLaws.{never}
 use Rattle.state.specs.World.{World}
 use Rattle.opening.specs.declared.OpenedFile.{OpenedFile}
 use Rattle.state.specs.Film.{Film}
@@ -29,4 +29,4 @@ demand-3 file a b r a′ b′ h e calls seen t = go (opening file (length a) (le
         let t′ : Trace (F .file) (record { a = a′; b = b′; state = r .state }) [] calls seen = rw (k .same) t in
         let o = from-there F (k .opened) t′ 0 first w refl in
         rw (k .read) (λ i. ok (record { opened = sym w i; seen = sym o i }))
-    go (fault n) x l k = let z : _≡_ {A = ℕ} 0 1 = cc in absurd (omega arith)
+    go (fault n) x l k = never (cc)

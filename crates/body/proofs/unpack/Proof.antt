@@ -15,12 +15,16 @@ use borrow.Author.Needs.{needs}
 use Rattle.body.proofs.unpack.Statement.{statement}
 use Rattle.body.proofs.unpack.Tie as tie
 
+-- where the call begins
+abbrev begin : tie.Else1 → tie.Start
+begin c = c .before .before .before .before .before .before .before
+
 -- the sizes and the frame's length fit each other
-sound : (c : tie.Else1) → Sound (c .before .before .before .before .before .before .before .args .sizes) (length (c .before .before .before .before .before .before .before .args .frame .now))
+sound : (c : tie.Else1) → let a = begin c .args in Sound (a .sizes) (length (a .frame .now))
 sound c = subst (Sound _) (sym (c .if1 .left)) (each-is (told lengthOf (c .before .before .before .before .frame-length .ensures) (c .before .before .l2 .given .1)) (sizes-sound _))
 
 -- so the picture is the one in BODY
-whole : (c : tie.Else1) → let a = c .before .before .before .before .before .before .before .args in picture (a .packed) (a .sizes) (a .s .now) (length (a .frame .now)) ≡ body (a .packed) (a .sizes) (a .s .now)
+whole : (c : tie.Else1) → let a = begin c .args in picture (a .packed) (a .sizes) (a .s .now) (length (a .frame .now)) ≡ body (a .packed) (a .sizes) (a .s .now)
 whole c = picture-body _ _ _ _ (told lengthOf (c .before .before .before .before .frame-length .ensures) (c .before .before .l2 .given .1)) (c .if1 .left)
 
 returns : tie.Need-returns
@@ -41,13 +45,13 @@ returns-2 c =
     let at-row-bytes = c .before .before .before .before .before .before in
     let at-node = at-row-bytes .before in
     let r = c .before .before .before .check-rows in
-    let k = whole (at-node) ∙ check-failed _ _ _ (at-row-bytes .row-bytes .ensures) (r .result) (r .ensures .0) (c .if2 .taken) in
+    let k = whole at-node ∙ check-failed _ _ _ (at-row-bytes .row-bytes .ensures) (r .result) (r .ensures .0) (c .if2 .taken) in
     (ap answer (sym k), r .ensures .1 ∙ ap (orKeep _) (sym k))
 
 draw-rows-requires : tie.Need-draw-rows-requires
 draw-rows-requires c κs =
     let at-node = c .before .before .before .before .before .before .before .before in
-    subst (Sound _) (sym (ap length (c .before .before .before .before .check-rows .ensures .1))) (sound (at-node))
+    subst (Sound _) (sym (ap length (c .before .before .before .before .check-rows .ensures .1))) (sound at-node)
 
 returns-3 : tie.Need-returns-3
 returns-3 c =
