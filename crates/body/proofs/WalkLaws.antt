@@ -12,7 +12,8 @@ use Rattle.laws.proofs.ResultLaws.{each-is, answer-ok, answered, never}
 use Rattle.laws.proofs.LoopLaws.{Going, starts, turns, stops}
 use Rattle.laws.proofs.StoreLaws.{sets-append}
 use Rattle.state.specs.declared.Sizes.{Sizes}
-use Rattle.state.specs.State.{rowBytes, frameBytes, Sound}
+use Rattle.state.specs.State.{rowBytes, Sound}
+use Rattle.state.proofs.StateLaws.{row-inside}
 use Rattle.body.specs.ByteRun.{Row, packetAt, unpackOn, unpackRow}
 use Rattle.body.specs.Body.{rowAt, rowsFrom, place, draw, body}
 use Rattle.body.specs.Walk.{Count, took, tookOf, puts, Drawn, checkOf, DrawnRows}
@@ -192,13 +193,6 @@ spot-before height planes line plane h k = omega (arith, mul-le-mul-right planes
 spot-past : (height planes line plane k : ℕ) → height ≤ line → k + (line * planes + plane) ≡ height * planes → k ≡ 0
 spot-past height planes line plane k h e = omega (arith, mul-le-mul-right planes h)
 
--- a row lies within the frame
-pub spot-fits : (z : Sizes) (n line plane : ℕ) → Sound z n → line < z .height → plane < z .planes → (plane * z .height + line) * rowBytes (z .width) + rowBytes (z .width) ≤ n
-unfolding frameBytes
-spot-fits z n line plane b h k =
-    let a : suc (plane * z .height + line) ≤ z .planes * z .height = omega (arith, mul-le-mul-right (z .height) k) in
-    omega (arith, mul-le-mul-right (rowBytes (z .width)) a, b .length)
-
 pub lines-small : (z : Sizes) {n row : ℕ} (k : ℕ) → Sound z n → row ≡ rowBytes (z .width) → k ≤ z .height → k * row ≤ 131072
 lines-small z k b r h = rw r (omega (arith, mul-le-mul-right (rowBytes (z .width)) h, b .plane-most))
 
@@ -219,7 +213,7 @@ module _ {packed : Bool} {z : Sizes} {s f g : List ℕ} {at line plane spot row 
   some-left = omega (arith, w .drawing .left, spot-before (z .height) (z .planes) line plane l (w .inside))
 
   pub walking-fits : {n : ℕ} → Sound z n → spot + row ≤ n
-  walking-fits {n} b = omega (arith, w .place, r, spot-fits z n line plane b l (w .inside))
+  walking-fits {n} b = omega (arith, w .place, r, row-inside z n line plane b l (w .inside))
 
   more : {count nx : ℕ} {h : List ℕ} → Behind (rowAt packed s row at) count nx → Drawn true g spot (rowAt packed s row at) h → Drawing packed z s f h nx (line * z .planes + plane + 1) (w .left - 1)
   more {count} {nx} {h} b d = drawing-more (w .drawing) some-left (rw r at b) (rw (place-at z line plane (w .inside), ← (w .place)) (rw r at d))

@@ -4,7 +4,7 @@ use native.Mathlib.Nat.{not-suc-le-zero, le-of-suc-le-suc, zero-add, suc-add, ad
 use native.Mathlib.Numerals.{add-one}
 use native.Mathlib.Omega.{arith}
 use native.Mathlib.Decide.{decLe, ℕ-discrete}
-use mathlib.Core.Bool.{Bool, true, false}
+use mathlib.Core.Bool.{Bool}
 use mathlib.Core.Path.{_≡_, refl, sym, ap, _∙_}
 use mathlib.Core.Logic.{_⊎_, inl, inr}
 use mathlib.Core.List.{List, [], _∷_, _++_, append-nil, append-assoc}
@@ -13,6 +13,7 @@ use lib.Seq.{take-take, take-all, take-append-le, length-take-le, drop-length, d
 use borrow.Author.Fill.{fill-more}
 use Rattle.laws.specs.Result.{pick}
 use Rattle.laws.specs.Store.{Copied, over}
+use Rattle.laws.proofs.ResultLaws.{pick-both}
 
 -- bytes that are there are as many as were asked for
 pub length-part : (s : List ℕ) (from count : ℕ) → from + count ≤ length s → length (take count (drop from s)) ≡ count
@@ -196,8 +197,7 @@ copied-most d s to from count n e = go (decLe (length d) (to + n)) (decLe count 
 
 -- copied to or not, a buffer keeps its length
 pub wanted-length : (wanted : Bool) (d : List ℕ) (at : ℕ) (vs : List ℕ) → length (pick wanted (sets d at vs) d) ≡ length d
-wanted-length true d at vs = length-sets d at vs
-wanted-length false d at vs = refl
+wanted-length t d at vs = pick-both (λ (g : List ℕ). length g ≡ length d) t (length-sets d at vs) refl
 
 -- the part of f that was lent, filled with v
 pub lent-fill : (f : List ℕ) (a n v : ℕ) (y : List ℕ) → a + n ≤ length f → y ≡ replicate (length (take (a + n - a) (drop a f))) v

@@ -1,6 +1,6 @@
 -- `body::unpack`: the refusals in their order, each with the frame as it was; then the rows that were checked are drawn.
 use native.Mathlib.Omega.{arith}
-use Rattle.body.proofs.WalkLaws.{check-failed, check-passed, spot-fits}
+use Rattle.body.proofs.WalkLaws.{check-failed, check-passed}
 use Rattle.body.specs.Body.{body, picture}
 use lib.ListN.{length}
 use Rattle.body.proofs.PlainLaws.{rows-most}
@@ -9,7 +9,7 @@ use mathlib.Core.Path.{_≡_, refl, sym, ap, subst, _∙_}
 use Rattle.laws.specs.Result.{answer, orKeep}
 use Rattle.laws.proofs.ResultLaws.{each-is, told}
 use Rattle.state.specs.State.{lengthOf, Sound}
-use Rattle.state.proofs.StateLaws.{sizes-sound}
+use Rattle.state.proofs.StateLaws.{sizes-sound, row-inside}
 use Rattle.body.proofs.BodyLaws.{picture-sizes, picture-length, picture-body, body-drawn}
 use borrow.Author.Needs.{needs}
 use Rattle.body.proofs.unpack.Statement.{statement}
@@ -38,7 +38,7 @@ mul-check-rows c =
     let z = sound (c .before .before .before) in omega (arith, mul-le-mul-right (at-start .args .sizes .planes) (z .height-most), z .planes-most)
 
 check-rows-requires : tie.Need-check-rows-requires
-check-rows-requires c κs = let z = sound (c .before .before .before) in (omega (arith, c .before .before .row-bytes .ensures, spot-fits _ _ 0 0 z (z .height-least) (z .planes-least)), rows-most z (c .before .before .row-bytes .ensures))
+check-rows-requires c κs = let z = sound (c .before .before .before) in (omega (arith, c .before .before .row-bytes .ensures, row-inside _ _ 0 0 z (z .height-least) (z .planes-least)), rows-most z (c .before .before .row-bytes .ensures))
 
 returns-2 : tie.Need-returns-2
 returns-2 c =
