@@ -8,7 +8,7 @@ use mathlib.Core.List.{List, [], _∷_, _++_}
 use lib.ListN.{length, length-append}
 use lib.Seq.{sets}
 use Rattle.laws.specs.Result.{Res, Res.ok, Res.fault, _>>=_, answer, pick}
-use Rattle.laws.proofs.ResultLaws.{each-is, answer-ok, answered, never}
+use Rattle.laws.proofs.ResultLaws.{each-is, answer-ok, answered, never, made-of}
 use Rattle.laws.proofs.LoopLaws.{Going, starts, turns, stops}
 use Rattle.laws.proofs.StoreLaws.{sets-append}
 use Rattle.state.specs.declared.Sizes.{Sizes}
@@ -147,11 +147,9 @@ record Split (packed : Bool) (s : List ℕ) (B k nx : ℕ) (b : List ℕ) (rows 
 
 split : (packed : Bool) (s : List ℕ) (B k at : ℕ) {r : Row} (rows : List (List ℕ)) → rowAt packed s B at ≡ ok r → 0 < k → rowsFrom packed s B k at ≡ ok rows
     → Split packed s B k (r .next) (r .bytes) rows
-split packed s B k at {r} rows e h q = go (rowsFrom packed s B (k - 1) (r .next)) refl (sym (rows-step packed s B k at e h) ∙ q)
-  where
-    go : (x : Res (List (List ℕ))) → rowsFrom packed s B (k - 1) (r .next) ≡ x → (x >>= λ rs. ok (r .bytes ∷ rs)) ≡ ok rows → Split packed s B k (r .next) (r .bytes) rows
-    go (ok rs) a b = record { rest = rs; there = a; whole = cc }
-    go (fault n) a b = never (cc)
+split packed s B k at {r} rows e h q =
+    let m = made-of (rowsFrom packed s B (k - 1) (r .next)) (sym (rows-step packed s B k at e h) ∙ q) in
+    record { rest = m .0; there = m .1; whole = sym (m .2) }
 
 draw-step : (z : Sizes) (i : ℕ) (g h b : List ℕ) (rest rows : List (List ℕ)) → rows ≡ b ∷ rest → h ≡ sets g (place z i) b → draw z (i + 1) rest h ≡ draw z i rows g
 unfolding draw

@@ -8,8 +8,8 @@ use mathlib.Core.List.{List, [], _∷_, _++_}
 use lib.Dec.{leb}
 use lib.ListN.{length, getD, set, take, drop}
 use lib.Seq.{drop-cons, drop-drop, take-add, sets, length-sets}
-use Rattle.laws.specs.Result.{Res, Res.ok, Res.fault, _>>=_, answer, Each, Each.each, Each.no-value}
-use Rattle.laws.proofs.ResultLaws.{each-need, each-pick}
+use Rattle.laws.specs.Result.{Res.ok, Res.fault, _>>=_, answer, Each, Each.each}
+use Rattle.laws.proofs.ResultLaws.{each-need, each-pick, each-any, answer-ok}
 use Rattle.laws.specs.Bytes.{be32}
 use Rattle.laws.proofs.StoreLaws.{sets-append, length-part}
 use borrow.Author.Tests.{lt-ltb, le-ltb, le-leb, lt-leb, ne-eqb, leb-true}
@@ -98,20 +98,12 @@ draw-length S d (o ∷ ops) f =
 -- a delta keeps the length of the picture
 pub frame-length : (z : Sizes) (i : Items) (d f : List ℕ) (n : ℕ) → Each (λ (g : List ℕ). length g ≡ length f) (newFrame z i d f n)
 unfolding newFrame
-frame-length z i d f n = go (readFrame z i d (length f) n)
-  where
-    go : (r : Res (List Op)) → Each (λ (g : List ℕ). length g ≡ length f) (r >>= λ ops. ok (draw (shapeOf z i) d ops f))
-    go (ok ops) = each (draw-length (shapeOf z i) d ops f)
-    go (fault m) = no-value
+frame-length z i d f n = each-any (readFrame z i d (length f) n) λ ops. each (draw-length (shapeOf z i) d ops f)
 
 -- there is a frame exactly where there are ops, and they are refused alike
 pub same-answer : (z : Sizes) (i : Items) (d f : List ℕ) (n : ℕ) → answer (opCount z i d f n) ≡ answer (newFrame z i d f n)
 unfolding opCount newFrame
-same-answer z i d f n = go (readFrame z i d (length f) n)
-  where
-    go : (r : Res (List Op)) → answer (r >>= λ ops. ok (opsIn (shapeOf z i) ops)) ≡ answer (r >>= λ ops. ok (draw (shapeOf z i) d ops f))
-    go (ok ops) = refl
-    go (fault m) = refl
+same-answer z i d f n = let r = readFrame z i d (length f) n in answer-ok r (opsIn (shapeOf z i)) ∙ sym (answer-ok r (λ ops. draw (shapeOf z i) d ops f))
 
 -- what an op does, by the range of its first byte
 pub kind-same : (b : ℕ) → b ≡ 0 → kindOf b ≡ same

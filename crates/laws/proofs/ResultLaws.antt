@@ -22,6 +22,11 @@ ok-same e = cc
 pub ok-fault : {A B : Type 0} {a : A} {n : ℕ} → fault n ≡ ok a → B
 ok-fault e = never (cc)
 
+-- where a value was made of another, there is that other
+pub made-of : {A B : Type 0} (r : Res A) {f : A → B} {b : B} → (r >>= λ a. ok (f a)) ≡ ok b → (a : A) × (r ≡ ok a) × (f a ≡ b)
+made-of (ok a) e = (a, refl, ok-same e)
+made-of (fault n) e = ok-fault e
+
 -- a result is the value that it comes to
 pub each-self : {A : Type 0} (r : Res A) → Each (λ (a : A). r ≡ ok a) r
 each-self (ok a) = each refl

@@ -8,7 +8,7 @@ use lib.Dec.{leb}
 use lib.ListN.{length, drop}
 use lib.Seq.{length-take-le, take-nil}
 use borrow.Author.Tests.{le-leb, lt-leb, leb-true}
-use Rattle.laws.specs.Result.{Res, Res.ok, Res.fault, answer, pick}
+use Rattle.laws.specs.Result.{Res, Res.ok, Res.fault, pick}
 use Rattle.laws.proofs.ResultLaws.{two-true, never, answer-refused, answered}
 use Rattle.laws.specs.Loop.{Step.next, Step.done, run, iterate}
 use Rattle.laws.specs.Store.{over}
