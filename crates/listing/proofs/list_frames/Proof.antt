@@ -62,15 +62,17 @@ returns c =
 
 loop-less : tie.Need-loop-less Inv-loop μ-loop
 loop-less c =
-    let s = c .before .before .before .before .before .before in
-    showing-less (shown (stepped s)) (stepped s .step-on .ensures) (s .step-line .ensures) (c .before .before .before .before .before .put-line2 .ensures) (c .before .before .taken .ensures) (not-false _ (c .before .if1 .left))
+    let put = c .before .before .before .before .before in
+    let s = put .before in
+    showing-less (shown (stepped s)) (stepped s .step-on .ensures) (s .step-line .ensures) (put .put-line2 .ensures) (c .before .before .taken .ensures) (not-false _ (c .before .if1 .left))
 
 loop-again : tie.Need-loop-again Inv-loop μ-loop
 loop-again c =
-    let s = c .before .before .before .before .before .before in
+    let put = c .before .before .before .before .before in
+    let s = put .before in
     let t = stepped s in
     let k = t .step-on .kept in
-    λ o h. showing-turns (turn t .loop .inv o h) (t .step-on .ensures) (s .step-line .ensures) (c .before .before .before .before .before .put-line2 .ensures) (c .before .before .taken .ensures) (not-false _ (c .before .if1 .left)) (k .1 .1 .0) (k .1 .1 .1 .0) (k .1 .1 .1 .1 .0) (k .1 .1 .1 .1 .1 .0)
+    λ o h. showing-turns (turn t .loop .inv o h) (t .step-on .ensures) (s .step-line .ensures) (put .put-line2 .ensures) (c .before .before .taken .ensures) (not-false _ (c .before .if1 .left)) (k .1 .1 .0) (k .1 .1 .1 .0) (k .1 .1 .1 .1 .0) (k .1 .1 .1 .1 .1 .0)
 
 pub list-frames-spec : {M : Type 1} → statement M
 list-frames-spec =
