@@ -9,7 +9,7 @@ use mathlib.Core.Option.{none}
 use mathlib.Core.Path.{_≡_}
 use lib.Dec.{eqb}
 use lib.ListN.{length, drop}
-use Rattle.laws.specs.Result.{Res, Res.ok, Res.fault, pick}
+use Rattle.laws.specs.Result.{Res, Res.ok, Res.fault, leaves, pick}
 use Rattle.state.specs.declared.State.{State}
 use Rattle.state.specs.declared.Sizes.{Sizes}
 use Rattle.state.specs.Film.{Film}
@@ -145,8 +145,7 @@ placeOr (fault n) = 0
 
 -- the slice for a length: the length is written into it where there is one
 abbrev pub lengthLeft : List ℕ → Res ℕ → List ℕ
-lengthLeft out (ok n) = lay (n ∷ []) out
-lengthLeft out (fault n) = out
+lengthLeft out q = leaves out (λ n. lay (n ∷ []) out) q
 
 -- what C lends to the writer besides the sizes and the pictures: the output buffer, and the slice for the delta's length
 pub record OutputC : Type 0 where

@@ -2,20 +2,18 @@
 use Prim.Native.Nat.{ℕ}
 use mathlib.Core.Bool.{Bool, true}
 use mathlib.Core.List.{List}
-use mathlib.Core.Option.{Option, none, some}
 use mathlib.Core.Path.{_≡_, refl}
-use lib.Dec.{leb}
-use lib.ListN.{length}
 use Rattle.laws.specs.Result.{Res}
 use Rattle.laws.proofs.ResultLaws.{pick-both}
 use Rattle.record.specs.Record.{Past}
-use Rattle.state.specs.World.{World, hiddenIn}
+use Rattle.state.specs.World.{World}
 use Rattle.state.specs.After.{Answer, After}
-use Rattle.step_on.specs.Step.{Built, recordOf, commit, settle, stepOn}
+use Rattle.step_on.specs.Step.{stepOn}
+use Rattle.step_on.proofs.CaseLaws.{on-case}
 use Rattle.step_back.specs.Back.{settleBack, stepBack}
 use Rattle.anim.specs.Export.{numberOr, answerNumber, sized, sizedStep}
 use Rattle.answers.specs.Answers.{isAnswer}
-use Rattle.answers.proofs.InTable.{InTable, InTable.table-value, InTable.table-refusal}
+use Rattle.answers.proofs.InTable.{InTable, InTable.table-value, InTable.table-refusal, table-number}
 use Rattle.answers.proofs.Table.{on-table, back-table}
 
 -- a step's answer is one of these
@@ -32,19 +30,8 @@ sized-answered {A} t {q} h = pick-both (λ (x : Res A). isAnswer (numberOr x) �
 pub step-answered : (t : Bool) (w : World) (o : After) → Answered (o .answer) → Answered (sizedStep t w o .answer)
 step-answered t w o h = pick-both (λ (o : After). Answered (o .answer)) t h refl
 
-commit-answered : (w : World) (room : ℕ) (x : Built) → Answered (commit w room x .answer)
-unfolding commit
-commit-answered w room x = pick-both (λ (o : After). Answered (o .answer)) (leb (length (recordOf (w .state) (hiddenIn w) (x .picture))) room) refl refl
-
-settle-answered : (w : World) (room : ℕ) {q : Res (Option Built)} → InTable q → Answered (settle w room q .answer)
-unfolding settle
-settle-answered w room (table-refusal e) = rw e
-settle-answered w room (table-value {a = none}) = refl
-settle-answered w room (table-value {a = some x}) = commit-answered w room x
-
 pub on-answered : (file : List ℕ) (w : World) (work room : ℕ) → Answered (stepOn file w work room .answer)
-unfolding stepOn
-on-answered file w work room = settle-answered w room (on-table file w work)
+on-answered file w work room = on-case (λ (o : After). Answered (o .answer)) w room file work (λ n e. rw (table-number (on-table file w work) e)) (λ e. refl) (λ x e. refl) (λ x e. refl)
 
 settle-back-answered : (w : World) {q : Res Past} → InTable q → Answered (settleBack w q .answer)
 unfolding settleBack

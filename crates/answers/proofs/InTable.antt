@@ -4,12 +4,17 @@ use mathlib.Core.Bool.{Bool, true, false}
 use mathlib.Core.Option.{Option, none, some}
 use mathlib.Core.Path.{_≡_}
 use Rattle.laws.specs.Result.{Res, Res.ok, Res.fault, _>>=_, need, orRefuse}
+use Rattle.laws.proofs.ResultLaws.{never}
 use Rattle.refusal.specs.Number.{isNumber}
 
 -- a value, or a refusal with a number of the table
 pub data InTable {A : Type 0} : Res A → Type 0 where
   table-value : {a : A} → InTable (ok a)
   table-refusal : {n : ℕ} → isNumber n ≡ true → InTable (fault n)
+
+pub table-number : {A : Type 0} {q : Res A} {n : ℕ} → InTable q → q ≡ fault n → isNumber n ≡ true
+table-number table-value e = never (cc)
+table-number {n = n} (table-refusal {n = m} h) e = let z : m ≡ n = cc in rw z at h
 
 pub table-bind : {A B : Type 0} {r : Res A} {f : A → Res B} → InTable r → ((a : A) → InTable (f a)) → InTable (r >>= f)
 table-bind (table-value {a = a}) k = k a

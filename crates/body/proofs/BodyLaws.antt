@@ -9,14 +9,14 @@ use mathlib.Core.Logic.{_⊎_, inl, inr}
 use mathlib.Core.Path.{_≡_, refl, sym, ap, _∙_}
 use mathlib.Core.List.{List, [], _∷_, _++_}
 use lib.Dec.{leb}
-use lib.ListN.{length, getD, take, drop, replicate, length-append, length-drop, length-replicate}
-use lib.Seq.{length-take-le, sets, length-sets, ext-getD}
+use lib.ListN.{length, getD, take, drop, replicate, length-append, length-replicate}
+use lib.Seq.{sets, length-sets, ext-getD}
 use borrow.Author.Tests.{le-leb, lt-leb, eq-eqb, ne-eqb, leb-true, leb-false}
-use Rattle.laws.specs.Result.{Res, Res.ok, Res.fault, _>>=_, answer, pick, Each, Each.each, Each.no-value}
-use Rattle.laws.proofs.ResultLaws.{each-bind, each-need, each-is}
+use Rattle.laws.specs.Result.{Res, Res.ok, Res.fault, answer, pick, Each, Each.each, Each.no-value}
+use Rattle.laws.proofs.ResultLaws.{each-bind, each-need, each-is, answer-refused}
 use Rattle.laws.specs.Loop.{Step.done}
 use Rattle.laws.proofs.LoopLaws.{Comes, Comes.comes-next, Comes.comes-done, iterate-holds}
-use Rattle.laws.proofs.StoreLaws.{sets-agree}
+use Rattle.laws.proofs.StoreLaws.{sets-agree, length-part}
 use Rattle.state.specs.declared.Sizes.{Sizes}
 use Rattle.state.specs.State.{rowBytes, frameBytes, frameLength, Sound}
 use Rattle.body.specs.ByteRun.{Row, packetAt, withPacket, unpackOn, unpackRow}
@@ -57,7 +57,7 @@ row-short s B at e h = rw (e, lt-leb (at + B) (length s) h)
 pub row-long : (packed : Bool) (s : List ℕ) (B at : ℕ) → Each (λ (r : Row). length (r .bytes) ≡ B) (rowAt packed s B at)
 unfolding rowAt
 row-long true s B at = unpack-long s B at
-row-long false s B at = each-need (leb (at + B) (length s)) 25 _ λ e. each (length-take-le B (drop at s) (simp length-drop (omega (arith, leb-true (at + B) (length s) e))))
+row-long false s B at = each-need (leb (at + B) (length s)) 25 _ λ e. each (length-part s at B (omega (arith, leb-true (at + B) (length s) e)))
 
 -- k rows of B bytes
 pub data Rows (B : ℕ) : ℕ → List (List ℕ) → Type 0 where
@@ -163,8 +163,4 @@ picture-body packed z s n {m} e h = rw (e, eq-eqb n m h)
 
 pub body-short : (packed : Bool) (z : Sizes) (s : List ℕ) {n : ℕ} → answer (rowsFrom packed s (rowBytes (z .width)) (z .height * z .planes) 0) ≡ fault n → body packed z s ≡ fault n
 unfolding body
-body-short packed z s {n} e = go (rowsFrom packed s (rowBytes (z .width)) (z .height * z .planes) 0) e
-  where
-    go : (r : Res (List (List ℕ))) → answer r ≡ fault n → (r >>= λ rs. ok (draw z 0 rs (replicate (frameBytes z) 0))) ≡ fault n
-    go (ok rs) q = let o : _≡_ {A = ℕ} 0 1 = cc in absurd (omega arith)
-    go (fault m) q = cc
+body-short packed z s e = rw (answer-refused (rowsFrom packed s (rowBytes (z .width)) (z .height * z .planes) 0) e)

@@ -4,12 +4,12 @@ use native.Mathlib.Omega.{arith}
 use mathlib.Core.Path.{_≡_}
 use mathlib.Core.List.{List, []}
 use lib.Dec.{leb, ltb}
-use lib.ListN.{length, getD, take, drop, replicate, length-drop, length-replicate}
-use lib.Seq.{length-take-le}
+use lib.ListN.{length, getD, take, drop, replicate, length-replicate}
 use borrow.Author.Tests.{leb-true, ltb-true, lt-leb, le-leb}
 use Rattle.laws.specs.Result.{Res.ok, Res.fault, Each, Each.each}
 use Rattle.laws.proofs.ResultLaws.{each-need}
 use Rattle.laws.specs.Loop.{Step.done}
+use Rattle.laws.proofs.StoreLaws.{length-part}
 use Rattle.body.specs.ByteRun.{Row, Kind, Kind.copies, Kind.nothing, Kind.repeats, kindOf, packetAs, packetAt, withPacket, unpackOn}
 
 -- a packet at a place lies within BODY, and its bytes within what is left of the row
@@ -22,7 +22,7 @@ within-as : (s : List ℕ) (at room : ℕ) (k : Kind) → at < length s → Each
 within-as s at room (copies n) h =
     each-need (leb n room) 25 _ λ f. each-need (leb (at + 1 + n) (length s)) 25 _ λ e.
     let g : at + 1 + n ≤ length s = leb-true (at + 1 + n) (length s) e in
-    let l : length (take n (drop (at + 1) s)) ≡ n = length-take-le n (drop (at + 1) s) (simp length-drop (omega arith)) in
+    let l : length (take n (drop (at + 1) s)) ≡ n = length-part s (at + 1) n (omega arith) in
     each {a = record { bytes = take n (drop (at + 1) s); next = at + 1 + n }} (record { rises = omega arith; ends = g; fits = rw l (leb-true n room f) })
 within-as s at room nothing h = each {a = record { bytes = []; next = at + 1 }} (record { rises = omega arith; ends = omega arith; fits = omega arith })
 within-as s at room (repeats n) h =

@@ -5,24 +5,21 @@ use native.Mathlib.Omega.{arith}
 use mathlib.Core.Bool.{Bool, true, false, not}
 use mathlib.Core.Path.{_≡_, refl, sym, ap, _∙_}
 use mathlib.Core.List.{List, [], _∷_, _++_}
-use lib.ListN.{length, take, drop, length-append, length-drop}
-use lib.Seq.{length-take-le, sets}
+use lib.ListN.{length, length-append}
+use lib.Seq.{sets}
 use Rattle.laws.specs.Result.{Res, Res.ok, Res.fault, _>>=_, answer, pick}
-use Rattle.laws.proofs.ResultLaws.{each-is, answer-ok, answered}
+use Rattle.laws.proofs.ResultLaws.{each-is, answer-ok, answered, never, made-of}
 use Rattle.laws.proofs.LoopLaws.{Going, starts, turns, stops}
 use Rattle.laws.proofs.StoreLaws.{sets-append}
 use Rattle.state.specs.declared.Sizes.{Sizes}
-use Rattle.state.specs.State.{rowBytes, frameBytes, Sound}
+use Rattle.state.specs.State.{rowBytes, Sound}
+use Rattle.state.proofs.StateLaws.{row-inside}
 use Rattle.body.specs.ByteRun.{Row, packetAt, unpackOn, unpackRow}
 use Rattle.body.specs.Body.{rowAt, rowsFrom, place, draw, body}
 use Rattle.body.specs.Walk.{Count, took, tookOf, puts, Drawn, checkOf, DrawnRows}
 use Rattle.body.specs.declared.Took.the-variants.{Bytes}
 use Rattle.body.proofs.ByteRunLaws.{packet-within, unpack-more, unpack-fault, unpack-end}
 use Rattle.body.proofs.BodyLaws.{place-at, body-short}
-
--- bytes that are there are as many as were asked for
-pub length-part : (s : List ℕ) (from count : ℕ) → from + count ≤ length s → length (take count (drop from s)) ≡ count
-length-part s from count h = length-take-le count (drop from s) (simp length-drop (omega arith))
 
 -- the count of bytes that a step answers
 pub took-is : {r : Res Row} {b : Row} (count : ℕ) → r ≡ ok b → length (b .bytes) ≡ count → tookOf (Bytes count (b .next)) ≡ took r
@@ -49,10 +46,10 @@ pub behind : {r : Res Row} {count nx : ℕ} → ok (record { count = count; next
 behind {r = ok b} {count} {nx} e =
     let z : _≡_ {A = Count} (record { count = length (b .bytes); next = b .next }) (record { count = count; next = nx }) = cc in
     record { row = b; is = refl; counted = ap (λ (k : Count). k .count) z; ends = ap (λ (k : Count). k .next) z }
-behind {r = fault n} e = let z : _≡_ {A = ℕ} 0 1 = cc in absurd (omega arith)
+behind {r = fault n} e = never (cc)
 
 pub behind-fault : {r : Res Row} {n : ℕ} → fault n ≡ took r → r ≡ fault n
-behind-fault {r = ok b} e = let z : _≡_ {A = ℕ} 0 1 = cc in absurd (omega arith)
+behind-fault {r = ok b} e = never (cc)
 behind-fault {r = fault m} {n} e = let z : m ≡ n = cc in rw z
 
 -- a packet's count fits its row, and its next place lies past it and within BODY
@@ -104,7 +101,7 @@ module _ {s : List ℕ} {B from : ℕ} {drawing : Bool} {f : List ℕ} {place : 
 
 -- the frame after a row, where it was refused and where it was taken
 pub drawn-fault : {drawing : Bool} {f g : List ℕ} {place n : ℕ} {r : Res Row} (bytes : List ℕ) → g ≡ pick drawing (sets f place bytes) f → r ≡ fault n → Drawn drawing f place r g
-drawn-fault {drawing} {f} {g} bytes e q = record { row = λ b p. let z : _≡_ {A = ℕ} 0 1 = cc in absurd (omega arith); check = λ d. e ∙ rw d }
+drawn-fault {drawing} {f} {g} bytes e q = record { row = λ b p. never (cc); check = λ d. e ∙ rw d }
 
 pub drawn-row : {drawing : Bool} {f g : List ℕ} {place : ℕ} {r : Res Row} {b : Row} → g ≡ pick drawing (sets f place (b .bytes)) f → r ≡ ok b → Drawn drawing f place r g
 drawn-row {drawing} {f} {g} {place} {r} {b} e q = record { row = λ x p. let z : b ≡ x = cc in rw (← z) e; check = λ d. e ∙ rw d }
@@ -150,11 +147,9 @@ record Split (packed : Bool) (s : List ℕ) (B k nx : ℕ) (b : List ℕ) (rows 
 
 split : (packed : Bool) (s : List ℕ) (B k at : ℕ) {r : Row} (rows : List (List ℕ)) → rowAt packed s B at ≡ ok r → 0 < k → rowsFrom packed s B k at ≡ ok rows
     → Split packed s B k (r .next) (r .bytes) rows
-split packed s B k at {r} rows e h q = go (rowsFrom packed s B (k - 1) (r .next)) refl (sym (rows-step packed s B k at e h) ∙ q)
-  where
-    go : (x : Res (List (List ℕ))) → rowsFrom packed s B (k - 1) (r .next) ≡ x → (x >>= λ rs. ok (r .bytes ∷ rs)) ≡ ok rows → Split packed s B k (r .next) (r .bytes) rows
-    go (ok rs) a b = record { rest = rs; there = a; whole = cc }
-    go (fault n) a b = let z : _≡_ {A = ℕ} 0 1 = cc in absurd (omega arith)
+split packed s B k at {r} rows e h q =
+    let m = made-of (rowsFrom packed s B (k - 1) (r .next)) (sym (rows-step packed s B k at e h) ∙ q) in
+    record { rest = m .0; there = m .1; whole = sym (m .2) }
 
 draw-step : (z : Sizes) (i : ℕ) (g h b : List ℕ) (rest rows : List (List ℕ)) → rows ≡ b ∷ rest → h ≡ sets g (place z i) b → draw z (i + 1) rest h ≡ draw z i rows g
 unfolding draw
@@ -177,7 +172,7 @@ module _ {packed : Bool} {z : Sizes} {s f g : List ℕ} {at i k : ℕ} (d : Draw
         let p = d .rows rs q in
         let b = rows-stop packed s (rowBytes (z .width)) k at e l in
         let t = p .1 in
-        let o : _≡_ {A = ℕ} 0 1 = cc in absurd (omega arith);
+        never (cc);
   }
 
   pub drawing-end : k ≡ 0 → DrawnRows packed z s f g
@@ -195,13 +190,6 @@ spot-before height planes line plane h k = omega (arith, mul-le-mul-right planes
 
 spot-past : (height planes line plane k : ℕ) → height ≤ line → k + (line * planes + plane) ≡ height * planes → k ≡ 0
 spot-past height planes line plane k h e = omega (arith, mul-le-mul-right planes h)
-
--- a row lies within the frame
-pub spot-fits : (z : Sizes) (n line plane : ℕ) → Sound z n → line < z .height → plane < z .planes → (plane * z .height + line) * rowBytes (z .width) + rowBytes (z .width) ≤ n
-unfolding frameBytes
-spot-fits z n line plane b h k =
-    let a : suc (plane * z .height + line) ≤ z .planes * z .height = omega (arith, mul-le-mul-right (z .height) k) in
-    omega (arith, mul-le-mul-right (rowBytes (z .width)) a, b .length)
 
 pub lines-small : (z : Sizes) {n row : ℕ} (k : ℕ) → Sound z n → row ≡ rowBytes (z .width) → k ≤ z .height → k * row ≤ 131072
 lines-small z k b r h = rw r (omega (arith, mul-le-mul-right (rowBytes (z .width)) h, b .plane-most))
@@ -223,7 +211,7 @@ module _ {packed : Bool} {z : Sizes} {s f g : List ℕ} {at line plane spot row 
   some-left = omega (arith, w .drawing .left, spot-before (z .height) (z .planes) line plane l (w .inside))
 
   pub walking-fits : {n : ℕ} → Sound z n → spot + row ≤ n
-  walking-fits {n} b = omega (arith, w .place, r, spot-fits z n line plane b l (w .inside))
+  walking-fits {n} b = omega (arith, w .place, r, row-inside z n line plane b l (w .inside))
 
   more : {count nx : ℕ} {h : List ℕ} → Behind (rowAt packed s row at) count nx → Drawn true g spot (rowAt packed s row at) h → Drawing packed z s f h nx (line * z .planes + plane + 1) (w .left - 1)
   more {count} {nx} {h} b d = drawing-more (w .drawing) some-left (rw r at b) (rw (place-at z line plane (w .inside), ← (w .place)) (rw r at d))
@@ -249,10 +237,10 @@ walking-end {z = z} {line = line} {plane = plane} w h = drawing-end (w .drawing)
 -- what the check of all rows tells
 module _ (packed : Bool) (z : Sizes) (s : List ℕ) {row : ℕ} (b : row ≡ rowBytes (z .width)) where
   pub check-failed : (r : Bool) → checkOf r ≡ answer (rowsFrom packed s row (z .height * z .planes) 0) → not r ≡ true → body packed z s ≡ fault 25
-  check-failed true e h = let o : _≡_ {A = ℕ} 0 1 = cc in absurd (omega arith)
+  check-failed true e h = never (cc)
   check-failed false e h = body-short packed z s (rw b at (sym e))
 
   pub check-passed : (r : Bool) → checkOf r ≡ answer (rowsFrom packed s row (z .height * z .planes) 0) → not r ≡ false
       → (rs : List (List ℕ)) × (rowsFrom packed s (rowBytes (z .width)) (z .height * z .planes) 0 ≡ ok rs)
   check-passed true e h = answered (rowsFrom packed s (rowBytes (z .width)) (z .height * z .planes) 0) (rw b at e)
-  check-passed false e h = let o : _≡_ {A = ℕ} 0 1 = cc in absurd (omega arith)
+  check-passed false e h = never (cc)

@@ -4,13 +4,13 @@ use native.Mathlib.Omega.{arith}
 use mathlib.Core.Bool.{Bool, true, false}
 use mathlib.Core.List.{List, [], _∷_, _++_, append-assoc}
 use mathlib.Core.Path.{_≡_, refl, sym, ap, _∙_}
-use lib.Dec.{eqb}
-use lib.ListN.{replicate}
+use lib.Dec.{eqb, leb}
+use lib.ListN.{replicate, length}
 use borrow.Author.Tests.{eq-eqb, ne-eqb, eqb-true, le-leb, lt-leb}
-use Rattle.runs.specs.Runs.{Run, changed}
+use Rattle.runs.specs.Runs.{Run, changed, runsOf}
 use Rattle.runs.specs.Front.{front, behind, later}
 use Rattle.runs.proofs.RunLaws.{changed-is}
-use Rattle.column_writer.specs.Column.{Op, Op.skip, Op.uniq, Op.same, Group, join, groupsOf, loose, stretch, cut, cutAll, opsOf}
+use Rattle.column_writer.specs.Column.{Op, Op.skip, Op.uniq, Op.same, Group, join, groupsOf, loose, stretch, cut, cutAll, opsOf, uniqs, columnOps}
 use Rattle.column_writer.specs.Piece.{NotFirst}
 use Rattle.column_writer.proofs.BoundLaws.{cut-no-skip}
 
@@ -55,6 +55,25 @@ stretch-few n v gs h = rw (lt-leb 4 n h, stretch)
 pub stretch-none : stretch (groupsOf []) ≡ []
 unfolding stretch groupsOf
 stretch-none = refl
+
+-- the rows of groups
+unfoldable pub flat : List Group → List ℕ
+flat [] = []
+flat (g ∷ gs) = replicate (g .rows) (g .value) ++ flat gs
+
+flat-join : (v : ℕ) (gs : List Group) → flat (join v gs) ≡ v ∷ flat gs
+unfolding flat join
+flat-join v [] = refl
+flat-join v (g ∷ gs) = go (eqb v (g .value)) refl
+  where
+    go : (t : Bool) → eqb v (g .value) ≡ t → flat (join v (g ∷ gs)) ≡ v ∷ (replicate (g .rows) (g .value) ++ flat gs)
+    go true e = rw (e, join) (ap (λ (x : ℕ). x ∷ (replicate (g .rows) (g .value) ++ flat gs)) (sym (eqb-true v (g .value) e)))
+    go false e = rw (e, join)
+
+pub flat-groups : (vs : List ℕ) → flat (groupsOf vs) ≡ vs
+unfolding flat groupsOf
+flat-groups [] = refl
+flat-groups (v ∷ vs) = flat-join v (groupsOf vs) ∙ ap (λ (l : List ℕ). v ∷ l) (flat-groups vs)
 
 -- rows that become a Uniq, in two parts
 pub loose-join : (vs ws : List ℕ) (os : List Op) → loose (vs ++ ws) os ≡ loose vs (loose ws os)
@@ -101,3 +120,12 @@ run-later n vs rs = let e : n + 0 ≡ n = omega arith in rw e (cut-first (skip n
 
 pub ops-later : (n a : ℕ) (rs : List Run) → opsOf (later n (changed a rs)) ≡ cut (skip n) ++ opsOf (changed a rs)
 ops-later n a rs = rw (changed-is a rs) (rw (run-at-once (a ∷ front rs) (behind rs)) (run-later n (a ∷ front rs) (behind rs)))
+
+-- what holds of the ops of the runs, and of Uniqs over all rows, holds of a column's ops
+pub column-case : (P : List Op → Type 0) (old new : List ℕ) → P (opsOf (runsOf new old)) → P (uniqs (length new) new) → P (columnOps old new)
+unfolding columnOps
+column-case P old new p q = go (leb (length (opsOf (runsOf new old))) 255)
+  where
+    go : (t : Bool) → P (elim t as (λ _. List Op) [ true ↦ opsOf (runsOf new old) | false ↦ uniqs (length new) new ])
+    go true = p
+    go false = q

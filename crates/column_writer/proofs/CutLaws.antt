@@ -123,16 +123,18 @@ pub skip-more : (n : ℕ) → 127 ≤ n → Parts (opsBytes (cut (skip n))) (127
 unfolding cut
 skip-more n h = record { is = ap opsBytes (cut-more (n / 127) (n % 127) ((n - 127) / 127) ((n - 127) % 127) (skip 127) skip (omega arith) (omega arith)) ∙ unfold opsBytes opBytes in refl }
 
+-- a rest of some rows is one op
+rest-one : (n : ℕ) (o : Op) → 0 < n → opsBytes (restOf n o) ≡ opBytes o ++ []
+unfolding restOf opsBytes
+rest-one zero o h = absurd (omega arith)
+rest-one (suc n) o h = refl
+
 pub skip-last : (n : ℕ) → 0 < n → n < 127 → Parts (opsBytes (cut (skip n))) (n ∷ []) []
-unfolding cut
+unfolding cut opBytes
 skip-last n h k =
     let e : n / 127 ≡ 0 = omega arith in
     let f : n % 127 ≡ n = omega arith in
-    record { is = rw (e, f) (go n h) }
-  where
-    go : (n : ℕ) → 0 < n → opsBytes (restOf n (skip n)) ≡ n ∷ []
-    go zero h = absurd (omega arith)
-    go (suc n) h = unfold restOf opsBytes opBytes in refl
+    record { is = rw (e, f) (rest-one n (skip n) h) }
 
 pub skip-none : (n : ℕ) → n ≡ 0 → opsBytes (cut (skip n)) ≡ []
 unfolding opsBytes
@@ -147,11 +149,7 @@ unfolding cut
 same-last n v h k =
     let e : n / 255 ≡ 0 = omega arith in
     let f : n % 255 ≡ n = omega arith in
-    record { is = rw (e, f) (go n h) }
-  where
-    go : (n : ℕ) → 0 < n → opsBytes (restOf n (same n v)) ≡ opBytes (same n v) ++ []
-    go zero h = absurd (omega arith)
-    go (suc n) h = unfold restOf opsBytes in refl
+    record { is = rw (e, f) (rest-one n (same n v) h) }
 
 pub same-none : (n v : ℕ) → n ≡ 0 → opsBytes (cut (same n v)) ≡ []
 unfolding opsBytes

@@ -1,17 +1,18 @@
 -- How long a column can be: three bytes for two rows, and two bytes more. A Uniq of one row has two bytes, and between two Uniqs
 -- lies a Skip or a Same, which makes up for it.
-use Prim.Native.Nat.{ℕ, suc, _+_, _-_, _*_, _/_, _≤_}
+use Prim.Native.Nat.{ℕ, _+_, _-_, _*_, _/_, _≤_}
 use native.Mathlib.Omega.{arith}
 use mathlib.Core.Bool.{Bool, true, false}
 use mathlib.Core.List.{List, [], _∷_}
-use mathlib.Core.Path.{_≡_, refl, ap, _∙_}
-use lib.Dec.{leb, eqb}
+use mathlib.Core.Path.{_≡_, refl}
+use lib.Dec.{leb}
 use lib.ListN.{length, replicate, length-append, length-replicate}
 use borrow.Author.Tests.{leb-true}
 use Rattle.runs.specs.Runs.{Run, runsOf, Fit}
 use Rattle.runs.proofs.PatchLaws.{fit-old}
-use Rattle.column_writer.specs.Column.{Op, Op.skip, Op.uniq, Op.same, Group, join, groupsOf, loose, stretch, cut, cutAll, opsOf, opsBytes, columnOps, columnBytes}
+use Rattle.column_writer.specs.Column.{Op, Op.skip, Op.uniq, Op.same, Group, groupsOf, loose, stretch, cut, cutAll, opsOf, opsBytes, columnBytes}
 use Rattle.column_writer.proofs.CutLaws.{length-bytes-append, skip-count, skip-bytes, same-count, same-bytes, uniq-count, uniq-bytes}
+use Rattle.column_writer.proofs.ColumnLaws.{flat, flat-groups, column-case}
 
 -- how many bytes ops have once they are cut
 size : List Op → ℕ
@@ -47,34 +48,26 @@ tight-loose n vs (uniq ws ∷ os) t = omega (arith, t, length-append vs ws)
 tight-loose n vs (same m v ∷ os) t = omega (arith, t)
 
 -- a stretch of changed rows
-rowsOf : List Group → ℕ
-rowsOf [] = 0
-rowsOf (g ∷ gs) = g .rows + rowsOf gs
-
-rows-join : (v : ℕ) (gs : List Group) → rowsOf (join v gs) ≡ suc (rowsOf gs)
-unfolding rowsOf join
-rows-join v [] = refl
-rows-join v (g ∷ gs) = go (eqb v (g .value)) refl
-  where
-    go : (t : Bool) → eqb v (g .value) ≡ t → rowsOf (join v (g ∷ gs)) ≡ suc (g .rows + rowsOf gs)
-    go true e = rw (e, join) (omega arith)
-    go false e = rw (e, join) (omega arith)
-
-rows-groups : (vs : List ℕ) → rowsOf (groupsOf vs) ≡ length vs
-unfolding rowsOf groupsOf
-rows-groups [] = refl
-rows-groups (v ∷ vs) = rows-join v (groupsOf vs) ∙ ap suc (rows-groups vs)
-
-tight-stretch : (gs : List Group) → Tight (rowsOf gs) (stretch gs)
-unfolding rowsOf stretch Tight
+tight-stretch : (gs : List Group) → Tight (length (flat gs)) (stretch gs)
+unfolding flat stretch Tight
 tight-stretch [] = tt
 tight-stretch (g ∷ gs) = go (leb 4 (g .rows)) refl (tight-stretch gs)
   where
-    go : (t : Bool) → leb 4 (g .rows) ≡ t → Tight (rowsOf gs) (stretch gs) → Tight (g .rows + rowsOf gs) (stretch (g ∷ gs))
+    go : (t : Bool) → leb 4 (g .rows) ≡ t → Tight (length (flat gs)) (stretch gs) → Tight (length (flat (g ∷ gs))) (stretch (g ∷ gs))
     go true e t =
         let n : 4 ≤ g .rows = leb-true 4 (g .rows) e in
-        rw (e, stretch) (omega (arith, n, tight-size (rowsOf gs) (stretch gs) t, size-first (same (g .rows) (g .value)) (stretch gs), same-bytes (g .rows) (g .value), same-count (g .rows) (g .value)))
-    go false e t = rw (e, stretch) (rw (length-replicate (g .rows) (g .value)) at (tight-loose (rowsOf gs) (replicate (g .rows) (g .value)) (stretch gs) t))
+        rw (e, stretch) (
+        omega (
+          arith,
+          n,
+          length-append (replicate (g .rows) (g .value)) (flat gs),
+          length-replicate (g .rows) (g .value),
+          tight-size (length (flat gs)) (stretch gs) t,
+          size-first (same (g .rows) (g .value)) (stretch gs),
+          same-bytes (g .rows) (g .value),
+          same-count (g .rows) (g .value),
+        ))
+    go false e t = rw (e, stretch, length-append (replicate (g .rows) (g .value)) (flat gs)) (tight-loose (length (flat gs)) (replicate (g .rows) (g .value)) (stretch gs) t)
 
 -- the ops of a run, of runs that all have a gap, and of all runs
 run-size : (r : Run) (rs : List Run) → 2 * length (opsBytes (opsOf (r ∷ rs))) ≤ 2 * ((r .gap + 126) / 127) + 3 * length (r .bytes) + 1 + 2 * length (opsBytes (opsOf rs))
@@ -87,8 +80,7 @@ run-size r rs =
       size-first (skip (r .gap)) s,
       skip-bytes (r .gap),
       skip-count (r .gap),
-      tight-size (rowsOf (groupsOf (r .bytes))) s (tight-stretch (groupsOf (r .bytes))),
-      rows-groups (r .bytes),
+      tight-size (length (r .bytes)) s (rw flat-groups at (tight-stretch (groupsOf (r .bytes)))),
     )
 
 later-size : (n : ℕ) (rs : List Run) → Fit 1 n rs → 2 * length (opsBytes (opsOf rs)) ≤ 3 * n
@@ -106,9 +98,7 @@ pub ops-short : (old new : List ℕ) → 2 * length (opsBytes (opsOf (runsOf new
 ops-short old new = ops-size (length new) (runsOf new old) (fit-old new old)
 
 pub column-short : (old new : List ℕ) → length (columnBytes old new) ≤ length new + length new / 2 + 2
-unfolding columnBytes columnOps
-column-short old new = go (leb (length (opsOf (runsOf new old))) 255) refl
-  where
-    go : (t : Bool) → leb (length (opsOf (runsOf new old))) 255 ≡ t → length (columnBytes old new) ≤ length new + length new / 2 + 2
-    go true e = rw (e, columnBytes, columnOps) (omega (arith, ops-short old new))
-    go false e = rw (e, columnBytes, columnOps) (unfold cut in omega (arith, uniq-bytes new, uniq-count new))
+unfolding columnBytes
+column-short old new =
+    column-case (λ (os : List Op). length (length os ∷ opsBytes os) ≤ length new + length new / 2 + 2) old new
+    (omega (arith, ops-short old new)) (unfold cut in omega (arith, uniq-bytes new, uniq-count new))

@@ -77,7 +77,8 @@ module _ {old new : List ℕ} {from i : ℕ} (g : GroupPart old new from i) wher
   pub group-more : length old ≡ length new → i < length new → getD new i 0 ≡ getD new from 0 → (getD new i 0 ≡ getD old i 0 → ⊥) → GroupPart old new from (i + 1)
   group-more l h s e =
       let n : i + 1 - from ≡ i - from + 1 = omega (arith, g .low) in
-      let at : getD (drop from new) (i - from) 0 ≡ getD new from 0 = getD-drop from new (i - from) 0 ∙ rw (the-row (g .low)) s in
+      let r : from + (i - from) ≡ i = omega (arith, g .low) in
+      let at : getD (drop from new) (i - from) 0 ≡ getD new from 0 = getD-drop from new (i - from) 0 ∙ rw r s in
       let inside : i - from < length (drop from new) = simp length-drop (omega (arith, g .low)) in
       record {
         low = omega (arith, g .low);
@@ -87,9 +88,6 @@ module _ {old new : List ℕ} {from i : ℕ} (g : GroupPart old new from i) wher
         after = g .after ∙ behind-at old new i h l e;
       }
     where
-      the-row : from < i → from + (i - from) ≡ i
-      the-row k = omega arith
-
       joined : (n v : ℕ) (vs : List ℕ) → replicate n v ++ (v ∷ vs) ≡ replicate (n + 1) v ++ vs
       joined n v vs = sym (append-assoc (replicate n v) (v ∷ []) vs) ∙ ap (λ (t : List ℕ). t ++ vs) (snoc-replicate n v)
 
@@ -144,7 +142,8 @@ loose-starts g h = record { low = g .part .low; high = g .part .high; before = a
 module _ {old new : List ℕ} {from i : ℕ} (w : Loose old new from i) where
   pub loose-more : {end : ℕ} → GroupRows old new i end → end - i < 4 → Loose old new from end
   loose-more {end} g h =
-      let d : drop (i - from) (drop from new) ≡ drop i new = drop-drop (i - from) from new ∙ ap (λ (k : ℕ). drop k new) (the-row (w .low)) in
+      let r : from + (i - from) ≡ i = omega (arith, w .low) in
+      let d : drop (i - from) (drop from new) ≡ drop i new = drop-drop (i - from) from new ∙ rw r in
       let n : end - from ≡ i - from + (end - i) = omega (arith, w .low, g .part .low) in
       record {
         low = omega (arith, w .low, g .part .low);
@@ -152,9 +151,6 @@ module _ {old new : List ℕ} {from i : ℕ} (w : Loose old new from i) where
         before = w .before ∙ rw (at-few g h, n, take-add (i - from) (end - i) (drop from new), d) (sym (loose-join (take (i - from) (drop from new)) (take (end - i) (drop i new)) (stretchAt old new end)));
         after = w .after ∙ g .part .after;
       }
-    where
-      the-row : from < i → from + (i - from) ≡ i
-      the-row k = omega arith
 
   loose-is : (os : List Op) → stretchAt old new i ≡ os → loose (take (i - from) (drop from new)) os ≡ uniq (take (i - from) (drop from new)) ∷ os → LooseRows old new from i
   loose-is os e f = record {

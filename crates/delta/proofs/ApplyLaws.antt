@@ -3,12 +3,12 @@ use Prim.Native.Nat.{ℕ, _*_, _≤_}
 use native.Mathlib.Nat.{div-add-mod'}
 use native.Mathlib.Omega.{arith}
 use mathlib.Core.Bool.{Bool, true, false}
-use mathlib.Core.Path.{_≡_, refl, sym, _∙_}
+use mathlib.Core.Path.{_≡_, refl, sym, _∙_, ap}
 use mathlib.Core.List.{List, []}
 use lib.ListN.{length}
 use borrow.Author.Tests.{eq-eqb, ne-eqb}
-use Rattle.laws.specs.Result.{Res, Res.ok, Res.fault, _>>=_, orKeep}
-use Rattle.laws.proofs.ResultLaws.{false-true}
+use Rattle.laws.specs.Result.{Res.ok, Res.fault, answer, orKeep}
+use Rattle.laws.proofs.ResultLaws.{false-true, never, answered, answer-refused}
 use Rattle.refusal.specs.Number.{numberOf}
 use Rattle.refusal.specs.declared.Refusal.{Refusal}
 use Rattle.state.specs.declared.Sizes.{Sizes}
@@ -23,6 +23,7 @@ use Rattle.delta.specs.declared.Step.the-variants.{Next, Refused}
 use Rattle.delta.specs.Reading.{bytesInPlane, columnShape, wordShape, shapeOf, Op, opsIn}
 use Rattle.delta.specs.Delta.{readPicture, readDelta, draw, readFrame, newFrame, opCount, Applies}
 use Rattle.delta.specs.Walk.{Width, Planes, top, Took, Took.took, Took.refused, Passes, Checked, Checked.passes, Checked.stops}
+use Rattle.delta.proofs.DeltaLaws.{same-answer}
 
 one : Width 1
 one = record { least = omega arith; most = omega arith; not-three = λ e. omega arith }
@@ -126,10 +127,10 @@ module _ {z : Sizes} {i : Items} {d w : List ℕ} {m : ℕ} where
 
   check-next : {g : List ℕ} {b : Step} {c : Cursor} → Checked z i d m w g b → b ≡ Next c → Passes z i d m w g c
   check-next {c = c} (passes {c = x} p) e = let u : x ≡ c = cc in rw u at p
-  check-next (stops r q) e = let z : _≡_ {A = ℕ} 0 1 = cc in absurd (omega arith)
+  check-next (stops r q) e = never (cc)
 
   check-faulty : {g : List ℕ} {b : Step} {why : Refusal} → Checked z i d m w g b → b ≡ Refused why → (readFrame z i d m (length w) ≡ fault (numberOf why)) × (g ≡ w)
-  check-faulty (passes p) e = let z : _≡_ {A = ℕ} 0 1 = cc in absurd (omega arith)
+  check-faulty (passes p) e = never (cc)
   check-faulty {why = why} (stops {why = x} r q) e = let u : x ≡ why = cc in (rw u at r, q)
 
 -- a plane is small enough for its shape to be told
@@ -157,8 +158,7 @@ module _ {z : Sizes} {i : Items} {d f w : List ℕ} {m : ℕ} (e : m ≡ length 
   passes-drawn p s l (refused {why = why} u) =
       let a : readDelta (shapeOf z i) d ≡ fault (numberOf why) = rw (← s) (rw (u .same []) refl) in
       let b = p .read in
-      let q : _≡_ {A = ℕ} 0 1 = cc in
-      absurd (omega arith)
+      never (cc)
 
   pub applies-drawn : {S : Shape} {g h k : List ℕ} {n : ℕ} {b t : Step} {c : Cursor} → Checked z i d m w g b → b ≡ Next c → S ≡ shapeOf z i → (g ≡ w → m ≡ length w → h ≡ f) → Took S d true h (readPicture S d) top k n t
       → Applies z i d f w (ok (c .ops)) k
@@ -167,17 +167,9 @@ module _ {z : Sizes} {i : Items} {d f w : List ℕ} {m : ℕ} (e : m ≡ length 
 -- what was applied
 module _ {z : Sizes} {i : Items} {d f w g : List ℕ} where
   pub new-refused : {n : ℕ} → Applies z i d f w (fault n) g → newFrame z i d f (length w) ≡ fault n
-  unfolding opCount newFrame
-  new-refused {n} p = go (readFrame z i d (length f) (length w)) (p .counts)
-    where
-      go : (r : Res (List Op)) → fault n ≡ (r >>= λ ops. ok (opsIn (shapeOf z i) ops)) → (r >>= λ ops. ok (draw (shapeOf z i) d ops f)) ≡ fault n
-      go (ok ops) e = let q : _≡_ {A = ℕ} 0 1 = cc in absurd (omega arith)
-      go (fault m) e = let q : m ≡ n = cc in rw q
+  new-refused p = answer-refused (newFrame z i d f (length w)) (sym (ap answer (p .counts) ∙ same-answer z i d f (length w)))
 
   pub new-drawn : {c : ℕ} → Applies z i d f w (ok c) g → newFrame z i d f (length w) ≡ ok g
-  unfolding opCount newFrame
-  new-drawn {c} p = go (readFrame z i d (length f) (length w)) (p .counts) (p .leaves)
-    where
-      go : (r : Res (List Op)) → ok c ≡ (r >>= λ ops. ok (opsIn (shapeOf z i) ops)) → g ≡ orKeep w (r >>= λ ops. ok (draw (shapeOf z i) d ops f)) → (r >>= λ ops. ok (draw (shapeOf z i) d ops f)) ≡ ok g
-      go (ok ops) e h = rw h
-      go (fault m) e h = let q : _≡_ {A = ℕ} 0 1 = cc in absurd (omega arith)
+  new-drawn p =
+      let k = answered (newFrame z i d f (length w)) (ap answer (p .counts) ∙ same-answer z i d f (length w)) in
+      k .1 ∙ ap (λ (h : List ℕ). ok h) (sym (p .leaves ∙ ap (orKeep w) (k .1)))

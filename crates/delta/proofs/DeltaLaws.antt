@@ -6,12 +6,12 @@ use mathlib.Core.Bool.{true, false}
 use mathlib.Core.Path.{_≡_, refl, sym, ap, _∙_}
 use mathlib.Core.List.{List, [], _∷_, _++_}
 use lib.Dec.{leb}
-use lib.ListN.{length, getD, set, take, drop, length-drop}
-use lib.Seq.{drop-cons, drop-drop, take-add, length-take-le, sets, length-sets}
-use Rattle.laws.specs.Result.{Res, Res.ok, Res.fault, _>>=_, answer, Each, Each.each, Each.no-value}
-use Rattle.laws.proofs.ResultLaws.{each-need, each-pick}
+use lib.ListN.{length, getD, set, take, drop}
+use lib.Seq.{drop-cons, drop-drop, take-add, sets, length-sets}
+use Rattle.laws.specs.Result.{Res.ok, Res.fault, _>>=_, answer, Each, Each.each}
+use Rattle.laws.proofs.ResultLaws.{each-need, each-pick, each-any, answer-ok}
 use Rattle.laws.specs.Bytes.{be32}
-use Rattle.laws.proofs.StoreLaws.{sets-append}
+use Rattle.laws.proofs.StoreLaws.{sets-append, length-part}
 use borrow.Author.Tests.{lt-ltb, le-ltb, le-leb, lt-leb, ne-eqb, leb-true}
 use Rattle.state.specs.declared.Sizes.{Sizes}
 use Rattle.anhd.specs.declared.Items.{Items}
@@ -34,7 +34,7 @@ item-two f at d from h = simp add-one (sym (store 1 f at d from (omega arith) �
 -- an item of two pairs
 pub item-four : (f : List ℕ) (at : ℕ) (d : List ℕ) (from w : ℕ) → w ≡ 4 → from + w ≤ length d → sets (sets f at (take 2 (drop from d))) (at + 2) (take 2 (drop (from + 2) d)) ≡ sets f at (take w (drop from d))
 item-four f at d from w e h =
-    let l : length (take 2 (drop from d)) ≡ 2 = length-take-le 2 (drop from d) (omega (arith, length-drop from d)) in
+    let l : length (take 2 (drop from d)) ≡ 2 = length-part d from 2 (omega arith) in
     rw (e, take-add 2 2 (drop from d), drop-drop 2 from d) (rw l at (sets-append f at (take 2 (drop from d)) (take 2 (drop (from + 2) d))))
 
 -- rows that are being given items, the next one at a place: what is left makes of the frame f what all of it makes of f₀
@@ -72,7 +72,7 @@ pub put-beside : (w : ℕ) (d : List ℕ) (n from at : ℕ) (f : List ℕ) → f
 unfolding put
 put-beside w d zero from at f h = let z : zero * w ≡ 0 = omega arith in rw z refl
 put-beside w d (suc n) from at f h =
-    let l : length (take w (drop from d)) ≡ w = length-take-le w (drop from d) (omega (arith, length-drop from d)) in
+    let l : length (take w (drop from d)) ≡ w = length-part d from w (omega arith) in
     let z : suc n * w ≡ w + n * w = omega arith in
     put-beside w d n (from + w) (at + w) (sets f at (take w (drop from d))) (omega arith)
     ∙ rw (z, take-add w (n * w) (drop from d), drop-drop w from d) (rw l at (sets-append f at (take w (drop from d)) (take (n * w) (drop (from + w) d))))
@@ -98,20 +98,12 @@ draw-length S d (o ∷ ops) f =
 -- a delta keeps the length of the picture
 pub frame-length : (z : Sizes) (i : Items) (d f : List ℕ) (n : ℕ) → Each (λ (g : List ℕ). length g ≡ length f) (newFrame z i d f n)
 unfolding newFrame
-frame-length z i d f n = go (readFrame z i d (length f) n)
-  where
-    go : (r : Res (List Op)) → Each (λ (g : List ℕ). length g ≡ length f) (r >>= λ ops. ok (draw (shapeOf z i) d ops f))
-    go (ok ops) = each (draw-length (shapeOf z i) d ops f)
-    go (fault m) = no-value
+frame-length z i d f n = each-any (readFrame z i d (length f) n) λ ops. each (draw-length (shapeOf z i) d ops f)
 
 -- there is a frame exactly where there are ops, and they are refused alike
 pub same-answer : (z : Sizes) (i : Items) (d f : List ℕ) (n : ℕ) → answer (opCount z i d f n) ≡ answer (newFrame z i d f n)
 unfolding opCount newFrame
-same-answer z i d f n = go (readFrame z i d (length f) n)
-  where
-    go : (r : Res (List Op)) → answer (r >>= λ ops. ok (opsIn (shapeOf z i) ops)) ≡ answer (r >>= λ ops. ok (draw (shapeOf z i) d ops f))
-    go (ok ops) = refl
-    go (fault m) = refl
+same-answer z i d f n = let r = readFrame z i d (length f) n in answer-ok r (opsIn (shapeOf z i)) ∙ sym (answer-ok r (λ ops. draw (shapeOf z i) d ops f))
 
 -- what an op does, by the range of its first byte
 pub kind-same : (b : ℕ) → b ≡ 0 → kindOf b ≡ same

@@ -8,6 +8,7 @@ use mathlib.Core.List.{List, [], _∷_, _++_}
 use lib.ListN.{length}
 use borrow.Author.Tests.{le-leb, lt-leb}
 use Rattle.laws.specs.Result.{Res, Res.ok, Res.fault, pick}
+use Rattle.laws.proofs.ResultLaws.{pick-both}
 use Rattle.delta.specs.declared.Shape.{Shape}
 use Rattle.delta.specs.declared.Cursor.{Cursor}
 use Rattle.delta.specs.declared.Taken.{Taken}
@@ -90,8 +91,7 @@ skip-read {S} {c} {n} (past-last h) d i = λ base ops. skip-past S (reading c op
 
 -- a Same or a Uniq
 pub pick-most : (t : Bool) (a b n : ℕ) → a ≤ n → b ≤ n → pick t a b ≤ n
-pick-most true a b n h k = h
-pick-most false a b n h k = k
+pick-most t a b n h k = pick-both (λ (m : ℕ). m ≤ n) t h k
 
 item-most : (t : Bool) (p i size n : ℕ) → i ≤ n → pick t p i + size ≤ n → pick t i (i + size) ≤ n
 item-most true p i size n h k = h

@@ -6,6 +6,7 @@ use mathlib.Core.Path.{_≡_, refl, _∙_}
 use mathlib.Core.List.{List, [], _++_, append-nil, append-assoc}
 use lib.ListN.{length, length-append}
 use Rattle.laws.specs.Result.{Res, Res.ok, Res.fault, _>>=_, pick}
+use Rattle.laws.proofs.ResultLaws.{never, pick-both}
 use Rattle.refusal.specs.declared.Refusal.{Refusal}
 use Rattle.refusal.specs.Number.{numberOf}
 use Rattle.delta.specs.declared.Shape.{Shape}
@@ -18,13 +19,11 @@ use Rattle.delta.specs.Walk.{reading, Walked, Refused, Took, Took.took, 
 use Rattle.delta.proofs.DeltaLaws.{draw-append}
 
 pub pick-same : (t : Bool) (f : List ℕ) → f ≡ pick t f f
-pick-same true f = refl
-pick-same false f = refl
+pick-same t f = pick-both (λ (g : List ℕ). f ≡ g) t refl refl
 
 -- how many ops there are
 in-none : (t : Bool) → pick t 0 (length {A = Op} []) ≡ 0
-in-none true = refl
-in-none false = refl
+in-none t = pick-both (λ (n : ℕ). n ≡ 0) t refl refl
 
 in-more : (t : Bool) (xs ys : List Op) → pick t 0 (length (xs ++ ys)) ≡ pick t 0 (length xs) + pick t 0 (length ys)
 in-more true xs ys = refl
@@ -86,10 +85,10 @@ module _ {S : Shape} {d : List ℕ} {drawing : Bool} {f : List ℕ} {whole : Rea
   -- what an answer says, by its case
   pub took-next : {g : List ℕ} {m : ℕ} {r : Step} {c : Cursor} → Took S d drawing f whole c₀ g m r → r ≡ Next c → Walked S d drawing f whole c₀ ok g m c
   took-next {c = c} (took {c = b} w) e = let z : b ≡ c = cc in rw (← z) w
-  took-next (refused w) e = let z : _≡_ {A = ℕ} 0 1 = cc in absurd (omega arith)
+  took-next (refused w) e = never (cc)
 
   pub took-faulty : {g : List ℕ} {m : ℕ} {r : Step} {why : Refusal} → Took S d drawing f whole c₀ g m r → r ≡ StepRefused why → Refused drawing f whole c₀ g (numberOf why)
-  took-faulty (took w) e = let z : _≡_ {A = ℕ} 0 1 = cc in absurd (omega arith)
+  took-faulty (took w) e = never (cc)
   took-faulty {why = why} (refused {why = b} w) e = let z : b ≡ why = cc in rw (← z) w
 
   pub next-here : {g : List ℕ} {m : ℕ} {c : Cursor} → Walked S d drawing f whole c₀ ok g m c → Took S d drawing f whole c₀ g m (Next c)

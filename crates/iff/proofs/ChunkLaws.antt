@@ -11,7 +11,7 @@ use borrow.Author.Tests.{leb-true, eqb-true}
 use Rattle.laws.specs.Result.{Res, Res.ok, Res.fault, _>>=_, orRefuse, pick, Each, Each.each, Each.no-value, All, All.all-some, All.all-none}
 use Rattle.laws.specs.Every.{Every, Every.every-none, Every.every-cons}
 use Rattle.laws.proofs.EveryLaws.{every-more}
-use Rattle.laws.proofs.ResultLaws.{each-need, each-ok, each-pick, each-bind, each-self, pick-both, all-value, each-some}
+use Rattle.laws.proofs.ResultLaws.{each-need, each-ok, each-pick, each-bind, each-self, pick-both, all-value, each-some, made-of, ok-same, each-is}
 use Rattle.laws.proofs.LoopLaws.{Going, starts, turns, stops, Comes, Comes.comes-next, Comes.comes-done, iterate-holds}
 use Rattle.laws.specs.Bytes.{be32}
 use Rattle.iff.specs.Chunk.{Chunk, padded, chunkAt, Walk, walkOn, walkStep, chunks, Part, partOf, first, find, orPart, Within, Lies}
@@ -91,15 +91,10 @@ module _ (x y : ℕ) (differ : x ≡ y → ⊥) where
   -- so two chunks that a parent has leave room for their headers
   pub parts-room : (s : List ℕ) (p q : Part) → find x s ≡ ok (some p) → find y s ≡ ok (some q) → p .size + 8 + (q .size + 8) ≤ length s
   unfolding find
-  parts-room s p q e f = go (chunks s) (chunks-before s) e f
-    where
-      go : (r : Res (List Chunk)) → Each (Before s (length s)) r → (r >>= λ cs. ok (first x cs)) ≡ ok (some p) → (r >>= λ cs. ok (first y cs)) ≡ ok (some q)
-          → p .size + 8 + (q .size + 8) ≤ length s
-      go (ok cs) (each b) e f =
-          let g : first x cs ≡ some p = cc in
-          let h : first y cs ≡ some q = cc in
-          omega (arith, b .room, rw (g, h) at (both-fit cs))
-      go (fault n) h e f = let z : _≡_ {A = ℕ} 0 1 = cc in absurd (omega arith)
+  parts-room s p q e f =
+      let k = made-of (chunks s) e in
+      let g = ok-same (rw (k .1) at f) in
+      omega (arith, each-is (k .1) (chunks-before s) .room, rw (k .2, g) at (both-fit (k .0)))
 
 -- the first chunk of an id in a list with one chunk more
 first-more : (id : ℕ) (cs : List Chunk) (c : Chunk) → ok (first id (cs ++ (c ∷ []))) ≡ pick (eqb (c .id) id) (orPart (ok (first id cs)) (partOf c)) (ok (first id cs))

@@ -1,11 +1,11 @@
 -- Laws of `iterate`: what a loop's proof cites where it begins, at each turn and where it returns; and what a theorem cites.
 use Prim.Native.Nat.{ℕ, zero, suc, _<_}
 use native.Mathlib.Nat.{not-suc-le-zero, le-of-suc-le-suc, le-trans, le-refl}
-use native.Mathlib.Omega.{arith}
 use mathlib.Core.Path.{_≡_, refl, sym, _∙_}
 use mathlib.Core.Bool.{Bool, true, false}
 use Rattle.laws.specs.Result.{pick}
 use Rattle.laws.specs.Loop.{Step, Step.next, Step.done, run, iterate}
+use Rattle.laws.proofs.ResultLaws.{pick-case, never}
 
 -- a loop at the state s is on the way to the answer o
 pub record Going {S O : Type 0} (f : S → Step S O) (left : S → ℕ) (late o : O) (s : S) : Type 0 where
@@ -45,8 +45,7 @@ pub data Comes {S O : Type 0} (P : S → Type 0) (Q : O → Type 0) : Step S O �
   comes-done : {o : O} → Q o → Comes P Q (done o)
 
 pub comes-pick : {S O : Type 0} {P : S → Type 0} {Q : O → Type 0} (t : Bool) {x y : Step S O} → (t ≡ true → Comes P Q x) → (t ≡ false → Comes P Q y) → Comes P Q (pick t x y)
-comes-pick true p q = p refl
-comes-pick false p q = q refl
+comes-pick {P = P} {Q = Q} t p q = pick-case (Comes P Q) t p q
 
 -- what every step keeps, and every end comes to, holds of the answer
 module _ {S O : Type 0} (f : S → Step S O) (left : S → ℕ) (late : O) (P : S → Type 0) (Q : O → Type 0) (at-late : Q late) (step : (s : S) → P s → Comes P Q (f s)) where
@@ -65,7 +64,7 @@ module _ {S O : Type 0} (f : S → Step S O) (left : S → ℕ) (late : O) (P : 
 -- what a step that goes on comes to
 comes-at : {S O : Type 0} {P : S → Type 0} {Q : O → Type 0} {x : Step S O} {t : S} → Comes P Q x → x ≡ next t → P t
 comes-at {P = P} {t = t} (comes-next {t = u} p) e = let q : u ≡ t = cc in rw q at p
-comes-at (comes-done q) e = let z : _≡_ {A = ℕ} 0 1 = cc in absurd (omega arith)
+comes-at (comes-done q) e = never (cc)
 
 -- where `left` falls with each turn, turns to spare change nothing: the answer is that from the next state on
 module _ {S O : Type 0} (f : S → Step S O) (left : S → ℕ) (late : O) (falls : (s : S) → Comes (λ (t : S). left t < left s) (λ (o : O). Unit {0}) (f s)) where

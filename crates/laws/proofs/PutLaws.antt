@@ -3,11 +3,11 @@ use Prim.Native.Nat.{ℕ, _+_, _-_, _≤_}
 use native.Mathlib.Omega.{arith}
 use mathlib.Core.List.{List, [], _∷_, _++_}
 use mathlib.Core.Path.{_≡_, refl, sym, ap, _∙_}
-use lib.ListN.{length, set, take, drop, length-append, length-drop}
-use lib.Seq.{sets, length-sets, length-take-le}
+use lib.ListN.{length, set, take, drop, length-append}
+use lib.Seq.{sets, length-sets}
 use Rattle.laws.specs.Store.{over}
 use Rattle.laws.specs.Put.{Put}
-use Rattle.laws.proofs.StoreLaws.{over-whole, sets-part, sets-append}
+use Rattle.laws.proofs.StoreLaws.{over-whole, sets-part, sets-append, length-part}
 
 pub put-is : {out : List ℕ} {at : ℕ} {bytes out′ : List ℕ} {next : ℕ} → next ≡ at + length bytes → out′ ≡ sets out at bytes → Put out at bytes out′ next
 put-is {out} {at} {bytes} e f = record { place = e; left = f; size = ap length f ∙ length-sets out at bytes }
@@ -26,7 +26,7 @@ put-then {out} {at} {xs} {ys} v w =
 pub put-copy : (out : List ℕ) (at end : ℕ) (bytes y : List ℕ) → end ≡ at + length bytes → end ≤ length out → y ≡ over bytes (take (end - at) (drop at out))
     → Put out at bytes (take at out ++ (y ++ drop (end - at) (drop at out))) end
 put-copy out at end bytes y e h f =
-    let l : length (take (end - at) (drop at out)) ≡ end - at = length-take-le (end - at) (drop at out) (simp length-drop (omega arith)) in
+    let l : length (take (end - at) (drop at out)) ≡ end - at = length-part out at (end - at) (omega arith) in
     let m : length bytes ≡ end - at = omega arith in
     put-is e (rw (f ∙ over-whole bytes (take (end - at) (drop at out)) (l ∙ sym m)) (sets-part at end out bytes (omega arith) h m))
 

@@ -7,9 +7,25 @@ use mathlib.Core.Option.{Option, none, some}
 use borrow.Author.Tests.{not-true, not-false}
 use Rattle.laws.specs.Result.{Res, Res.ok, Res.fault, _>>=_, need, answer, pick, _>>?_, given, Each, Each.each, Each.no-value, All, All.all-some}
 
+-- two constructors are never equal: where a fact says that they are, `cc` shows that 0 is 1, and anything follows
+pub never : {A : Type 0} → _≡_ {A = ℕ} 0 1 → A
+never z = absurd (omega arith)
+
 -- a test doesn't come out both ways
 pub false-true : {A : Type 0} → false ≡ true → A
-false-true e = let z : _≡_ {A = ℕ} 0 1 = cc in absurd (omega arith)
+false-true e = never (cc)
+
+-- a result comes to one value, and isn't refused then
+pub ok-same : {A : Type 0} {a b : A} → ok a ≡ ok b → a ≡ b
+ok-same e = cc
+
+pub ok-fault : {A B : Type 0} {a : A} {n : ℕ} → fault n ≡ ok a → B
+ok-fault e = never (cc)
+
+-- where a value was made of another, there is that other
+pub made-of : {A B : Type 0} (r : Res A) {f : A → B} {b : B} → (r >>= λ a. ok (f a)) ≡ ok b → (a : A) × (r ≡ ok a) × (f a ≡ b)
+made-of (ok a) e = (a, refl, ok-same e)
+made-of (fault n) e = ok-fault e
 
 -- a result is the value that it comes to
 pub each-self : {A : Type 0} (r : Res A) → Each (λ (a : A). r ≡ ok a) r
@@ -56,18 +72,20 @@ each-some e p = all-value (each-is e p)
 pub told : {A B : Type 0} (of : A → B) {r x : A} {b : B} → of r ≡ b → r ≡ x → b ≡ of x
 told of e w = sym e ∙ ap of w
 
--- what holds of both holds of the one that is picked
+-- what holds of both holds of the one that is picked; each need hold only where its test comes out so
+pub pick-case : {A : Type 0} (P : A → Type 0) (t : Bool) {x y : A} → (t ≡ true → P x) → (t ≡ false → P y) → P (pick t x y)
+pick-case P true p q = p refl
+pick-case P false p q = q refl
+
 pub pick-both : {A : Type 0} (P : A → Type 0) (t : Bool) {x y : A} → P x → P y → P (pick t x y)
-pick-both P true p q = p
-pick-both P false p q = q
+pick-both P t p q = pick-case P t (λ _. p) (λ _. q)
 
 pub each-pick : {A : Type 0} {P : A → Type 0} (t : Bool) {x y : Res A} → (t ≡ true → Each P x) → (t ≡ false → Each P y) → Each P (pick t x y)
-each-pick true p q = p refl
-each-pick false p q = q refl
+each-pick {P = P} t p q = pick-case (Each P) t p q
 
 -- the same of what is well formed or not: there is one value, and the tests on the way to it held
 pub none-some : {A B : Type 0} {a : A} → none ≡ some a → B
-none-some e = let z : _≡_ {A = ℕ} 0 1 = cc in absurd (omega arith)
+none-some e = never (cc)
 
 pub some-same : {A : Type 0} {a b : A} → some a ≡ some b → a ≡ b
 some-same e = cc
@@ -88,13 +106,13 @@ answer-ok (fault n) f = refl
 
 pub answered : {A : Type 0} (r : Res A) → ok tt ≡ answer r → (a : A) × (r ≡ ok a)
 answered (ok a) e = (a, refl)
-answered (fault n) e = let z : _≡_ {A = ℕ} 0 1 = cc in absurd (omega arith)
+answered (fault n) e = never (cc)
 
 pub answer-refused : {A : Type 0} (r : Res A) {n : ℕ} → answer r ≡ fault n → r ≡ fault n
-answer-refused (ok a) e = let z : _≡_ {A = ℕ} 0 1 = cc in absurd (omega arith)
+answer-refused (ok a) e = never (cc)
 answer-refused (fault m) {n} e = let q : m ≡ n = cc in rw q
 
 -- two tests that hold together
 pub two-true : (a b : Bool) → (a && b) ≡ true → (a ≡ true) × (b ≡ true)
 two-true true b e = (refl, e)
-two-true false b e = let z : _≡_ {A = ℕ} 0 1 = cc in absurd (omega arith)
+two-true false b e = never (cc)

@@ -4,7 +4,7 @@ use native.Mathlib.Nat.{not-suc-le-zero, le-of-suc-le-suc, zero-add, suc-add, ad
 use native.Mathlib.Numerals.{add-one}
 use native.Mathlib.Omega.{arith}
 use native.Mathlib.Decide.{decLe, ℕ-discrete}
-use mathlib.Core.Bool.{Bool, true, false}
+use mathlib.Core.Bool.{Bool}
 use mathlib.Core.Path.{_≡_, refl, sym, ap, _∙_}
 use mathlib.Core.Logic.{_⊎_, inl, inr}
 use mathlib.Core.List.{List, [], _∷_, _++_, append-nil, append-assoc}
@@ -13,6 +13,11 @@ use lib.Seq.{take-take, take-all, take-append-le, length-take-le, drop-length, d
 use borrow.Author.Fill.{fill-more}
 use Rattle.laws.specs.Result.{pick}
 use Rattle.laws.specs.Store.{Copied, over}
+use Rattle.laws.proofs.ResultLaws.{pick-both}
+
+-- bytes that are there are as many as were asked for
+pub length-part : (s : List ℕ) (from count : ℕ) → from + count ≤ length s → length (take count (drop from s)) ≡ count
+length-part s from count h = length-take-le count (drop from s) (simp length-drop (omega arith))
 
 pub copied-none : {s d : List ℕ} → Copied s d 0 d
 copied-none = record { is = refl }
@@ -64,7 +69,7 @@ going-from e = record { front = e; rest = refl; long = refl }
 
 pub going-block : {s d x : List ℕ} {n j : ℕ} → Going s d n j x → (k : ℕ) → j + k ≤ n → n ≤ length s → n ≤ length d → Going s d n (j + k) (sets x j (take k (drop j s)))
 going-block {s} {d} {x} {n} {j} w k h a b =
-    let l : length (take k (drop j s)) ≡ k = length-take-le k (drop j s) (simp length-drop (omega arith)) in
+    let l : length (take k (drop j s)) ≡ k = length-part s j k (omega arith) in
     let c = w .long in
     let e : sets x j (take k (drop j s)) ≡ take (j + k) s ++ drop (j + k) x =
     sets-eq (take k (drop j s)) x j (omega arith) ∙ rw (l, w .front, take-add j k s) refl in
@@ -82,6 +87,19 @@ copied-last {s} {d} {x} {y} {z} {v} {n} h k l e ex ey ez ev = going-done (step (
   where
     step : (i j : ℕ) → (i + 8 ≡ j) × (j ≤ n) → {f g : List ℕ} → g ≡ sets f i (take 8 (drop i s)) → Going s d n i f → Going s d n j g
     step i j b q w = rw (q, ← (b .0)) (going-block w 8 (omega (arith, b .0, b .1)) k l)
+
+-- four bytes that are stored one after the other, and four that stand so
+pub stored-four : (d : List ℕ) (at w x y z : ℕ) → set (set (set (set d at w) (at + 1) x) (at + 2) y) (at + 3) z ≡ sets d at (w ∷ x ∷ y ∷ z ∷ [])
+stored-four d at w x y z =
+    let e : at + 2 ≡ suc (suc at) = omega arith in
+    let f : at + 3 ≡ suc (suc (suc at)) = omega arith in
+    rw (add-one at, e, f)
+
+pub four-at : (s : List ℕ) (at : ℕ) → at + 4 ≤ length s → take 4 (drop at s) ≡ getD s at 0 ∷ getD s (at + 1) 0 ∷ getD s (at + 2) 0 ∷ getD s (at + 3) 0 ∷ []
+four-at s at h =
+    let e : at + 2 ≡ suc (suc at) = omega arith in
+    let f : at + 3 ≡ suc (suc (suc at)) = omega arith in
+    rw (drop-cons s at 0 (omega arith), drop-cons s (suc at) 0 (omega arith), drop-cons s (suc (suc at)) 0 (omega arith), drop-cons s (suc (suc (suc at))) 0 (omega arith), add-one at, e, f)
 
 -- eight bytes that are stored one after the other
 pub stored-eight : (s d : List ℕ) (at : ℕ) → at + 8 ≤ length s
@@ -153,8 +171,8 @@ pub lent-copy : (f s : List ℕ) (a b n : ℕ) (y : List ℕ) → a + n ≤ leng
 lent-copy f s a b n y h k e =
     let i : a + n - a ≡ n = omega arith in
     let j : b + n - b ≡ n = omega arith in
-    let l : length (take n (drop b s)) ≡ n = length-take-le n (drop b s) (simp length-drop (omega arith)) in
-    let m : length (take n (drop a f)) ≡ n = length-take-le n (drop a f) (simp length-drop (omega arith)) in
+    let l : length (take n (drop b s)) ≡ n = length-part s b n (omega arith) in
+    let m : length (take n (drop a f)) ≡ n = length-part f a n (omega arith) in
     let w : y ≡ take n (drop b s) = e ∙ rw (i, j) (over-whole (take n (drop b s)) (take n (drop a f)) (m ∙ sym l)) in
     rw w (sets-part a (a + n) f (take n (drop b s)) (omega arith) h (l ∙ sym i))
 
@@ -179,15 +197,14 @@ copied-most d s to from count n e = go (decLe (length d) (to + n)) (decLe count 
 
 -- copied to or not, a buffer keeps its length
 pub wanted-length : (wanted : Bool) (d : List ℕ) (at : ℕ) (vs : List ℕ) → length (pick wanted (sets d at vs) d) ≡ length d
-wanted-length true d at vs = length-sets d at vs
-wanted-length false d at vs = refl
+wanted-length t d at vs = pick-both (λ (g : List ℕ). length g ≡ length d) t (length-sets d at vs) refl
 
 -- the part of f that was lent, filled with v
 pub lent-fill : (f : List ℕ) (a n v : ℕ) (y : List ℕ) → a + n ≤ length f → y ≡ replicate (length (take (a + n - a) (drop a f))) v
     → take a f ++ (y ++ drop (a + n - a) (drop a f)) ≡ sets f a (replicate n v)
 lent-fill f a n v y h e =
     let i : a + n - a ≡ n = omega arith in
-    let m : length (take n (drop a f)) ≡ n = length-take-le n (drop a f) (simp length-drop (omega arith)) in
+    let m : length (take n (drop a f)) ≡ n = length-part f a n (omega arith) in
     let w : y ≡ replicate n v = e ∙ rw (i, m) refl in
     rw w (sets-part a (a + n) f (replicate n v) (omega arith) h (length-replicate n v ∙ sym i))
 

@@ -8,8 +8,8 @@ use lib.Dec.{leb}
 use lib.ListN.{length, drop}
 use lib.Seq.{length-take-le, take-nil}
 use borrow.Author.Tests.{le-leb, lt-leb, leb-true}
-use Rattle.laws.specs.Result.{Res, Res.ok, Res.fault, answer, pick}
-use Rattle.laws.proofs.ResultLaws.{two-true}
+use Rattle.laws.specs.Result.{Res, Res.ok, Res.fault, pick}
+use Rattle.laws.proofs.ResultLaws.{two-true, never, answer-refused, answered}
 use Rattle.laws.specs.Loop.{Step.next, Step.done, run, iterate}
 use Rattle.laws.specs.Store.{over}
 use Rattle.opening.specs.declared.OpenedFile.{OpenedFile}
@@ -79,21 +79,18 @@ module _ (file : List ℕ) (l : Buffers) {r : OpenedFile} {a b : List ℕ} (m : 
   pub film-refused : {i : ℕ} {out : List ℕ} {n : ℕ} {out′ : List ℕ} → openingOf (r .answer) ≡ fault i → Adds out (min 0 (length out)) (refusedLine i) out′ n
       → Lists (listFilm file l) out n (record { a = a; b = b; work = l .work; rec = l .rec }) out′
   unfolding listFilm listOpened
-  film-refused {i} {out} {n} {out′} e v = go (opening file (length (l .a)) (length (l .b))) (sym (m .answer) ∙ e) (m .left)
-    where
-      go : (p : Res Film) → answer p ≡ fault i → _≡_ {A = World} (record { a = a; b = b; state = r .state }) (worldOpened (l .a) (l .b) p)
-          → Lists (listOpened file (length (l .work)) (length (l .rec)) l p) out n (record { a = a; b = b; work = l .work; rec = l .rec }) out′
-      go (ok F) d k = let z : _≡_ {A = ℕ} 0 1 = cc in absurd (omega arith)
-      go (fault j) d k = let f : j ≡ i = cc in rw (ap (λ (w : World). w .a) k, ap (λ (w : World). w .b) k, f) (lists-line l refl v)
+  film-refused {i} e v =
+      let q = answer-refused (opening file (length (l .a)) (length (l .b))) (sym (m .answer) ∙ e) in
+      let k = m .left ∙ ap (worldOpened (l .a) (l .b)) q in
+      rw (q, ap (λ (w : World). w .a) k, ap (λ (w : World). w .b) k) (lists-line l refl v)
 
   pub film-opened : {out : List ℕ} {n : ℕ} {l′ : Buffers} {out′ : List ℕ} → openingOf (r .answer) ≡ ok tt
       → Lists (listFrames file (length (l .work)) (length (l .rec)) (record { lent = lent a b (r .state) (l .work) (l .rec); text = pictureLine (r .state .sizes) })) out n l′ out′ → Lists (listFilm file l) out n l′ out′
   unfolding listFilm listOpened
-  film-opened {out} {n} {l′} {out′} e v = go (opening file (length (l .a)) (length (l .b))) (sym (m .answer) ∙ e) (m .left)
-    where
-      go : (p : Res Film) → answer p ≡ ok tt → _≡_ {A = World} (record { a = a; b = b; state = r .state }) (worldOpened (l .a) (l .b) p) → Lists (listOpened file (length (l .work)) (length (l .rec)) l p) out n l′ out′
-      go (ok F) d k = rw (ap (λ (w : World). w .a) k, ap (λ (w : World). w .b) k, ap (λ (w : World). w .state) k) at v
-      go (fault j) d k = let z : _≡_ {A = ℕ} 0 1 = cc in absurd (omega arith)
+  film-opened e v =
+      let q = answered (opening file (length (l .a)) (length (l .b))) (sym e ∙ m .answer) in
+      let k = m .left ∙ ap (worldOpened (l .a) (l .b)) (q .1) in
+      rw (q .1) (rw (ap (λ (w : World). w .a) k, ap (λ (w : World). w .b) k, ap (λ (w : World). w .state) k) at v)
 
 -- the tests of a file, in order
 module _ (file : List ℕ) where
@@ -131,12 +128,12 @@ pictures-fit file {n} = go (leb (length file) 65_536) (firstSize file)
   where
     fits : (m : ℕ) (t : Bool) → leb m 16_384 ≡ t → pick t (pictures m) (single tooLarge) ≡ pictures n → n ≤ 16_384
     fits m true e d = let f : m ≡ n = cc in rw f at (leb-true m 16_384 e)
-    fits m false e d = let z : _≡_ {A = ℕ} 0 1 = cc in absurd (omega arith)
+    fits m false e d = never (cc)
 
     go : (t : Bool) (q : Res ℕ) → pick t (sized q) (single tooLarge) ≡ pictures n → n ≤ 16_384
     go true (ok m) d = fits m (leb m 16_384) refl d
-    go true (fault m) d = let z : _≡_ {A = ℕ} 0 1 = cc in absurd (omega arith)
-    go false q d = let z : _≡_ {A = ℕ} 0 1 = cc in absurd (omega arith)
+    go true (fault m) d = never (cc)
+    go false q d = never (cc)
 
 pub holds-less : {n m a b work rec : ℕ} → n ≤ m → Holds m a b work rec → Holds n a b work rec
 holds-less k h = record { left = omega (arith, h .left); right = omega (arith, h .right); drawn = omega (arith, h .drawn); written = h .written }

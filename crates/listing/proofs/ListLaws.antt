@@ -5,10 +5,9 @@ use mathlib.Core.Bool.{Bool, true, false}
 use mathlib.Core.List.{List, _++_}
 use mathlib.Core.Option.{Option, none, some}
 use mathlib.Core.Path.{_≡_, refl, sym, ap, _∙_}
-use lib.Dec.{leb}
 use lib.ListN.{length, take, length-take}
-use Rattle.laws.specs.Result.{Res, Res.ok, Res.fault, Each, Each.each, All, All.all-some, All.all-none}
-use Rattle.laws.proofs.ResultLaws.{each-any, each-bind, each-self}
+use Rattle.laws.specs.Result.{Res.ok, Each, Each.each, All, All.all-some, All.all-none}
+use Rattle.laws.proofs.ResultLaws.{each-any, each-bind, each-self, each-some, never}
 use Rattle.laws.specs.Loop.{Step.next, Step.done}
 use Rattle.laws.proofs.LoopLaws.{Going, starts, turns, stops}
 use Rattle.state.specs.declared.State.{State}
@@ -17,9 +16,10 @@ use Rattle.frame.specs.Frame.{Frame, frameAt}
 use Rattle.frame.proofs.FrameLaws.{frame-rises}
 use Rattle.step_on.specs.declared.SteppedOn.{SteppedOn}
 use Rattle.state.specs.World.{World, shownIn, hiddenIn, withHidden}
-use Rattle.state.specs.After.{Answer, Answer.refused, Lent, lent, After, lentAfter}
-use Rattle.step_on.specs.Step.{change, Built, build, look, lookAhead, recordOf, commit, settle, stepOn, onOf, MeetsOn}
+use Rattle.state.specs.After.{Answer, Lent, lent, After, lentAfter}
+use Rattle.step_on.specs.Step.{change, Built, build, look, lookAhead, stepOn, onOf, MeetsOn}
 use Rattle.step_on.proofs.ReadyLaws.{ready-passed}
+use Rattle.step_on.proofs.CaseLaws.{on-case}
 use Rattle.lines.specs.Lines.{pictureLine, Adds}
 use Rattle.lines.proofs.TextLaws.{adds-then, adds-at, adds-room, adds-size, adds-front}
 use Rattle.listing.specs.Listing.{Listing, addLine, stepLine, taken, lineOn, listStep, listFrames, Lists}
@@ -50,19 +50,11 @@ pub record Raised (file : ℕ) (s t : State) : Type 0 where
   pub rises : s .next < t .next
   pub ends : t .next ≤ file
 
-settle-raises : (file : ℕ) (w : World) (room : ℕ) (q : Res (Option Built)) → Each (All (Raises file (w .state))) q → taken (settle w room q .answer) ≡ true → Raised file (w .state) (settle w room q .world .state)
-unfolding settle commit withHidden
-settle-raises file w room (fault n) k e = let z : _≡_ {A = ℕ} 0 1 = cc in absurd (omega arith)
-settle-raises file w room (ok none) k e = let z : _≡_ {A = ℕ} 0 1 = cc in absurd (omega arith)
-settle-raises file w room (ok (some x)) (each (all-some k)) e = go (leb (length (recordOf (w .state) (hiddenIn w) (x .picture))) room) refl
-  where
-    go : (t : Bool) → leb (length (recordOf (w .state) (hiddenIn w) (x .picture))) room ≡ t → Raised file (w .state) (commit w room x .world .state)
-    go true d = rw d (record { rises = k .rises; ends = k .ends })
-    go false d = let f : taken (refused 51) ≡ true = rw d at e in let z : _≡_ {A = ℕ} 0 1 = cc in absurd (omega arith)
-
 pub on-raises : (file : List ℕ) (w : World) (size room : ℕ) → taken (stepOn file w size room .answer) ≡ true → Raised (length file) (w .state) (stepOn file w size room .world .state)
-unfolding stepOn
-on-raises file w size room e = settle-raises (length file) w room (lookAhead file w size) (ahead-raises file w size) e
+unfolding withHidden
+on-raises file w size room =
+    on-case (λ (o : After). taken (o .answer) ≡ true → Raised (length file) (w .state) (o .world .state)) w room file size
+    (λ n q e. never (cc)) (λ q e. never (cc)) (λ x q e. let k = each-some q (ahead-raises file w size) in record { rises = k .rises; ends = k .ends }) (λ x q e. never (cc))
 
 -- while the frames of a file are listed: the text so far stands in `out`, and what is left comes to the whole
 pub record Showing (file : List ℕ) (size room : ℕ) (start : Listing) (out₀ a b work rec out : List ℕ) (s : State) (at : ℕ) : Type 0 where

@@ -2,7 +2,6 @@
 use Prim.Native.Nat.{ℕ, suc, _+_, _-_, _*_, _<_, _≤_}
 use native.Mathlib.Nat.{le-trans}
 use native.Mathlib.Omega.{arith}
-use mathlib.Core.Bool.{Bool, true, false}
 use mathlib.Core.List.{List, [], _++_}
 use mathlib.Core.Option.{Option, none, some}
 use mathlib.Core.Path.{_≡_, refl}
@@ -11,8 +10,8 @@ use lib.ListN.{length, take, length-take, length-append}
 use borrow.Author.Tests.{leb-true}
 use Rattle.laws.specs.Bytes.{Bytes}
 use Rattle.laws.proofs.BytesLaws.{bytes-take}
-use Rattle.laws.specs.Result.{Res, Res.ok, Res.fault, pick, Each, Each.each, Each.no-value, All, All.all-some, All.all-none}
-use Rattle.laws.proofs.ResultLaws.{each-self, each-bind, each-is, all-value, pick-both}
+use Rattle.laws.specs.Result.{Res, Res.ok, Res.fault, Each, Each.each, Each.no-value, All, All.all-some, All.all-none}
+use Rattle.laws.proofs.ResultLaws.{each-self, each-bind, each-is, all-value, pick-both, pick-case, each-some}
 use Rattle.laws.specs.Loop.{Step}
 use Rattle.laws.proofs.LoopLaws.{Comes, Comes.comes-next, Comes.comes-done, iterate-holds}
 use Rattle.state.specs.declared.Report.{Report}
@@ -30,13 +29,14 @@ use Rattle.opening.specs.Open.{opening}
 use Rattle.opening.proofs.OpenLaws.{places-lie, first-long}
 use Rattle.state.specs.World.{World, isOdd, shownIn, hiddenIn, withHidden}
 use Rattle.state.specs.After.{After, lentAfter}
-use Rattle.step_on.specs.Step.{basis, change, Built, build, look, lookAhead, recordOf, reportOf, commit, settle, stepOn}
+use Rattle.step_on.specs.Step.{basis, change, Built, build, look, lookAhead, reportOf}
+use Rattle.step_on.proofs.CaseLaws.{stepTo, on-case}
 use Rattle.step_on.proofs.ReadyLaws.{ready-passed}
-use Rattle.lines.specs.Lines.{frameLine, endLine, refusedLine, pictureLine, tooLarge}
-use Rattle.listing.specs.Listing.{Listing, lineOn, listStep, listFrames, Buffers, listOpened, ROOM, listFront, Planned.single, Planned.pictures, sized, listPlanned}
+use Rattle.lines.specs.Lines.{frameLine, endLine, refusedLine, pictureLine}
+use Rattle.listing.specs.Listing.{Listing, lineOn, listStep, listFrames, Buffers, listOpened, ROOM, listFront, sized, listPlanned, Planned}
 use Rattle.changes.proofs.CountLaws.{differing-short}
 use Rattle.record.proofs.RecordRoom.{record-short}
-use Rattle.answers.proofs.InTable.{InTable, InTable.table-refusal}
+use Rattle.answers.proofs.InTable.{InTable, InTable.table-refusal, table-number}
 use Rattle.answers.proofs.Table.{opening-table, on-table}
 use Rattle.listing_laws.proofs.ShortLaws.{Holds, frame-holds, pointers-least, delta-long, Tells, frame-line-short, end-line-short, refused-line-short, picture-line-short}
 
@@ -113,39 +113,26 @@ abbrev told : Listing → After → Step Listing Listing
 told c o = lineOn (o .answer) (record { lent = lentAfter (c .lent) o; text = c .text })
 
 module _ (file : List ℕ) (bytes : Bytes file) (short : length file ≤ 65_536) (size : ℕ) where
-  -- what a step to a frame that was built is told as
-  committed : (c : Listing) → Roomy c → (x : Built) → Steps (length file) (c .lent .world .state) (hiddenIn (c .lent .world)) x → (t : Bool)
-      → leb (length (recordOf (c .lent .world .state) (hiddenIn (c .lent .world)) (x .picture))) ROOM ≡ t → Comes Roomy Short (told c (commit (c .lent .world) ROOM x))
-  unfolding commit lentAfter withHidden
-  committed c h x k false e = rw e (comes-done (last-short c h (refusedLine 51) (refused-line-short 51 refl)))
-  committed c h x k true e =
+  -- what a step that is taken is told as
+  stepped : (c : Listing) → Roomy c → (x : Built) → Steps (length file) (c .lent .world .state) (hiddenIn (c .lent .world)) x → Comes Roomy Short (told c (stepTo (c .lent .world) x))
+  unfolding lentAfter withHidden
+  stepped c h x k =
       let r : Report = reportOf (c .lent .world .state) (hiddenIn (c .lent .world)) (x .header) (x .picture) in
       let n : suc (c .lent .world .state .frame) < 10_000_000 = omega (arith, k .few) in
       let f : suc (c .lent .world .state .frame) ≤ 1_000_000 = omega (arith, k .few) in
       let p : x .next ≤ 65_536 = omega (arith, k .ends) in
       let t : 100 * length (c .text ++ frameLine (suc (c .lent .world .state .frame)) r) ≤ 68 * x .next + 100 * 68 =
       omega (arith, length-append (c .text) (frameLine (suc (c .lent .world .state .frame)) r), frame-line-short (suc (c .lent .world .state .frame)) r n (k .tells), h .text, k .rises) in
-      rw e
-      (comes-next (record {
+      comes-next (record {
         left = pick-both Small (isOdd (c .lent .world .state .frame)) (h .left) (k .picture);
         right = pick-both Small (isOdd (c .lent .world .state .frame)) (k .picture) (h .right);
         frame = f;
         place = p;
         text = t;
-      }))
-
-  -- the answer of a step, and the line that is told of it
-  settled : (c : Listing) → Roomy c → (q : Res (Option Built)) → InTable q → Each (All (Steps (length file) (c .lent .world .state) (hiddenIn (c .lent .world)))) q
-      → Comes Roomy Short (told c (settle (c .lent .world) ROOM q))
-  unfolding settle lentAfter
-  settled c h (fault n) (table-refusal l) k = comes-done (last-short c h (refusedLine n) (refused-line-short n l))
-  settled c h (ok none) l k =
-      let f : c .lent .world .state .frame < 10_000_000 = omega (arith, h .frame) in
-      comes-done (last-short c h (endLine (c .lent .world .state .frame)) (end-line-short (c .lent .world .state .frame) f))
-  settled c h (ok (some x)) l (each (all-some k)) = committed c h x k (leb (length (recordOf (c .lent .world .state) (hiddenIn (c .lent .world)) (x .picture))) ROOM) refl
+      })
 
   step-roomy : (c : Listing) → Roomy c → Comes Roomy Short (listStep file size ROOM c)
-  unfolding stepOn
+  unfolding lentAfter
   step-roomy c h =
       let w : World = c .lent .world in
       let s : Small (shownIn w) = unfold shownIn in pick-both Small (isOdd (w .state .frame)) (h .left) (h .right) in
@@ -153,7 +140,10 @@ module _ (file : List ℕ) (bytes : Bytes file) (short : length file ≤ 65_536)
       let k : Each (All (Steps (length file) (w .state) (hiddenIn w))) (lookAhead file w size) =
       unfold lookAhead in
       each-bind (ready-passed (length file) (w .state) (length (w .a)) (length (w .b)) size) λ _ p. look-holds file (w .state) (shownIn w) (hiddenIn w) bytes s i (p .onA .few) (p .inFile) in
-      settled c h (lookAhead file w size) (on-table file w size) k
+      on-case (λ (o : After). Comes Roomy Short (told c o)) w ROOM file size
+      (λ n e. comes-done (last-short c h (refusedLine n) (refused-line-short n (table-number (on-table file w size) e))))
+      (λ e. comes-done (last-short c h (endLine (w .state .frame)) (end-line-short (w .state .frame) (omega (arith, h .frame)))))
+      (λ x e. stepped c h x (each-some e k)) (λ x e. comes-done (last-short c h (refusedLine 51) (refused-line-short 51 refl)))
 
   frames-short : (c : Listing) → Roomy c → Short (listFrames file size ROOM c)
   unfolding listFrames
@@ -185,9 +175,7 @@ module _ (file : List ℕ) (bytes : Bytes file) where
 
   pub sized-short : length file ≤ 65_536 → (q : Res ℕ) → InTable q → Short (listPlanned file (record { a = []; b = []; work = []; rec = [] }) (sized q))
   unfolding listFront
-  sized-short h (ok n) l = go (leb n 16_384) refl
-    where
-      go : (t : Bool) → leb n 16_384 ≡ t → Short (listPlanned file (record { a = []; b = []; work = []; rec = [] }) (pick t (pictures n) (single tooLarge)))
-      go true e = opened-short h n (leb-true n 16_384 e) (opening file n n) (opening-table file n n) (opening-begins file n) _
-      go false e = omega arith
+  sized-short h (ok n) l =
+      pick-case (λ (p : Planned). Short (listPlanned file (record { a = []; b = []; work = []; rec = [] }) p)) (leb n 16_384)
+      (λ e. opened-short h n (leb-true n 16_384 e) (opening file n n) (opening-table file n n) (opening-begins file n) _) (λ e. omega arith)
   sized-short h (fault m) (table-refusal l) = omega (arith, refused-line-short m l)

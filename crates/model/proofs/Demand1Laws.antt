@@ -1,14 +1,10 @@
 -- What demand 1 is proved from: a call that isn't taken leaves everything as it came.
 use Prim.Native.Nat.{ℕ}
-use native.Mathlib.Omega.{arith}
-use mathlib.Core.Bool.{Bool, true, false}
 use mathlib.Core.List.{List, []}
-use mathlib.Core.Option.{Option, none, some}
+use mathlib.Core.Option.{none, some}
 use mathlib.Core.Path.{_≡_, refl}
-use lib.Dec.{leb}
-use lib.ListN.{length}
 use Rattle.laws.specs.Result.{Res, Res.ok, Res.fault, answer}
-use Rattle.laws.proofs.ResultLaws.{none-some}
+use Rattle.laws.proofs.ResultLaws.{none-some, never}
 use Rattle.state.specs.Film.{Film}
 use Rattle.writer.specs.Write.{bufferAfter}
 use Rattle.opening.specs.Open.{worldOpened}
@@ -17,7 +13,8 @@ use Rattle.state.specs.declared.Report.{Report}
 use Rattle.state.specs.State.{zeros}
 use Rattle.state.specs.World.{World, hiddenIn}
 use Rattle.state.specs.After.{Answer.refused, Answer.ended, Answer.tookOn, Answer.tookBack, After}
-use Rattle.step_on.specs.Step.{Built, lookAhead, recordOf, reportOf, commit, settle, stepOn}
+use Rattle.step_on.specs.Step.{reportOf, stepOn}
+use Rattle.step_on.proofs.CaseLaws.{on-case}
 use Rattle.step_back.specs.Back.{retreat, settleBack, stepBack}
 use Rattle.model.specs.Demands.{refusalIn}
 
@@ -29,17 +26,12 @@ pub record Untouched (w : World) (o : After) : Type 0 where
 
 -- a step that isn't taken
 pub not-taken-on : (file : List ℕ) (w : World) (work room : ℕ) → ((r : Report) → stepOn file w work room .answer ≡ tookOn r → ⊥) → Untouched w (stepOn file w work room)
-unfolding stepOn
-not-taken-on file w work room h = go (lookAhead file w work) h
-  where
-    fits : (x : Built) (t : Bool) → leb (length (recordOf (w .state) (hiddenIn w) (x .picture))) room ≡ t → ((r : Report) → commit w room x .answer ≡ tookOn r → ⊥) → Untouched w (commit w room x)
-    fits x true e q = absurd (q (reportOf (w .state) (hiddenIn w) (x .header) (x .picture)) (unfold commit in rw e))
-    fits x false e q = unfold commit in rw e (record { world = refl; bytes = refl; work = λ k. absurd (k refl) })
-
-    go : (r : Res (Option Built)) → ((p : Report) → settle w room r .answer ≡ tookOn p → ⊥) → Untouched w (settle w room r)
-    go (fault k) q = unfold settle in record { world = refl; bytes = refl; work = λ _. refl }
-    go (ok none) q = unfold settle in record { world = refl; bytes = refl; work = λ _. refl }
-    go (ok (some x)) q = unfold settle in fits x (leb (length (recordOf (w .state) (hiddenIn w) (x .picture))) room) refl (unfold settle in q)
+not-taken-on file w work room =
+    on-case (λ (o : After). ((r : Report) → o .answer ≡ tookOn r → ⊥) → Untouched w o) w room file work
+    (λ n e h. record { world = refl; bytes = refl; work = λ _. refl })
+    (λ e h. record { world = refl; bytes = refl; work = λ _. refl })
+    (λ x e h. absurd (h (reportOf (w .state) (hiddenIn w) (x .header) (x .picture)) refl))
+    (λ x e h. record { world = refl; bytes = refl; work = λ k. absurd (k refl) })
 
 pub not-taken-back : (w : World) (bytes : List ℕ) → (stepBack w bytes .answer ≡ tookBack → ⊥) → Untouched w (stepBack w bytes)
 unfolding stepBack settleBack
@@ -61,4 +53,4 @@ refused-write n bytes out (ok k) e = none-some e
 
 -- End
 pub end-not-taken : {p : Report} → ended ≡ tookOn p → ⊥
-end-not-taken e = let z : _≡_ {A = ℕ} 0 1 = cc in omega arith
+end-not-taken e = never (cc)

@@ -1,18 +1,17 @@
 -- Demand 3: after an opening that wasn't refused both pictures and the state are the model's, and so are every answer, every taken step
 -- on's record, both pictures and the state after every call.
 use Prim.Native.Nat.{ℕ}
-use native.Mathlib.Omega.{arith}
 use mathlib.Core.List.{List, []}
-use mathlib.Core.Path.{_≡_, refl, sym, _∙_}
+use mathlib.Core.Path.{_≡_, refl, sym, _∙_, ap}
 use lib.ListN.{length}
-use Rattle.laws.specs.Result.{Res, Res.ok, Res.fault, answer, Each, Each.each}
+use Rattle.laws.specs.Result.{Res.ok}
+use Rattle.laws.proofs.ResultLaws.{answered, each-is}
 use Rattle.state.specs.World.{World}
 use Rattle.opening.specs.declared.OpenedFile.{OpenedFile}
-use Rattle.state.specs.Film.{Film}
 use Rattle.opening.specs.Open.{opening, worldOpened, openingOf, MeetsOpen}
 use Rattle.model.specs.Model.{Call, Seen, stands, modelOf}
 use Rattle.model.specs.Trace.{Trace}
-use Rattle.model.proofs.Opened.{OpenedAs, opening-opened}
+use Rattle.model.proofs.Opened.{opening-opened}
 use Rattle.model.proofs.Reached.{records, Reached.first}
 use Rattle.model.proofs.Demand3Laws.{from-there, opened-stands}
 
@@ -20,13 +19,11 @@ pub demand-3 : (file a b : List ℕ) (r : OpenedFile) (a′ b′ : List ℕ) →
     → (calls : List Call) (seen : List Seen) → Trace file (record { a = a′; b = b′; state = r .state }) [] calls seen
     → modelOf file calls ≡ ok (record { opened = record { a = a′; b = b′; state = r .state }; seen = seen })
 unfolding modelOf records
-demand-3 file a b r a′ b′ h e calls seen t = go (opening file (length a) (length b)) (h .answer) (h .left) (opening-opened file (length a) (length b))
-  where
-    go : (x : Res Film) → openingOf (r .answer) ≡ answer x → _≡_ {A = World} (record { a = a′; b = b′; state = r .state }) (worldOpened a b x) → Each (OpenedAs file) x
-        → modelOf file calls ≡ ok (record { opened = record { a = a′; b = b′; state = r .state }; seen = seen })
-    go (ok F) _ l (each k) =
-        let w : _≡_ {A = World} (record { a = a′; b = b′; state = r .state }) (stands F 0) = l ∙ opened-stands F in
-        let t′ : Trace (F .file) (record { a = a′; b = b′; state = r .state }) [] calls seen = rw (k .same) t in
-        let o = from-there F (k .opened) t′ 0 first w refl in
-        rw (k .read) (λ i. ok (record { opened = sym w i; seen = sym o i }))
-    go (fault n) x l k = let z : _≡_ {A = ℕ} 0 1 = cc in absurd (omega arith)
+demand-3 file a b r a′ b′ h e calls seen t =
+    let q = answered (opening file (length a) (length b)) (sym e ∙ h .answer) in
+    let F = q .0 in
+    let k = each-is (q .1) (opening-opened file (length a) (length b)) in
+    let w : _≡_ {A = World} (record { a = a′; b = b′; state = r .state }) (stands F 0) = h .left ∙ ap (worldOpened a b) (q .1) ∙ opened-stands F in
+    let t′ : Trace (F .file) (record { a = a′; b = b′; state = r .state }) [] calls seen = rw (k .same) t in
+    let o = from-there F (k .opened) t′ 0 first w refl in
+    rw (k .read) (λ i. ok (record { opened = sym w i; seen = sym o i }))

@@ -1,14 +1,13 @@
 -- What demand 3 is proved from: every call that met its contract is seen as the model says.
 use Prim.Native.Nat.{ℕ, suc}
-use native.Mathlib.Omega.{arith}
-use mathlib.Core.Bool.{Bool, true, false}
 use mathlib.Core.List.{List, [], _++_}
 use mathlib.Core.Option.{Option, none, some}
 use mathlib.Core.Path.{_≡_, refl, ap, _∙_}
 use lib.Dec.{leb, ltb, eqb}
 use lib.ListN.{length, drop}
 use lib.Seq.{take-append-seam}
-use Rattle.laws.specs.Result.{Res, Res.ok, Res.fault, pick}
+use Rattle.laws.specs.Result.{Res, Res.ok, Res.fault}
+use Rattle.laws.proofs.ResultLaws.{pick-both, never}
 use Rattle.state.specs.State.{opened}
 use Rattle.record.specs.Record.{Past, pastOf}
 use Rattle.step_on.specs.declared.SteppedOn.{SteppedOn}
@@ -27,40 +26,31 @@ use Rattle.model.proofs.Reached.{Reached, records, Comes, Reached.first
 use Rattle.model.proofs.StepsOn.{on-comes}
 use Rattle.model.proofs.StepsBack.{back-first, back-taken}
 
+-- what holds of every refusal, of End and of every report holds of a step on's answer
+module _ (P : Answer → Type 0) (F : Film) (m room : ℕ) (off : (n : ℕ) → P (refused n)) (end : P ended) (took : (x : Frame) → P (tookOn (reportAt F m x))) where
+  built-case : (x : Frame) (c : Res (List ℕ)) → P (answerFor F m room x c)
+  built-case x (ok f) = pick-both P (leb (length (recordAt F m)) room) (took x) (off 51)
+  built-case x (fault n) = off n
+
+  here-case : (o : Res (Option Frame)) → P (answerAt F m room o)
+  unfolding answerAt
+  here-case (ok (some x)) = built-case x (builtAt F m x)
+  here-case (ok none) = end
+  here-case (fault n) = off n
+
+  answer-case : (work : ℕ) → P (answerOn F m work room)
+  unfolding answerOn
+  answer-case work = pick-both P (eqb work (size F)) (pick-both P (ltb (suc m) 1_000_000) (here-case (here F (placeAt F m))) (off 53)) (off 12)
+
 -- a taken step on reports its record's length
 record Reports (F : Film) (m : ℕ) (x : Answer) : Type 0 where
   bytes : (rec rest : List ℕ) → rec ≡ leaves F m x ++ rest → recordIn x rec ≡ leaves F m x
 
 reports : (F : Film) (m work room : ℕ) → Reports F m (answerOn F m work room)
-unfolding answerOn answerAt
-reports F m work room = tests (eqb work (size F)) (ltb (suc m) 1_000_000) (here F (placeAt F m))
-  where
-    off : (n : ℕ) → Reports F m (refused n)
-    off n = record { bytes = λ rec rest q. unfold recordIn leaves in refl }
-
-    end : Reports F m ended
-    end = record { bytes = λ rec rest q. unfold recordIn leaves in refl }
-
-    taken : (x : Frame) → Reports F m (tookOn (reportAt F m x))
-    taken x = record { bytes = λ rec rest q. unfold recordIn leaves reportAt in rw q (take-append-seam (recordAt F m) rest) }
-
-    fits : (x : Frame) (t : Bool) → Reports F m (pick t (tookOn (reportAt F m x)) (refused 51))
-    fits x true = taken x
-    fits x false = off 51
-
-    drawn-to : (x : Frame) (c : Res (List ℕ)) → Reports F m (answerFor F m room x c)
-    drawn-to x (ok f) = fits x (leb (length (recordAt F m)) room)
-    drawn-to x (fault n) = off n
-
-    at-place : (o : Res (Option Frame)) → Reports F m (answerAt F m room o)
-    at-place (ok (some x)) = drawn-to x (builtAt F m x)
-    at-place (ok none) = end
-    at-place (fault n) = off n
-
-    tests : (s t : Bool) (o : Res (Option Frame)) → Reports F m (pick s (pick t (answerAt F m room o) (refused 53)) (refused 12))
-    tests true true o = at-place o
-    tests true false o = off 53
-    tests false t o = off 12
+unfolding recordIn leaves reportAt
+reports F m work room =
+    answer-case (Reports F m) F m room (λ n. record { bytes = λ rec rest q. refl }) (record { bytes = λ rec rest q. refl })
+    (λ x. record { bytes = λ rec rest q. rw q (take-append-seam (recordAt F m) rest) }) work
 
 -- the records after a call
 untaken-on : (F : Film) (m : ℕ) (x : Answer) → (x ≡ tookBack → ⊥) → untaken x (leaves F m x) (records F m) ≡ records F (moved m x)
@@ -72,26 +62,7 @@ untaken-on F m tookBack h = absurd (h refl)
 
 -- a step on is never answered as a step back
 on-forward : (F : Film) (m work room : ℕ) → answerOn F m work room ≡ tookBack → ⊥
-unfolding answerOn answerAt
-on-forward F m work room e = tests (eqb work (size F)) (ltb (suc m) 1_000_000) (here F (placeAt F m)) e
-  where
-    fits : (x : Frame) (t : Bool) → pick t (tookOn (reportAt F m x)) (refused 51) ≡ tookBack → ⊥
-    fits x true q = let z : _≡_ {A = ℕ} 0 1 = cc in omega arith
-    fits x false q = let z : _≡_ {A = ℕ} 0 1 = cc in omega arith
-
-    drawn-to : (x : Frame) (c : Res (List ℕ)) → answerFor F m room x c ≡ tookBack → ⊥
-    drawn-to x (ok f) q = fits x (leb (length (recordAt F m)) room) q
-    drawn-to x (fault n) q = let z : _≡_ {A = ℕ} 0 1 = cc in omega arith
-
-    at-place : (o : Res (Option Frame)) → answerAt F m room o ≡ tookBack → ⊥
-    at-place (ok (some x)) q = drawn-to x (builtAt F m x) q
-    at-place (ok none) q = let z : _≡_ {A = ℕ} 0 1 = cc in omega arith
-    at-place (fault n) q = let z : _≡_ {A = ℕ} 0 1 = cc in omega arith
-
-    tests : (s t : Bool) (o : Res (Option Frame)) → pick s (pick t (answerAt F m room o) (refused 53)) (refused 12) ≡ tookBack → ⊥
-    tests true true o q = at-place o q
-    tests true false o q = let z : _≡_ {A = ℕ} 0 1 = cc in omega arith
-    tests false t o q = let z : _≡_ {A = ℕ} 0 1 = cc in omega arith
+on-forward F m work room = answer-case (λ (x : Answer). x ≡ tookBack → ⊥) F m room (λ n e. never (cc)) (λ e. never (cc)) (λ x e. never (cc)) work
 
 -- a call that met its contract is seen as the model says
 module _ (F : Film) (op : Opened F) {m : ℕ} (p : Reached F m) {w : World} (ew : w ≡ stands F m) where

@@ -2,14 +2,14 @@
 -- hands on.
 use Prim.Native.Nat.{ℕ, zero, suc, _%_}
 use native.Mathlib.Omega.{arith}
-use mathlib.Core.Bool.{Bool, true, false, not}
+use mathlib.Core.Bool.{not}
 use mathlib.Core.List.{List, _++_}
 use mathlib.Core.Path.{_≡_, refl, ap, _∙_}
 use lib.Dec.{eqb}
 use lib.ListN.{length, drop}
 use borrow.Author.Tests.{eq-eqb, ne-eqb}
 use Rattle.laws.specs.Result.{Res.ok, Each.each}
-use Rattle.laws.proofs.ResultLaws.{each-any, each-is}
+use Rattle.laws.proofs.ResultLaws.{each-any, each-is, pick-both}
 use Rattle.delta.specs.Reading.{shapeOf}
 use Rattle.delta.specs.Delta.{readDelta}
 use Rattle.delta.proofs.DeltaLaws.{draw-length}
@@ -27,11 +27,7 @@ unfolding built
 built-length F x one two g {n} p q e =
     each-is {P = λ (l : List ℕ). length l ≡ n} e
     (each-any (readDelta (shapeOf (F .sizes) (x .header .items)) (x .dlta)) λ ops.
-    each (draw-length (shapeOf (F .sizes) (x .header .items)) (x .dlta) ops (named x one two) ∙ go (eqb (x .header .interleave) 1) refl))
-  where
-    go : (t : Bool) → eqb (x .header .interleave) 1 ≡ t → length (named x one two) ≡ n
-    go true h = rw h (omega arith)
-    go false h = rw h (omega arith)
+    each (draw-length (shapeOf (F .sizes) (x .header .items)) (x .dlta) ops (named x one two) ∙ pick-both (λ (l : List ℕ). length l ≡ n) (eqb (x .header .interleave) 1) p q))
 
 pub odd-suc : (n : ℕ) → isOdd (suc n) ≡ not (isOdd n)
 unfolding isOdd

@@ -11,8 +11,9 @@ use Rattle.laws.specs.Result.{Res, Res.ok, Res.fault, _>>=_, need, pick}
 use Rattle.state.specs.State.{rowBytes, lentLength, moved}
 use Rattle.frame.specs.Frame.{Frame, frameAt}
 use Rattle.state.specs.World.{isOdd, hiddenIn, withHidden}
-use Rattle.state.specs.After.{Answer, Answer.refused, Answer.ended, Answer.tookOn, After, kept}
-use Rattle.step_on.specs.Step.{ready, change, Built, build, look, lookAhead, recordOf, commit, settle, stepOn}
+use Rattle.state.specs.After.{Answer, Answer.refused, Answer.ended, Answer.tookOn, After}
+use Rattle.step_on.specs.Step.{ready, change, Built, build, look, lookAhead, recordOf, settle, stepOn}
+use Rattle.step_on.proofs.CaseLaws.{commit-case}
 use Rattle.state.specs.Film.{Film}
 use Rattle.model.specs.Model.{here, built, builtAt, placeAt, picture, recordAt, stands, reportAt, answerAt, answerOn, moved as movedTo, leaves}
 use Rattle.model.proofs.Laws.{odd-suc}
@@ -88,21 +89,12 @@ module _ (F : Film) (op : Opened F) (m : ℕ) (p : Reached F m) (room : ℕ) whe
 
   step-fits : (x : Frame) (g : List ℕ) → here F (placeAt F m) ≡ ok (some x) → builtAt F m x ≡ ok g → suc m < 1_000_000
       → Step (ok (some (nextBuilt F m x))) (pick (leb (length (recordAt F m)) room) (tookOn (reportAt F m x)) (refused 51))
-  unfolding Step movedTo leaves settle commit nextBuilt reportAt
-  step-fits x g e c h = rw (record-is F m, hidden-is F m) (go (leb (length (recordAt F m)) room))
-    where
-      took : After
-      took = record {
-        answer = tookOn (reportAt F m x);
-        world = withHidden (stands F m) (picture F (suc (suc m))) (moved (stands F m .state) (suc (stands F m .state .frame)) (placeAt F (suc m)));
-        bytes = recordAt F m;
-        work = some (picture F (suc (suc m)));
-      }
-
-      go : (t : Bool) → Comes F m (movedTo m (pick t (tookOn (reportAt F m x)) (refused 51))) (pick t (tookOn (reportAt F m x)) (refused 51)) (leaves F m (pick t (tookOn (reportAt F m x)) (refused 51)))
-          (pick t took (kept (stands F m) (refused 51) (some (picture F (suc (suc m))))))
-      go true = record { answer = refl; world = took-stands F m; bytes = refl; there = next x g p e c h }
-      go false = record { answer = refl; world = refl; bytes = refl; there = p }
+  unfolding Step movedTo leaves settle nextBuilt reportAt
+  step-fits x g e c h =
+      let y : Answer = pick (leb (length (recordAt F m)) room) (tookOn (reportAt F m x)) (refused 51) in
+      commit-case (λ (o : After). Comes F m (movedTo m y) y (leaves F m y) o) (stands F m) room (nextBuilt F m x)
+      (λ q. rw (rw (record-is F m) at q, record-is F m, hidden-is F m) (record { answer = refl; world = took-stands F m; bytes = refl; there = next x g p e c h }))
+      (λ q. rw (rw (record-is F m) at q) (record { answer = refl; world = refl; bytes = refl; there = p }))
 
   step-change : (x : Frame) → here F (placeAt F m) ≡ ok (some x) → suc m < 1_000_000 → (c : Res (List ℕ)) → builtAt F m x ≡ c
       → Step (builtThere F m (some x)) (answerAt F m room (ok (some x)))

@@ -12,7 +12,7 @@ use lib.Dec.{ltb, eqb, lit<}
 use lib.ListN.{length, drop}
 use borrow.Author.Tests.{lt-ltb, le-ltb, eq-eqb, ne-eqb, ltb-true, eqb-true}
 use Rattle.laws.specs.Result.{pick}
-use Rattle.laws.proofs.ResultLaws.{given-some, given-none, none-some, some-same}
+use Rattle.laws.proofs.ResultLaws.{given-some, given-none, none-some, some-same, pick-both}
 use Rattle.laws.specs.Bytes.{Bytes}
 use Rattle.number.specs.Number.{Value, lastGroup, groups, writeGroups}
 
@@ -36,11 +36,7 @@ groups-more k m a b s h = rw (le-ltb b 128 h, groups)
 
 shortest-test : (m b : ℕ) → (0 < b) ⊎ (m ≡ 1) → pick (eqb m 1) true (ltb 0 b) ≡ true
 shortest-test m b (inr p) = rw (eq-eqb m 1 p)
-shortest-test m b (inl p) = rw (lt-ltb 0 b p) (go (eqb m 1))
-  where
-    go : (t : Bool) → pick t true true ≡ true
-    go true = refl
-    go false = refl
+shortest-test m b (inl p) = rw (lt-ltb 0 b p) (pick-both (λ (t : Bool). t ≡ true) (eqb m 1) refl refl)
 
 pub last-ok : (m a b : ℕ) (s : List ℕ) → (0 < b) ⊎ (m ≡ 1) → a + m * b < 2 ^ 32 → lastGroup m a b s ≡ some (record { value = a + m * b; rest = s })
 unfolding lastGroup
@@ -64,23 +60,22 @@ pub more-written : (k n : ℕ) → 128 ≤ n → writeGroups (suc k) n ≡ (128 
 unfolding writeGroups
 more-written k n h = rw (le-ltb n 128 h, writeGroups)
 
+written-case : (P : List ℕ → Type 0) (k n : ℕ) → (n < 128 → P (n ∷ [])) → (128 ≤ n → P ((128 + n % 128) ∷ writeGroups k (n / 128))) → P (writeGroups (suc k) n)
+written-case P k n p q = go (decLt n 128)
+  where
+    go : Dec (n < 128) → P (writeGroups (suc k) n)
+    go (yes h) = rw (last-written (suc k) n h) (p h)
+    go (no h) = let l : 128 ≤ n = omega arith in rw (more-written k n l) (q l)
+
 -- no more bytes than groups
 pub groups-most : (k n : ℕ) → length (writeGroups k n) ≤ suc k
 groups-most zero n = unfold writeGroups in omega arith
-groups-most (suc k) n = go (decLt n 128) (groups-most k (n / 128))
-  where
-    go : Dec (n < 128) → length (writeGroups k (n / 128)) ≤ suc k → length (writeGroups (suc k) n) ≤ suc (suc k)
-    go (yes h) ih = rw (last-written (suc k) n h) (omega arith)
-    go (no h) ih = rw (more-written k n (omega arith)) (omega arith)
+groups-most (suc k) n = let ih = groups-most k (n / 128) in written-case (λ (s : List ℕ). length s ≤ suc (suc k)) k n (λ h. omega arith) (λ h. omega arith)
 
 -- one byte, and at most one more for each 128
 pub groups-short : (k n : ℕ) → length (writeGroups k n) ≤ 1 + n / 128
 groups-short zero n = unfold writeGroups in omega arith
-groups-short (suc k) n = go (decLt n 128) (groups-short k (n / 128))
-  where
-    go : Dec (n < 128) → length (writeGroups k (n / 128)) ≤ 1 + n / 128 / 128 → length (writeGroups (suc k) n) ≤ 1 + n / 128
-    go (yes h) ih = rw (last-written (suc k) n h) (omega arith)
-    go (no h) ih = rw (more-written k n (omega arith)) (omega arith)
+groups-short (suc k) n = let ih = groups-short k (n / 128) in written-case (λ (s : List ℕ). length s ≤ 1 + n / 128) k n (λ h. omega arith) (λ h. omega arith)
 
 -- bytes that are n in shortest form, at most suc k of them
 pub data Encoded : ℕ → ℕ → List ℕ → Type 0 where
@@ -92,11 +87,7 @@ high-below k n h = div-lt-iff-lt-mul (lit< tt) .1 (rw (← (pow-suc 128 (suc k))
 
 pub encoded : (k n : ℕ) → n < 128 ^ suc k → Encoded k n (writeGroups k n)
 encoded zero n h = let l : n < 128 = omega arith in rw (last-written 0 n l) (encoded-last l)
-encoded (suc k) n h = go (decLt n 128) (encoded k (n / 128) (high-below k n h))
-  where
-    go : Dec (n < 128) → Encoded k (n / 128) (writeGroups k (n / 128)) → Encoded (suc k) n (writeGroups (suc k) n)
-    go (yes l) w = rw (last-written (suc k) n l) (encoded-last l)
-    go (no l) w = let big : 128 ≤ n = omega arith in rw (more-written k n big) (encoded-more big w)
+encoded (suc k) n h = let ih = encoded k (n / 128) (high-below k n h) in written-case (Encoded (suc k) n) k n (λ l. encoded-last l) (λ l. encoded-more l ih)
 
 pub encoded-is : {k n : ℕ} {bytes : List ℕ} → Encoded k n bytes → writeGroups k n ≡ bytes
 encoded-is (encoded-last {k = k} {n = n} h) = last-written k n h

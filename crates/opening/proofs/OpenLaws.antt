@@ -30,7 +30,7 @@ use Rattle.body.specs.Body.{body, picture}
 use Rattle.anhd.specs.declared.FrameHeader.{FrameHeader}
 use Rattle.anhd.specs.Anhd.{frameHeader}
 use Rattle.anhd.proofs.AnhdLaws.{header-read}
-use Rattle.body.proofs.BodyLaws.{body-length}
+use Rattle.body.proofs.BodyLaws.{body-length, picture-body}
 use Rattle.delta.specs.Reading.{shapeOf}
 use Rattle.delta.specs.Delta.{readDelta, newFrame, Applies}
 use Rattle.delta.proofs.DeltaLaws.{draw-length}
@@ -211,8 +211,7 @@ fills-done e = rw e (record { answer = refl; left = refl })
 -- a BODY that is unpacked
 module _ (packed : Bool) (z : Sizes) (d a : List ℕ) (e : frameLength z ≡ ok (length a)) where
   body-is : picture packed z d (length a) ≡ body packed z d
-  unfolding picture
-  body-is = simp (e, eq-eqb (length a) (length a) refl)
+  body-is = picture-body packed z d (length a) e refl
 
   pub body-bad : {why : Refusal} {g : List ℕ} → answer (picture packed z d (length a)) ≡ fault (numberOf why) → g ≡ orKeep a (picture packed z d (length a)) → Fills (body packed z d) a (NotFilled why) g
   body-bad q l =

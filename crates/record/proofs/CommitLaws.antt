@@ -4,9 +4,10 @@ use native.Mathlib.Omega.{arith}
 use mathlib.Core.Bool.{Bool, true, false, not}
 use mathlib.Core.List.{List, _++_, append-nil}
 use mathlib.Core.Path.{_≡_, refl, sym, _∙_}
-use lib.ListN.{length, take, drop, drop-of-length-le, take-append-drop, length-append, length-drop}
+use lib.ListN.{length, take, drop, drop-of-length-le, take-append-drop, length-append}
 use lib.Seq.{sets, sets-eq, take-add, length-take-le, take-all, take-at, drop-at}
 use Rattle.laws.specs.Result.{pick}
+use Rattle.laws.proofs.StoreLaws.{length-part}
 use Rattle.runs.proofs.NextLaws.{RunAhead}
 use Rattle.runs.proofs.StretchLaws.{by-test}
 
@@ -25,7 +26,7 @@ committing-ends {commit = false} w e = w .kept refl
 -- the next run
 module _ {old new : List ℕ} {at gap count : ℕ} (a : RunAhead old new at gap count) (l : length old ≡ length new) where
   run-long : length (take count (drop (at + gap) new)) ≡ count
-  run-long = length-take-le count (drop (at + gap) new) (omega (arith, length-drop (at + gap) new, a .inside))
+  run-long = length-part new (at + gap) count (omega (arith, a .inside))
 
   -- the picture with the run's new bytes: what is before the run, the run, and what is after it
   spliced : sets old (at + gap) (take count (drop (at + gap) new)) ≡ (take (at + gap) old ++ take count (drop (at + gap) new)) ++ drop (at + gap + count) old

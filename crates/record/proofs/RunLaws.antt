@@ -3,10 +3,11 @@ use Prim.Native.Nat.{ℕ, _+_, _≤_}
 use native.Mathlib.Omega.{arith}
 use mathlib.Core.List.{List, _++_}
 use mathlib.Core.Path.{_≡_, _∙_}
-use lib.ListN.{length, take, drop, length-append, length-drop}
-use lib.Seq.{sets, length-take-le}
+use lib.ListN.{length, take, drop, length-append}
+use lib.Seq.{sets}
 use Rattle.laws.specs.Put.{Put}
 use Rattle.laws.proofs.PutLaws.{put-is, put-then}
+use Rattle.laws.proofs.StoreLaws.{length-part}
 use Rattle.number.specs.Number.{writeNumber}
 use Rattle.runs.specs.Runs.{Run, runsOf}
 use Rattle.runs.proofs.NextLaws.{RunAhead, ahead-length}
@@ -22,7 +23,7 @@ pub run-put : (gap start count : ℕ) (old : List ℕ) {out out₁ out₂ out₃
     → out₃ ≡ sets out₂ q (take count (drop start old)) → Put out at (runBytes (record { gap = gap; bytes = take count (drop start old) })) out₃ (q + count)
 unfolding runBytes
 run-put gap start count old h u v e =
-    let l : length (take count (drop start old)) ≡ count = length-take-le count (drop start old) (omega (arith, length-drop start old)) in
+    let l : length (take count (drop start old)) ≡ count = length-part old start count (omega arith) in
     rw l (put-then (put-then u v) (put-is (omega (arith, l)) e))
 
 -- the next run, in the numbers that the runs come to

@@ -51,21 +51,13 @@ module _ (bytes shown : List ℕ) (frame next : ℕ) where
   bad-record e = simp e
 
   -- 62
-  belongs-not : (p : Past) (a b c d : Bool) → pick a (pick b (pick c d false) false) false ≡ false
-      → (need a 62 >>= λ _. need b 62 >>= λ _. need c 62 >>= λ _. need d 62 >>= λ _. ok p) ≡ fault 62
-  belongs-not p true true true false e = refl
-  belongs-not p true true false d e = refl
-  belongs-not p true false c d e = refl
-  belongs-not p false b c d e = refl
-  belongs-not p true true true true e = let z : _≡_ {A = ℕ} 0 1 = cc in absurd (omega arith)
-
-  belongs-all : (p : Past) (a b c d : Bool) → pick a (pick b (pick c d false) false) false ≡ true
-      → (need a 62 >>= λ _. need b 62 >>= λ _. need c 62 >>= λ _. need d 62 >>= λ _. ok p) ≡ ok p
-  belongs-all p true true true true e = refl
-  belongs-all p true true true false e = let z : _≡_ {A = ℕ} 0 1 = cc in absurd (omega arith)
-  belongs-all p true true false d e = let z : _≡_ {A = ℕ} 0 1 = cc in absurd (omega arith)
-  belongs-all p true false c d e = let z : _≡_ {A = ℕ} 0 1 = cc in absurd (omega arith)
-  belongs-all p false b c d e = let z : _≡_ {A = ℕ} 0 1 = cc in absurd (omega arith)
+  belongs : (p : Past) (a b c d : Bool)
+      → (need a 62 >>= λ _. need b 62 >>= λ _. need c 62 >>= λ _. need d 62 >>= λ _. ok p) ≡ pick (pick a (pick b (pick c d false) false) false) (ok p) (fault 62)
+  belongs p true true true true = refl
+  belongs p true true true false = refl
+  belongs p true true false d = refl
+  belongs p true false c d = refl
+  belongs p false b c d = refl
 
   module _ (reached place list : ℕ) (h : pastOf bytes shown ≡ pastFrom reached place (beforeOf (drop list bytes) shown)) {shown′ : List ℕ} where
     pub bad-runs : Stopped false shown (readList (length shown) (drop list bytes)) shown′ → restored bytes shown frame next ≡ fault 61
@@ -84,7 +76,7 @@ module _ (bytes shown : List ℕ) (frame next : ℕ) where
 
         pub not-its-own : belonging reached place frame next ≡ false → restored bytes shown frame next ≡ fault 62
         unfolding restored
-        not-its-own b = simp whole (belongs-not _ (leb 2 reached) (eqb reached frame) (leb 12 place) (ltb place next) b)
+        not-its-own b = simp whole (belongs _ (leb 2 reached) (eqb reached frame) (leb 12 place) (ltb place next) ∙ rw b)
 
         pub leads-to : belonging reached place frame next ≡ true → LeadsTo bytes shown frame next place list
         unfolding restored
@@ -93,7 +85,7 @@ module _ (bytes shown : List ℕ) (frame next : ℕ) where
           runs = w .runs;
           rest = drop end bytes;
           read = w .read;
-          is = simp whole (belongs-all _ (leb 2 reached) (eqb reached frame) (leb 12 place) (ltb place next) b);
+          is = simp whole (belongs _ (leb 2 reached) (eqb reached frame) (leb 12 place) (ltb place next) ∙ rw b);
         }
 
   -- what restoring answers, and the picture that it leaves

@@ -1,15 +1,15 @@
 -- Laws of taking runs, one after the other: those that were read so far, with those that are left to read, come to the whole list.
 use Prim.Native.Nat.{ℕ, suc, _+_, _-_, _<_, _≤_}
 use native.Mathlib.Omega.{arith}
-use mathlib.Core.Bool.{Bool, true, false, _&&_}
+use mathlib.Core.Bool.{Bool, true, false, and-true}
 use mathlib.Core.List.{List, [], _∷_, _++_, append-assoc, append-nil}
 use mathlib.Core.Option.{Option, none, some}
 use mathlib.Core.Path.{_≡_, refl, sym, ap, _∙_}
-use lib.ListN.{length, take, drop, length-drop}
-use lib.Seq.{drop-drop, length-take-le, sets}
+use lib.ListN.{length, take, drop}
+use lib.Seq.{drop-drop, sets}
 use Rattle.laws.specs.Result.{_>>?_, pick}
-use Rattle.laws.proofs.ResultLaws.{false-true}
-use Rattle.laws.proofs.StoreLaws.{wanted-length}
+use Rattle.laws.proofs.ResultLaws.{false-true, pick-both}
+use Rattle.laws.proofs.StoreLaws.{wanted-length, length-part}
 use Rattle.number.specs.Number.{readNumber}
 use Rattle.number.proofs.NumberLaws.{Found}
 use Rattle.runs.specs.Runs.{Run, differ, allDiffer, patch}
@@ -68,11 +68,7 @@ pub take-starts : (putting : Bool) {bytes f : List ℕ} {from count : ℕ} → T
 unfolding reach allDiffer
 take-starts putting {f = f} =
     let z : length f - 0 ≡ length f = omega arith in
-    record { runs = []; reached = refl; size = refl; inside = omega arith; same = rw z (front-none _); good = λ e. refl; buffer = go putting }
-  where
-    go : (t : Bool) → f ≡ pick t (patch [] f) f
-    go true = unfold patch in refl
-    go false = refl
+    record { runs = []; reached = refl; size = refl; inside = omega arith; same = rw z (front-none _); good = λ e. refl; buffer = pick-both (λ (g : List ℕ). f ≡ g) putting (unfold patch in refl) refl }
 
 module _ {putting : Bool} {bytes f₀ f : List ℕ} {whole : Option Runs} {at place least left : ℕ} (w : Taking putting bytes f₀ whole f at place least left) where
   pub take-ends : left ≡ 0 → Walked putting f₀ whole (drop at bytes) f
@@ -99,7 +95,7 @@ module _ {putting : Bool} {bytes f₀ f : List ℕ} {whole : Option Runs} {at pl
 
       old-length : length old ≡ n
       unfolding old
-      old-length = length-take-le n (drop start bytes) (omega (arith, length-drop start bytes, a .inside))
+      old-length = length-part bytes start n (omega (arith, a .inside))
 
       next-in : place + gap + n ≤ length f₀
       next-in = omega (arith, a .fits, w .size, w .inside)
@@ -118,10 +114,6 @@ module _ {putting : Bool} {bytes f₀ f : List ℕ} {whole : Option Runs} {at pl
       next-differ : putting ≡ false → allDiffer (w .runs ++ (next ∷ [])) f₀ ≡ differ old (drop (place + gap) f₀)
       unfolding allDiffer old next
       next-differ p = differ-append (w .runs) (next ∷ []) f₀ ∙ rw (w .good p, ← (w .reached), drop-drop gap place f₀) (and-true _)
-        where
-          and-true : (t : Bool) → (t && true) ≡ t
-          and-true true = refl
-          and-true false = refl
 
       module _ {r : Bool} {f′ : List ℕ} (t : RunTaken putting (take n (drop start bytes)) (place + gap) f f′ r) where
         differs-so : putting ≡ false → r ≡ differ (take n (drop start bytes)) (drop (place + gap) f₀)

@@ -1,14 +1,13 @@
 -- Demand 2's last sentence, of calls: where `writer::write` met its contract and there was room, the delta that it wrote, applied to the old
 -- picture by a `delta::apply` that met its contract, gives the new one; and no Uniq or Same of none is in it.
 use Prim.Native.Nat.{ℕ, _≤_}
-use native.Mathlib.Omega.{arith}
 use mathlib.Core.List.{List}
 use mathlib.Core.Path.{_≡_, refl, ap, _∙_}
 use lib.ListN.{length, take}
 use borrow.Author.Tests.{eq-eqb, le-leb}
 use Rattle.laws.specs.Every.{Every}
-use Rattle.laws.specs.Result.{Res, Res.ok, Res.fault, _>>=_, answer, orKeep}
-use Rattle.laws.proofs.ResultLaws.{each-is}
+use Rattle.laws.specs.Result.{Res, Res.ok, answer, orKeep}
+use Rattle.laws.proofs.ResultLaws.{each-is, made-of}
 use Rattle.state.specs.declared.Sizes.{Sizes}
 use Rattle.state.specs.State.{frameLength}
 use Rattle.state.proofs.StateLaws.{sizes-sound}
@@ -32,12 +31,9 @@ written-fits z old new out x out′ m e w h =
 module _ (z : Sizes) (old new out : List ℕ) (n : ℕ) (out′ : List ℕ) (m : Writes z old new out (ok n) out′) where
   -- the ops of the first n bytes of the output buffer make the new picture of the old one
   pub delta-makes : (ops : List Op) × (readDelta (shapeOf z Bytes) (take n out′) ≡ ok ops) × (draw (shapeOf z Bytes) (take n out′) ops old ≡ new)
-  delta-makes = rw (delta-stands z old new out n out′ m) (go (readDelta (shapeOf z Bytes) (deltaBytes z old new)) refl (delta-turns z (length old) old new (each-is (delta-written z old new out n out′ m .sizes) (sizes-sound z)) refl (delta-written z old new out n out′ m .same)))
-    where
-      go : (q : Res (List Op)) → readDelta (shapeOf z Bytes) (deltaBytes z old new) ≡ q → (q >>= λ ops. ok (draw (shapeOf z Bytes) (deltaBytes z old new) ops old)) ≡ ok new
-          → (ops : List Op) × (readDelta (shapeOf z Bytes) (deltaBytes z old new) ≡ ok ops) × (draw (shapeOf z Bytes) (deltaBytes z old new) ops old ≡ new)
-      go (ok ops) e k = (ops, e, cc)
-      go (fault j) e k = let y : _≡_ {A = ℕ} 0 1 = cc in absurd (omega arith)
+  delta-makes =
+      rw (delta-stands z old new out n out′ m)
+      (made-of (readDelta (shapeOf z Bytes) (deltaBytes z old new)) (delta-turns z (length old) old new (each-is (delta-written z old new out n out′ m .sizes) (sizes-sound z)) refl (delta-written z old new out n out′ m .same)))
 
   -- and so does a call that applies them to the old one
   pub applied-new : (work : List ℕ) (x : Res ℕ) (work′ : List ℕ) → length work ≡ length old → Applies z Bytes (take n out′) old work x work′ → (answer x ≡ ok tt) × (work′ ≡ new)

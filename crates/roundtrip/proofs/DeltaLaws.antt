@@ -8,8 +8,9 @@ use mathlib.Core.Path.{_≡_, refl, sym, ap, _∙_}
 use lib.Dec.{ltb, eqb}
 use lib.ListN.{length, getD, take, drop, replicate, length-append, length-replicate}
 use lib.Seq.{ext-getD, getD-take, getD-drop, getD-append-seam, getD-append-add, drop-at}
-use borrow.Author.Tests.{le-leb, eq-eqb, ne-eqb, ltb-true, ltb-false, eqb-true}
+use borrow.Author.Tests.{le-leb, ltb-true, ltb-false, eqb-true}
 use Rattle.laws.specs.Result.{Res.ok}
+use Rattle.laws.proofs.ResultLaws.{never}
 use Rattle.laws.specs.Bytes.{be32}
 use Rattle.laws.proofs.BytesLaws.{four-bytes}
 use Rattle.laws.specs.Every.{Every.every-none}
@@ -18,13 +19,15 @@ use Rattle.state.specs.State.{rowBytes, frameBytes, Sound}
 use Rattle.column_writer.specs.Column.{columnBytes}
 use Rattle.writer.proofs.DeltaRoom.{lists-few}
 use Rattle.writer.specs.Write.{columnIn, columnsBytes, equal, planeBytes, be32Bytes, pointerOf, pointersBytes, listsBytes, deltaBytes}
-use Rattle.writer.proofs.PlaneLaws.{length-be32, pointers-length}
+use Rattle.writer.proofs.PlaneLaws.{length-be32, pointers-length, plane-unchanged, plane-changed}
+use Rattle.writer.proofs.ColumnLaws.{column-ext}
+use Rattle.delta.proofs.DeltaLaws.{plane-same, plane-columns}
 use Rattle.delta.specs.Reading.{Op, Reading, shapeOf}
 use Rattle.delta.specs.Column.{readColumns}
 use Rattle.delta.specs.Delta.{pointer, readPlane, readPlanes, readPicture, readDelta, draw}
 use Rattle.anhd.specs.declared.Items.the-variants.{Bytes}
 use Rattle.roundtrip.proofs.ColumnLaws.{bytewise, Makes}
-use Rattle.roundtrip.proofs.PlaneLaws.{paint, length-paint, paint-out, paint-in, columnAt-rows, columns-are}
+use Rattle.roundtrip.proofs.PlaneLaws.{paint, length-paint, paint-out, paint-in, columns-are}
 
 -- a frame that is the new one before a place and the old one from there on
 record Half (f old new : List ℕ) (at : ℕ) : Type 0 where
@@ -69,13 +72,13 @@ module _ (row height : ℕ) (s1 : 1 ≤ row) (old new : List ℕ) where
 equal-eq : (s t : List ℕ) → equal s t ≡ true → s ≡ t
 unfolding equal
 equal-eq [] [] e = refl
-equal-eq [] (b ∷ t) e = let z : _≡_ {A = ℕ} 0 1 = cc in absurd (omega arith)
-equal-eq (a ∷ s) [] e = let z : _≡_ {A = ℕ} 0 1 = cc in absurd (omega arith)
+equal-eq [] (b ∷ t) e = never (cc)
+equal-eq (a ∷ s) [] e = never (cc)
 equal-eq (a ∷ s) (b ∷ t) e = go (eqb a b) refl e (equal-eq s t)
   where
     go : (u : Bool) → eqb a b ≡ u → (elim u as (λ _. Bool) [ true ↦ equal s t | false ↦ false ]) ≡ true → (equal s t ≡ true → s ≡ t) → a ∷ s ≡ b ∷ t
     go true q e ih = rw (eqb-true a b q, ih e)
-    go false q e ih = let z : _≡_ {A = ℕ} 0 1 = cc in absurd (omega arith)
+    go false q e ih = never (cc)
 
 -- a number in four bytes is read back
 be32-at : (xs ys : List ℕ) (n p : ℕ) → length xs ≡ p → n < 4294967296 → be32 (xs ++ (be32Bytes n ++ ys)) p ≡ n
@@ -91,16 +94,12 @@ pointer-le place [] = omega arith
 pointer-le place (b ∷ l) = omega arith
 
 -- one plane, by its pointer
-plane-none : (row height planes : ℕ) (d : List ℕ) (p : ℕ) (c : Reading) → be32 d (4 * p) ≡ 0 → readPlane (bytewise row height planes) d p c ≡ ok c
-unfolding readPlane
-plane-none row height planes d p c e = rw (eq-eqb (be32 d (4 * p)) 0 e)
-
 plane-some : (row height planes : ℕ) (d : List ℕ) (p a : ℕ) (c to : Reading) → be32 d (4 * p) ≡ a → 64 ≤ a → a ≤ length d
     → (at : ℕ) → at ≡ p * (height * row) → readColumns (bytewise row height planes) d row at (record { opAt = a; itemAt = 0; line = 0; ops = c .ops }) ≡ ok to
     → readPlane (bytewise row height planes) d p c ≡ ok to
-unfolding readPlane pointer
+unfolding pointer
 plane-some row height planes d p a c to e h k at ea r =
-    rw (e, ne-eqb a 0 (λ z. omega arith), div-one row, ← ea) (simp (le-leb 64 a h, le-leb a (length d) k, r))
+    plane-columns (bytewise row height planes) d p c (λ z. omega arith) {a = a} {b = 0} (rw e (simp (le-leb 64 a h, le-leb a (length d) k))) refl refl ∙ rw (div-one row, ← ea) r
 
 module _ (row height planes : ℕ) (s1 : 1 ≤ row) (d first old new : List ℕ) where
   -- the pointers and the lists of k planes, from plane p on
@@ -110,14 +109,6 @@ module _ (row height planes : ℕ) (s1 : 1 ≤ row) (d first old new : List ℕ)
       (be32 d (4 * p) ≡ pointerOf place (planeBytes old new row height at)) × (64 ≤ place) × (place ≤ length d)
       × (s : List ℕ) × (drop place d ≡ planeBytes old new row height at ++ s)
       × Layout k (p + 1) (at + height * row) (place + length (planeBytes old new row height at))
-
-  planeBytes-equal : (at : ℕ) → equal (take (height * row) (drop at old)) (take (height * row) (drop at new)) ≡ true → planeBytes old new row height at ≡ []
-  unfolding planeBytes
-  planeBytes-equal at q = rw (q, planeBytes)
-
-  planeBytes-new : (at : ℕ) → equal (take (height * row) (drop at old)) (take (height * row) (drop at new)) ≡ false → planeBytes old new row height at ≡ columnsBytes old new row height row at
-  unfolding planeBytes
-  planeBytes-new at q = rw (q, planeBytes)
 
   -- a reading whose ops so far make the new frame before a place and the old one from there on
   record Made (c : Reading) (at : ℕ) : Type 0 where
@@ -144,7 +135,7 @@ module _ (row height planes : ℕ) (s1 : 1 ≤ row) (d first old new : List ℕ)
       same-plane : planeBytes old new row height at ≡ [] → take (height * row) (drop at old) ≡ take (height * row) (drop at new) → Done p at c
       same-plane q u = record {
         to = c;
-        reads = plane-none row height planes d p c (eb ∙ rw q (unfold pointerOf in refl));
+        reads = plane-same (bytewise row height planes) d p c (eb ∙ rw q (unfold pointerOf in refl));
         made = record { frame = m .frame; makes = m .makes; half = half-equal row height s1 old new at (m .frame) u (m .half) };
       }
 
@@ -152,7 +143,7 @@ module _ (row height planes : ℕ) (s1 : 1 ≤ row) (d first old new : List ℕ)
       new-plane q =
           let start : Reading = record { opAt = place; itemAt = 0; line = 0; ops = c .ops } in
           let g = columns-are row height planes s1 d first old new row at place start (m .frame) s (omega arith) (record { op = refl; makes = m .makes })
-          (λ i k. columnAt-rows (m .frame) old row (at + i) height (λ r y. m .half .after (at + i + r * row) (omega arith))) (rw q at e) in
+          (λ i k. column-ext (m .frame) old row (at + i) height (λ r y. m .half .after (at + i + r * row) (omega arith))) (rw q at e) in
           record {
             to = g .to;
             reads = plane-some row height planes d p place c (g .to) (eb ∙ rw q (some-bytes row at s1 place)) h1 h2 at ea (g .reads);
@@ -160,8 +151,8 @@ module _ (row height planes : ℕ) (s1 : 1 ≤ row) (d first old new : List ℕ)
           }
 
       go : (t : Bool) → equal (take (height * row) (drop at old)) (take (height * row) (drop at new)) ≡ t → Done p at c
-      go true q = same-plane (planeBytes-equal at q) (equal-eq _ _ q)
-      go false q = new-plane (planeBytes-new at q)
+      go true q = same-plane (plane-unchanged old new row height at refl q) (equal-eq _ _ q)
+      go false q = new-plane (plane-changed old new row height at refl q)
 
   -- all planes
   record Whole (k p : ℕ) (c : Reading) : Type 0 where

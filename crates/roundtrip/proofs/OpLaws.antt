@@ -5,13 +5,13 @@ use native.Mathlib.Omega.{arith}
 use mathlib.Core.Bool.{Bool, true, false}
 use mathlib.Core.List.{List, [], _∷_, _++_, append-assoc, append-nil}
 use mathlib.Core.Path.{_≡_, refl, sym, ap, _∙_}
-use lib.Dec.{leb, eqb}
+use lib.Dec.{leb}
 use lib.ListN.{length, take, drop, replicate, length-append, length-drop, length-replicate, replicate-append-replicate, take-append-drop}
 use lib.Seq.{take-add, drop-drop, drop-length}
-use borrow.Author.Tests.{eqb-true}
 use Rattle.runs.specs.Runs.{Run, runsOf, patch, Fit}
 use Rattle.runs.proofs.PatchLaws.{patch-runs, fit-new}
-use Rattle.column_writer.specs.Column.{Op, Op.skip, Op.uniq, Op.same, Group, join, groupsOf, loose, stretch, restOf, uniqs, cut, cutAll, opsOf, columnOps}
+use Rattle.column_writer.specs.Column.{Op, Op.skip, Op.uniq, Op.same, Group, groupsOf, loose, stretch, restOf, uniqs, cut, cutAll, opsOf, columnOps}
+use Rattle.column_writer.proofs.ColumnLaws.{flat, flat-groups, column-case}
 
 -- what an op makes of the rows that it passes, and how many these are
 abbrev pub reach : Op → ℕ
@@ -123,24 +123,6 @@ cut-all-alike [] = alike-refl []
 cut-all-alike (o ∷ os) = alike-append (cut-alike o) (cut-all-alike os)
 
 -- a stretch puts its rows
-flat : List Group → List ℕ
-flat [] = []
-flat (g ∷ gs) = replicate (g .rows) (g .value) ++ flat gs
-
-flat-join : (v : ℕ) (gs : List Group) → flat (join v gs) ≡ v ∷ flat gs
-unfolding flat join
-flat-join v [] = refl
-flat-join v (g ∷ gs) = go (eqb v (g .value)) refl
-  where
-    go : (t : Bool) → eqb v (g .value) ≡ t → flat (join v (g ∷ gs)) ≡ v ∷ (replicate (g .rows) (g .value) ++ flat gs)
-    go true e = rw (e, join) (ap (λ (x : ℕ). x ∷ (replicate (g .rows) (g .value) ++ flat gs)) (sym (eqb-true v (g .value) e)))
-    go false e = rw (e, join)
-
-flat-groups : (vs : List ℕ) → flat (groupsOf vs) ≡ vs
-unfolding flat groupsOf
-flat-groups [] = refl
-flat-groups (v ∷ vs) = flat-join v (groupsOf vs) ∙ ap (λ (l : List ℕ). v ∷ l) (flat-groups vs)
-
 loose-alike : (vs : List ℕ) (os : List Op) → Alike (loose vs os) (uniq vs ∷ os)
 unfolding loose
 loose-alike vs [] = alike-refl (uniq vs ∷ [])
@@ -207,12 +189,7 @@ uniqs-column old new h = alike-column (uniqs-alike (length new) new (omega arith
 
 -- the ops of a column make the new one of the old one
 pub column-new : (old new : List ℕ) → length old ≡ length new → column (columnOps old new) old ≡ new
-unfolding columnOps
-column-new old new h = go (leb (length (opsOf (runsOf new old))) 255) refl
-  where
-    go : (t : Bool) → leb (length (opsOf (runsOf new old))) 255 ≡ t → column (columnOps old new) old ≡ new
-    go true e = rw (e, columnOps) (ops-patch (runsOf new old) old ∙ patch-runs new old (sym h))
-    go false e = rw (e, columnOps) (uniqs-column old new h)
+column-new old new h = column-case (λ (os : List Op). column os old ≡ new) old new (ops-patch (runsOf new old) old ∙ patch-runs new old (sym h)) (uniqs-column old new h)
 
 -- the ops end within the column
 reach-ops : (rs : List Run) (least room : ℕ) → Fit least room rs → reachAll (opsOf rs) ≤ room
@@ -223,12 +200,6 @@ reach-ops (r ∷ rs) least room f =
     omega (arith, run-alike r rs .far, e, reach-ops rs 1 (room - (r .gap + length (r .bytes))) (f .3), f .2)
 
 pub reach-column : (old new : List ℕ) → length old ≡ length new → reachAll (columnOps old new) ≤ length old
-unfolding columnOps
-reach-column old new h = go (leb (length (opsOf (runsOf new old))) 255) refl
-  where
-    all : reachAll (uniqs (length new) new) ≡ length new + 0
-    all = uniqs-alike (length new) new (omega arith) .far ∙ unfold reachAll in refl
-
-    go : (t : Bool) → leb (length (opsOf (runsOf new old))) 255 ≡ t → reachAll (columnOps old new) ≤ length old
-    go true e = rw (e, columnOps) (reach-ops (runsOf new old) 0 (length old) (fit-new new old))
-    go false e = rw (e, columnOps) (omega (arith, all))
+reach-column old new h =
+    let all : reachAll (uniqs (length new) new) ≡ length new + 0 = uniqs-alike (length new) new (omega arith) .far ∙ unfold reachAll in refl in
+    column-case (λ (os : List Op). reachAll os ≤ length old) old new (reach-ops (runsOf new old) 0 (length old) (fit-new new old)) (omega arith)

@@ -8,17 +8,18 @@ use mathlib.Core.List.{List, [], _∷_, _++_, append-assoc}
 use mathlib.Core.Path.{_≡_, refl, sym, ap, _∙_}
 use lib.Dec.{ltb}
 use lib.ListN.{length, getD, take, drop, set, length-append, length-drop, length-set}
-use lib.Seq.{getD-set-other, getD-set-same, drop-drop, drop-append-seam, take-all}
+use lib.Seq.{getD-set-same, drop-drop, drop-append-seam, take-all}
 use borrow.Author.Tests.{ltb-true, ltb-false}
 use Rattle.laws.specs.Result.{Res, Res.ok}
 use Rattle.column_writer.specs.Column.{Op, columnOps, opsBytes, columnBytes}
 use Rattle.column_writer.proofs.ValidColumn.{valid-column}
 use Rattle.writer.specs.Write.{columnAt, columnIn, columnsBytes}
-use Rattle.delta.specs.Reading.{Reading, byteAt}
-use Rattle.delta.specs.Column.{readOps, readColumn, readColumns}
-use Rattle.writer.proofs.ColumnLaws.{length-column}
+use Rattle.delta.specs.Reading.{Reading}
+use Rattle.delta.specs.Column.{readColumn, readColumns}
+use Rattle.delta.proofs.DeltaLaws.{column-ops}
+use Rattle.writer.proofs.ColumnLaws.{length-column, getD-column, column-ext}
 use Rattle.roundtrip.proofs.OpLaws.{reachAll, passedAll, reach-column, column, column-new}
-use Rattle.roundtrip.proofs.ColumnLaws.{putColumn, length-putColumn, put-kept, length-passedAll, Head, head, byte-is, bytewise, Makes, col, At, ops-are}
+use Rattle.roundtrip.proofs.ColumnLaws.{putColumn, length-putColumn, getD-put-other, put-kept, length-passedAll, Head, head, bytewise, Makes, col, At, ops-are}
 
 -- the new column, put at once
 put-new : (row height : ℕ) → 1 ≤ row → (f new : List ℕ) (base : ℕ) (os : List Op)
@@ -36,44 +37,15 @@ put-new row height s1 f new base os h e =
     ∙ rw (t, e)
 
 -- where a column puts its values
-getD-put-before : (f : List ℕ) (row at : ℕ) (vs : List ℕ) (j : ℕ) → j < at → getD (putColumn f row at vs) j 0 ≡ getD f j 0
-unfolding putColumn
-getD-put-before f row at [] j h = refl
-getD-put-before f row at (v ∷ vs) j h = getD-put-before (set f at v) row (at + row) vs j (omega arith) ∙ getD-set-other f at j v 0 (λ e. omega arith)
-
 getD-put-in : (f : List ℕ) (row at : ℕ) (vs : List ℕ) (r : ℕ) → 1 ≤ row → r < length vs → at + r * row < length f → getD (putColumn f row at vs) (at + r * row) 0 ≡ getD vs r 0
 unfolding putColumn
 getD-put-in f row at [] r s h k = absurd (omega arith)
 getD-put-in f row at (v ∷ vs) zero s h k =
     let e : at + 0 * row ≡ at = omega arith in
-    rw e (getD-put-before (set f at v) row (at + row) vs at (omega arith) ∙ getD-set-same f at v 0 (omega arith))
+    rw e (getD-put-other (set f at v) row (at + row) vs at (λ i l q. omega arith) ∙ getD-set-same f at v 0 (omega arith))
 getD-put-in f row at (v ∷ vs) (suc r) s h k =
     let e : at + suc r * row ≡ at + row + r * row = omega arith in
     rw e (getD-put-in (set f at v) row (at + row) vs r s (omega arith) (omega (arith, length-set f at v)))
-
-getD-put-other : (f : List ℕ) (row at : ℕ) (vs : List ℕ) (j : ℕ) → ((i : ℕ) → i < length vs → j ≡ at + i * row → ⊥) → getD (putColumn f row at vs) j 0 ≡ getD f j 0
-unfolding putColumn
-getD-put-other f row at [] j h = refl
-getD-put-other f row at (v ∷ vs) j h =
-    getD-put-other (set f at v) row (at + row) vs j (λ i k e. h (suc i) (omega arith) (omega arith))
-    ∙ getD-set-other f at j v 0 (λ e. h 0 (omega arith) (omega arith))
-
-getD-columnAt : (f : List ℕ) (row at n r : ℕ) → r < n → getD (columnAt f row at n) r 0 ≡ getD f (at + r * row) 0
-unfolding columnAt
-getD-columnAt f row at zero r h = absurd (omega arith)
-getD-columnAt f row at (suc n) zero h = let e : at + 0 * row ≡ at = omega arith in rw e
-getD-columnAt f row at (suc n) (suc r) h =
-    let e : at + suc r * row ≡ at + row + r * row = omega arith in
-    rw e (getD-columnAt f row (at + row) n r (omega arith))
-
-pub columnAt-rows : (f g : List ℕ) (row at n : ℕ) → ((r : ℕ) → r < n → getD f (at + r * row) 0 ≡ getD g (at + r * row) 0) → columnAt f row at n ≡ columnAt g row at n
-unfolding columnAt
-columnAt-rows f g row at zero h = refl
-columnAt-rows f g row at (suc n) h =
-    let e : at + 0 * row ≡ at = omega arith in
-    let z : getD f at 0 ≡ getD g at 0 = rw e at (h 0 (omega arith)) in
-    rw z (ap (λ (l : List ℕ). getD g at 0 ∷ l) (columnAt-rows f g row (at + row) n (λ r k.
-    let x : at + suc r * row ≡ at + row + r * row = omega arith in rw x at (h (suc r) (omega arith)))))
 
 -- two columns of one plane share no place
 apart : (row e r i : ℕ) → 0 < e → e < row → e + r * row ≡ i * row → ⊥
@@ -110,7 +82,7 @@ paint-in new row height (suc k) at f ks s zero r x y l =
     rw e (
     paint-out new row height k (at + 1) (putColumn f row at (columnAt new row at height)) (at + r * row) (λ c i u v z. apart row (suc c) i r (omega arith) (omega arith) (omega arith))
     ∙ getD-put-in f row at (columnAt new row at height) r s (omega (arith, length-column new row at height)) (omega arith)
-    ∙ getD-columnAt new row at height r y)
+    ∙ getD-column new row at height r y)
 paint-in new row height (suc k) at f ks s (suc c) r x y l =
     let e : at + suc c + r * row ≡ at + 1 + c + r * row = omega arith in
     rw e (paint-in new row height k (at + 1) (putColumn f row at (columnAt new row at height)) (omega arith) s c r (omega arith) y (omega (arith, length-putColumn f row at (columnAt new row at height))))
@@ -127,12 +99,6 @@ module _ (row height planes : ℕ) (s1 : 1 ≤ row) (d first old new : List ℕ)
     pub reads : r ≡ ok to
     pub stands : Stands to p f
 
-  column-reads : (at n : ℕ) (c to : Reading) → byteAt d (c .opAt) ≡ ok n
-      → readOps (bytewise row height planes) d at n (record { opAt = c .opAt + 1; itemAt = c .itemAt; line = 0; ops = c .ops }) ≡ ok to
-      → readColumn (bytewise row height planes) d at c ≡ ok to
-  unfolding readColumn
-  column-reads at n c to e q = rw e q
-
   column-is : (at p : ℕ) (c : Reading) (f s : List ℕ) → Stands c p f → columnAt f row at height ≡ columnAt old row at height
       → drop p d ≡ columnIn old new row height at ++ s
       → Painted (readColumn (bytewise row height planes) d at c) (p + length (columnIn old new row height at)) (putColumn f row at (columnAt new row at height))
@@ -144,13 +110,14 @@ module _ (row height planes : ℕ) (s1 : 1 ≤ row) (d first old new : List ℕ)
       let lo : length oc ≡ height = length-column old row at height in
       let ln : length nc ≡ height = length-column new row at height in
       let hd : Head d p (length os) (opsBytes os ++ s) = head d p (length os) (opsBytes os ++ s) e in
+      let b : getD d (c .opAt) 0 ≡ length os = rw (w .op) (hd .is) in
       let far : reachAll os ≤ height = omega (arith, reach-column oc nc (lo ∙ sym ln)) in
       let start : At row height planes s1 d first at f (record { opAt = c .opAt + 1; itemAt = c .itemAt; line = 0; ops = c .ops }) (p + 1) [] =
       record { op = rw (w .op); line = refl; makes = w .makes } in
       let g = ops-are row height planes s1 d first at f os (record { opAt = c .opAt + 1; itemAt = c .itemAt; line = 0; ops = c .ops }) (p + 1) [] s start (valid-column oc nc) (omega arith) (rw (add-one p) (hd .after)) in
       record {
         to = g .to;
-        reads = column-reads at (length os) c (g .to) (rw (w .op) (byte-is d p (length os) (opsBytes os ++ s) hd)) (g .reads);
+        reads = column-ops (bytewise row height planes) d at c (rw (w .op) (hd .within)) ∙ rw b (g .reads);
         stands = record {
           op = g .at .op ∙ omega arith;
           makes = rw (put-new row height s1 f new at os far (rw a (column-new oc nc (lo ∙ sym ln)))) at (g .at .makes);
@@ -173,7 +140,7 @@ module _ (row height planes : ℕ) (s1 : 1 ≤ row) (d first old new : List ℕ)
       let after : drop (p + length C) d ≡ R ++ s = sym (drop-drop (length C) p d) ∙ ap (λ (x : List ℕ). drop (length C) x) e′ ∙ drop-append-seam C (R ++ s) in
       let h = columns-are k (at + 1) (p + length C) (g .to) (putColumn f row at nc) s (omega arith) (g .stands) (λ i u.
       let x : at + 1 + i ≡ at + suc i = omega arith in
-      rw x (columnAt-rows (putColumn f row at nc) f row (at + suc i) height (λ r v. getD-put-other f row at nc (at + suc i + r * row) (λ m y b. apart row (suc i) r m (omega arith) (omega arith) (omega arith))) ∙ a (suc i) (omega arith))) after in
+      rw x (column-ext (putColumn f row at nc) f row (at + suc i) height (λ r v. getD-put-other f row at nc (at + suc i + r * row) (λ m y b. apart row (suc i) r m (omega arith) (omega arith) (omega arith))) ∙ a (suc i) (omega arith))) after in
       record {
         to = h .to;
         reads = rw (g .reads) (h .reads);

@@ -2,7 +2,7 @@
 use Prim.Native.Nat.{ℕ, _+_, _≤_}
 use native.Mathlib.Nat.{zero-add}
 use native.Mathlib.Omega.{arith}
-use mathlib.Core.Bool.{Bool, true, false, _&&_}
+use mathlib.Core.Bool.{_&&_, and-assoc}
 use mathlib.Core.List.{List, [], _∷_, _++_}
 use mathlib.Core.Path.{_≡_, refl, sym, ap, _∙_}
 use lib.ListN.{length, take, drop, length-append, length-drop}
@@ -20,16 +20,12 @@ unfolding reach
 reach-more [] r = omega arith
 reach-more (s ∷ rs) r = omega (arith, reach-more rs r)
 
-and-assoc : (t y z : Bool) {x : Bool} → x ≡ (y && z) → (t && x) ≡ ((t && y) && z)
-and-assoc true y z e = e
-and-assoc false y z e = refl
-
 pub differ-append : (rs ms : List Run) (f : List ℕ) → allDiffer (rs ++ ms) f ≡ (allDiffer rs f && allDiffer ms (drop (reach rs) f))
 unfolding allDiffer reach
 differ-append [] ms f = refl
 differ-append (r ∷ rs) ms f =
     let rest = drop (r .gap + length (r .bytes)) f in
-    and-assoc (differ (r .bytes) (drop (r .gap) f)) (allDiffer rs rest) _ (differ-append rs ms rest ∙ rw (drop-drop (reach rs) (r .gap + length (r .bytes)) f))
+    rw (differ-append rs ms rest, drop-drop (reach rs) (r .gap + length (r .bytes)) f) (sym (and-assoc (differ (r .bytes) (drop (r .gap) f)) _ _))
 
 pub patch-more : (rs : List Run) (r : Run) (f : List ℕ) → reach rs + (r .gap + length (r .bytes)) ≤ length f → patch (rs ++ (r ∷ [])) f ≡ sets (patch rs f) (reach rs + r .gap) (r .bytes)
 unfolding patch reach

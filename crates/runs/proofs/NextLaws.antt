@@ -9,9 +9,10 @@ use mathlib.Core.Option.{none, some}
 use mathlib.Core.Path.{_≡_, refl, sym, ap, _∙_}
 use lib.Dec.{leb, eqb}
 use lib.ListN.{length, take, drop, length-drop, drop-of-length-le}
-use lib.Seq.{drop-drop, length-take-le}
+use lib.Seq.{drop-drop}
 use borrow.Author.Tests.{eq-eqb, ne-eqb, eqb-true, eqb-false, leb-true, leb-false}
 use Rattle.laws.proofs.ResultLaws.{none-some, some-same}
+use Rattle.laws.proofs.StoreLaws.{length-part}
 use Rattle.runs.specs.Runs.{Run, kept, changed, runsOf, First, firstOf, nextRun}
 use Rattle.runs.specs.Stretch.{stretch}
 use Rattle.runs.proofs.RunLaws.{runs-kept, runs-changed}
@@ -25,7 +26,7 @@ pub record RunAhead (old new : List ℕ) (at gap count : ℕ) : Type 0 where
   pub inside : at + (gap + count) ≤ length old
 
 pub ahead-length : {old new : List ℕ} {at gap count : ℕ} → RunAhead old new at gap count → length (take count (drop (at + gap) old)) ≡ count
-ahead-length {old} {new} {at} {gap} {count} a = length-take-le count (drop (at + gap) old) (omega (arith, length-drop (at + gap) old, a .inside))
+ahead-length {old} {new} {at} {gap} {count} a = length-part old (at + gap) count (omega (arith, a .inside))
 
 -- equal bytes are the same in both
 stretch-same : (k : ℕ) (old new : List ℕ) → k ≤ stretch true old new → take k old ≡ take k new

@@ -9,12 +9,12 @@ use lib.Arith.{mod-mul, digits-mod}
 use lib.Bits.{bitXor, xor-self, xor-lt, xor-add-and, and-le-l, and-le-r}
 use lib.Count.{trailingZeros, trailing-le, under}
 use lib.Dec.{lit<, eqb}
-use lib.ListN.{length, take, drop, length-drop, take-append-drop}
+use lib.ListN.{length, take, drop, take-append-drop}
 use lib.Pow.{pow-pos}
-use lib.Seq.{length-take-le}
 use borrow.Author.Tests.{eqb-true, eqb-false}
 use Rattle.laws.specs.Bytes.{Bytes}
 use Rattle.laws.proofs.BytesLaws.{bytes-take, bytes-drop}
+use Rattle.laws.proofs.StoreLaws.{length-part}
 use Rattle.runs.specs.Stretch.{stretch, Scanned}
 use Rattle.runs.specs.Word.{wordOf, zeroBytes, Stop}
 use Rattle.runs.proofs.StretchLaws.{by-test, stretch-more, stretch-stop}
@@ -125,10 +125,10 @@ stops-length (stops f l h w) = ap suc (stops-length w)
 -- the words of eight bytes at a place of two buffers
 module _ (old new : List ℕ) (at : ℕ) (l : length old ≡ length new) (h : at + 8 ≤ length old) where
   eight-long : length (take 8 (drop at old)) ≡ 8
-  eight-long = length-take-le 8 (drop at old) (omega (arith, length-drop at old))
+  eight-long = length-part old at 8 (omega arith)
 
   same-long : length (take 8 (drop at old)) ≡ length (take 8 (drop at new))
-  same-long = eight-long ∙ sym (length-take-le 8 (drop at new) (omega (arith, length-drop at new)))
+  same-long = eight-long ∙ sym (length-part new at 8 (omega arith))
 
   told : {t : Bool} {ss : List ℕ} → Stops t (take 8 (drop at old)) (take 8 (drop at new)) ss → Stop t old new at (wordOf ss)
   told {t} {ss} w =

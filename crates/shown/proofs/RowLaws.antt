@@ -12,7 +12,7 @@ use Rattle.laws.specs.Result.{Res.ok, Res.fault, Each, Each.each}
 use Rattle.laws.proofs.ResultLaws.{each-bind, each-need, each-is}
 use Rattle.state.specs.declared.State.{State}
 use Rattle.state.specs.State.{rowBytes, frameBytes, lentLength, SoundState}
-use Rattle.state.proofs.StateLaws.{lent-sound}
+use Rattle.state.proofs.StateLaws.{lent-sound, row-inside}
 use Rattle.state.specs.World.{World, isOdd, shownIn}
 use Rattle.shown.specs.Row.{rowPlace, rowOf}
 
@@ -27,17 +27,13 @@ rows-within p h P m B i j =
     let l : m * B ≤ P * h * B = mul-le-mul-right B (omega (arith, j, k)) in
     omega (arith, l, mul-assoc P h B)
 
-row-within : (p h P r B : ℕ) → p < P → r < h → (p * h + r) * B + B ≤ P * (h * B)
-row-within p h P r B i j = omega (arith, rows-within p h P (suc (p * h + r)) B i (omega (arith, j, suc-mul p h)), suc-mul (p * h + r) B)
-
 pub row-lies : (s : State) (a b plane row : ℕ) → Each (Lies s a b) (rowPlace s a b plane row)
-unfolding rowPlace frameBytes
+unfolding rowPlace
 row-lies s a b plane row =
     each-bind (lent-sound s a b) λ n k.
     each-need (ltb plane (s .sizes .planes)) 14 _ λ p. each-need (ltb row (s .sizes .height)) 14 _ λ r.
-    let w = row-within plane (s .sizes .height) (s .sizes .planes) row (rowBytes (s .sizes .width)) (ltb-true plane (s .sizes .planes) p) (ltb-true row (s .sizes .height) r) in
-    let l = k .state .sizes .length in
-    each (record { inA = omega (arith, w, l, k .left); inB = omega (arith, w, l, k .right) })
+    let w = row-inside (s .sizes) n row plane (k .state .sizes) (ltb-true row (s .sizes .height) r) (ltb-true plane (s .sizes .planes) p) in
+    each (record { inA = omega (arith, w, k .left); inB = omega (arith, w, k .right) })
 
 -- nothing overflows on the way to a row's place
 pub record Small (s : State) (plane row : ℕ) : Type 0 where

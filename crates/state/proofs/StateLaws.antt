@@ -1,21 +1,16 @@
 -- What holds of sizes and states that are within the limits.
-use Prim.Native.Nat.{ℕ, _*_, _≤_}
-use native.Mathlib.Nat.{mul-le-mul-left}
+use Prim.Native.Nat.{ℕ, suc, _+_, _*_, _<_, _≤_}
+use native.Mathlib.Nat.{mul-le-mul-left, mul-le-mul-right}
 use native.Mathlib.Omega.{arith}
 use mathlib.Core.Path.{_≡_, refl, sym, _∙_}
-use mathlib.Core.Bool.{Bool, true, false, _&&_}
+use mathlib.Core.Bool.{Bool, true, false}
 use lib.Dec.{leb, eqb}
 use borrow.Author.Tests.{leb-true, le-leb, eqb-true}
 use Rattle.laws.specs.Result.{Res.fault, Each, Each.each}
-use Rattle.laws.proofs.ResultLaws.{false-true, each-bind, each-need, each-map}
+use Rattle.laws.proofs.ResultLaws.{false-true, each-bind, each-need, each-map, two-true}
 use Rattle.state.specs.declared.Sizes.{Sizes}
 use Rattle.state.specs.declared.State.{State}
 use Rattle.state.specs.State.{within, rowBytes, frameBytes, frameLength, stateLength, lentLength, Sound, SoundState}
-
-both : (a b : Bool) → a && b ≡ true → (a ≡ true) × (b ≡ true)
-both true true e = (refl, refl)
-both true false e = (refl, e)
-both false b e = let z : _≡_ {A = Bool} false true = e in (z, cc)
 
 -- a number within two bounds
 pub record Between (least most x : ℕ) : Type 0 where
@@ -23,7 +18,7 @@ pub record Between (least most x : ℕ) : Type 0 where
   pub high : x ≤ most
 
 pub between : {least most x : ℕ} → within least most x ≡ true → Between least most x
-between {least} {most} {x} e = let t = both (leb least x) (leb x most) e in record { low = leb-true least x (t .0); high = leb-true x most (t .1) }
+between {least} {most} {x} e = let t = two-true (leb least x) (leb x most) e in record { low = leb-true least x (t .0); high = leb-true x most (t .1) }
 
 pub outside : {least most x : ℕ} → within least most x ≡ false → least ≤ x → x ≤ most → ⊥
 outside {least} {most} {x} e l m = false-true (sym e ∙ rw (le-leb least x l, le-leb x most m) refl)
@@ -56,6 +51,13 @@ unfolding frameLength
 sizes-sound z =
     each-need (within 1 1024 (z .width)) 11 _ λ w. each-need (within 1 1024 (z .height)) 11 _ λ h. each-need (within 1 8 (z .planes)) 11 _ λ p.
     each (sound z (between w) (between h) (between p))
+
+-- a row lies within the frame
+pub row-inside : (z : Sizes) (n line plane : ℕ) → Sound z n → line < z .height → plane < z .planes → (plane * z .height + line) * rowBytes (z .width) + rowBytes (z .width) ≤ n
+unfolding frameBytes
+row-inside z n line plane b h k =
+    let a : suc (plane * z .height + line) ≤ z .planes * z .height = omega (arith, mul-le-mul-right (z .height) k) in
+    omega (arith, mul-le-mul-right (rowBytes (z .width)) a, b .length)
 
 -- next and end place that aren't within theirs
 places-refused : (s : State) (p q : Bool) → within 1 1_000_000 (s .frame) ≡ true → within 12 (s .end) (s .next) ≡ p → leb (s .end) 2_147_483_647 ≡ q

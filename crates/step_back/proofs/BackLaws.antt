@@ -1,11 +1,11 @@
 -- Laws of stepping back: what is left in the buffers.
 use Prim.Native.Nat.{ℕ, _-_}
-use native.Mathlib.Omega.{arith}
 use mathlib.Core.Bool.{true, false}
 use mathlib.Core.List.{List}
 use mathlib.Core.Path.{_≡_, refl}
 use lib.ListN.{length}
 use Rattle.laws.specs.Result.{Res, Res.ok, Res.fault, leaves}
+use Rattle.laws.proofs.ResultLaws.{never}
 use Rattle.refusal.specs.Number.{numberOf}
 use Rattle.refusal.specs.declared.Refusal.{Refusal}
 use Rattle.state.specs.declared.State.{State}
@@ -49,7 +49,7 @@ module _ (w : World) (bytes : List ℕ) where
       where
         go : (q : Res Past) → fault (numberOf why) ≡ placeIn q → _≡_ {A = World} (record { a = a; b = b; state = w .state }) (picturesBack w q)
             → LeavesBack (settleBack w q) (record { answer = Refused why; state = w .state }) (record { a = a; b = b; state = w .state })
-        go (ok x) i l = let z : _≡_ {A = ℕ} 0 1 = cc in absurd (omega arith)
+        go (ok x) i l = never (cc)
         go (fault m) i l = let j : numberOf why ≡ m = cc in record { answer = rw j; left = l }
 
     pub back-taken : {place : ℕ} {s : State} → RestoresShown w (restored bytes (shownIn w) (w .state .frame) (w .state .next)) (ok place) a b → s ≡ moved (w .state) (w .state .frame - 1) place
@@ -63,4 +63,4 @@ module _ (w : World) (bytes : List ℕ) where
             let j : x .place ≡ place = cc in
             let m : s ≡ moved (w .state) (w .state .frame - 1) (x .place) = rw j es in
             record { answer = refl; left = λ t. record { a = l t .a; b = l t .b; state = m t } }
-        go (fault m) i l = let z : _≡_ {A = ℕ} 0 1 = cc in absurd (omega arith)
+        go (fault m) i l = never (cc)

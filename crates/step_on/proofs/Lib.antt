@@ -1,2 +1,3 @@
 pub mod ReadyLaws
+pub mod CaseLaws
 pub mod StepLaws

@@ -1,7 +1,6 @@
 -- Laws of stepping on: what looking ahead leaves in the work buffer, and what the step to a frame leaves.
 use Prim.Native.Nat.{ℕ, suc}
-use native.Mathlib.Omega.{arith}
-use mathlib.Core.Bool.{Bool, true, false}
+use mathlib.Core.Bool.{true, false}
 use mathlib.Core.List.{List}
 use mathlib.Core.Option.{none, some}
 use mathlib.Core.Path.{_≡_, refl, sym, ap, _∙_}
@@ -9,14 +8,13 @@ use lib.Dec.{leb, eqb}
 use lib.ListN.{length, take}
 use borrow.Author.Tests.{eq-eqb, le-leb}
 use Rattle.laws.specs.Result.{Res, Res.ok, Res.fault, _>>=_, need, leaves, Each}
-use Rattle.laws.proofs.ResultLaws.{each-is, each-bind, each-map, each-self, pick-both}
+use Rattle.laws.proofs.ResultLaws.{each-is, each-bind, each-map, each-self, pick-both, never}
 use Rattle.refusal.specs.Number.{numberOf}
 use Rattle.refusal.specs.declared.Refusal.{Refusal}
-use Rattle.state.specs.declared.Report.{Report}
 use Rattle.state.specs.declared.State.{State}
 use Rattle.state.specs.State.{rowBytes, moved}
 use Rattle.state.specs.World.{World, isOdd, shownIn, hiddenIn, withHidden}
-use Rattle.state.specs.After.{Lent, lent, lentAfter}
+use Rattle.state.specs.After.{Lent, lent, After, lentAfter}
 use Rattle.anhd.specs.Anhd.{columnsOk}
 use Rattle.anhd.specs.declared.FrameHeader.{FrameHeader}
 use Rattle.delta.specs.Delta.{newFrame, Applies}
@@ -30,6 +28,7 @@ use Rattle.step_on.specs.declared.SteppedOn.{SteppedOn}
 use Rattle.step_on.specs.Step.{ready, basis, change, Built, build, look, lookAhead, recordOf, commit, settle, stepOn, Looks, LeavesOn, MeetsOn}
 use Rattle.step_on.specs.Parts.{Fits, frameOf, picturesAfter, CommitsHidden}
 use Rattle.step_on.proofs.ReadyLaws.{Passed, ready-passed}
+use Rattle.step_on.proofs.CaseLaws.{commit-case}
 
 -- building frame x
 module _ (s : State) (x : Frame) (shown hidden work : List ℕ) (j : Fits s (length shown) (length work)) (k : Fits s (length hidden) (length work)) (c : columnsOk (x .header .items) (rowBytes (s .sizes .width)) ≡ true) where
@@ -124,40 +123,30 @@ module _ (w : World) (x : Built) (rec : List ℕ) (j : Fits (w .state) (length (
     pub commit-unfit : {why : Refusal} → CommitsHidden w (x .picture) rec (fault (numberOf why)) a b rec′
         → LeavesOn (commit w (length rec) x) (lent (w .a) (w .b) (w .state) (x .picture) rec) (record { answer = Refused why; state = w .state }) (lent a b (w .state) (x .picture) rec′)
     unfolding writes bytes commit lentAfter
-    commit-unfit {why} c = go (leb (length bytes) (length rec)) refl
-      where
-        e : writes (length rec) ≡ fault (numberOf why)
-        e = sym (c .answer)
-
-        go : (t : Bool) → leb (length bytes) (length rec) ≡ t
-            → LeavesOn (commit w (length rec) x) (lent (w .a) (w .b) (w .state) (x .picture) rec) (record { answer = Refused why; state = w .state }) (lent a b (w .state) (x .picture) rec′)
-        go true q = let v : writes (length rec) ≡ ok (measure (suc (w .state .frame)) (w .state .next) (hiddenIn w) (x .picture)) = writes-is (length rec) ∙ rw q in let z : _≡_ {A = ℕ} 0 1 = cc in absurd (omega arith)
-        go false q =
-            let v : writes (length rec) ≡ fault 51 = writes-is (length rec) ∙ rw q in
-            let n : numberOf why ≡ 51 = cc in
-            rw q (record { answer = rw n; left = λ i. record { world = c .pictures i; work = x .picture; rec = c .bytes i } })
+    commit-unfit {why} c =
+        let e : writes (length rec) ≡ fault (numberOf why) = sym (c .answer) in
+        commit-case (λ (o : After). LeavesOn o (lent (w .a) (w .b) (w .state) (x .picture) rec) (record { answer = Refused why; state = w .state }) (lent a b (w .state) (x .picture) rec′)) w (length rec) x
+        (λ q. let v : writes (length rec) ≡ ok (measure (suc (w .state .frame)) (w .state .next) (hiddenIn w) (x .picture)) = writes-is (length rec) ∙ rw q in never (cc))
+        (λ q.
+        let v : writes (length rec) ≡ fault 51 = writes-is (length rec) ∙ rw q in
+        let n : numberOf why ≡ 51 = cc in
+        record { answer = rw n; left = λ i. record { world = c .pictures i; work = x .picture; rec = c .bytes i } })
 
     pub commit-fit : {size count : ℕ} {s : State} → CommitsHidden w (x .picture) rec (ok (record { length = size; changed = count })) a b rec′ → s ≡ moved (w .state) (suc (w .state .frame)) (x .next)
         → LeavesOn (commit w (length rec) x) (lent (w .a) (w .b) (w .state) (x .picture) rec)
         (record { answer = Taken (record { method = x .header .method; time = x .header .time; changed = count; record_length = size }); state = s }) (lent a b s (x .picture) rec′)
     unfolding writes bytes commit lentAfter measure withHidden
-    commit-fit {size} {count} {s} c es = go (leb (length bytes) (length rec)) refl
-      where
-        e : writes (length rec) ≡ ok (record { length = size; changed = count })
-        e = sym (c .answer)
-
-        answered : Report
-        answered = record { method = x .header .method; time = x .header .time; changed = count; record_length = size }
-
-        go : (t : Bool) → leb (length bytes) (length rec) ≡ t
-            → LeavesOn (commit w (length rec) x) (lent (w .a) (w .b) (w .state) (x .picture) rec) (record { answer = Taken answered; state = s }) (lent a b s (x .picture) rec′)
-        go false q = let v : writes (length rec) ≡ fault 51 = writes-is (length rec) ∙ rw q in let z : _≡_ {A = ℕ} 0 1 = cc in absurd (omega arith)
-        go true q =
-            let v : writes (length rec) ≡ ok (measure (suc (w .state .frame)) (w .state .next) (hiddenIn w) (x .picture)) = writes-is (length rec) ∙ rw q in
-            let n : record { length = size; changed = count } ≡ measure (suc (w .state .frame)) (w .state .next) (hiddenIn w) (x .picture) = cc in
-            let l = ap (λ (g : Measure). g .length) n in
-            let d = ap (λ (g : Measure). g .changed) n in
-            rw q (record { answer = rw (l, d); left = λ i. record { world = record { a = c .pictures i .a; b = c .pictures i .b; state = es i }; work = x .picture; rec = c .bytes i } })
+    commit-fit {size} {count} {s} c es =
+        let e : writes (length rec) ≡ ok (record { length = size; changed = count }) = sym (c .answer) in
+        commit-case (λ (o : After). LeavesOn o (lent (w .a) (w .b) (w .state) (x .picture) rec)
+        (record { answer = Taken (record { method = x .header .method; time = x .header .time; changed = count; record_length = size }); state = s }) (lent a b s (x .picture) rec′)) w (length rec) x
+        (λ q.
+        let v : writes (length rec) ≡ ok (measure (suc (w .state .frame)) (w .state .next) (hiddenIn w) (x .picture)) = writes-is (length rec) ∙ rw q in
+        let n : record { length = size; changed = count } ≡ measure (suc (w .state .frame)) (w .state .next) (hiddenIn w) (x .picture) = cc in
+        let l = ap (λ (g : Measure). g .length) n in
+        let d = ap (λ (g : Measure). g .changed) n in
+        record { answer = rw (l, d); left = λ i. record { world = record { a = c .pictures i .a; b = c .pictures i .b; state = es i }; work = x .picture; rec = c .bytes i } })
+        (λ q. let v : writes (length rec) ≡ fault 51 = writes-is (length rec) ∙ rw q in never (cc))
 
 -- stepping on from a file
 module _ (file : List ℕ) (w : World) (work rec : List ℕ) {work′ : List ℕ} where
@@ -181,10 +170,9 @@ module _ (file : List ℕ) (w : World) (work rec : List ℕ) {work′ : List ℕ
       → LeavesOn (commit w (length rec) (record { picture = work′; next = next; header = header })) (lent (w .a) (w .b) (w .state) work′ rec) r l
       → MeetsOn file (lent (w .a) (w .b) (w .state) work rec) r l
   unfolding stepOn settle
-  on-built {next} {header} k c = rw (sym (k .answer)) (record { answer = c .answer; left = c .left ∙ same (leb (length (recordOf (w .state) (hiddenIn w) work′)) (length rec)) refl })
-    where
-      same : (t : Bool) → leb (length (recordOf (w .state) (hiddenIn w) work′)) (length rec) ≡ t
-          → lentAfter (lent (w .a) (w .b) (w .state) work′ rec) (commit w (length rec) (record { picture = work′; next = next; header = header }))
-          ≡ lentAfter (lent (w .a) (w .b) (w .state) work rec) (commit w (length rec) (record { picture = work′; next = next; header = header }))
-      same true q = unfold commit lentAfter in rw q
-      same false q = unfold commit lentAfter in rw q
+  on-built {next} {header} k c =
+      rw (sym (k .answer)) (record {
+        answer = c .answer;
+        left = c .left ∙ commit-case (λ (o : After). lentAfter (lent (w .a) (w .b) (w .state) work′ rec) o ≡ lentAfter (lent (w .a) (w .b) (w .state) work rec) o) w (length rec)
+            (record { picture = work′; next = next; header = header }) (λ _. unfold lentAfter in refl) (λ _. unfold lentAfter in refl);
+      })

@@ -1,33 +1,26 @@
 -- Laws of numbers in bytes: what is written reads back, and numbers laid one after the other fill their buffer.
 use Prim.Native.Nat.{ℕ, zero, suc, _<_, _+_, _*_, _/_, _%_}
 use native.Mathlib.Nat.{add-assoc}
-use native.Mathlib.Numerals.{add-one}
 use native.Mathlib.Omega.{arith}
 use mathlib.Core.List.{List, [], _∷_, _++_, append-nil, append-assoc}
 use mathlib.Core.Path.{_≡_, refl, sym, _∙_}
 use lib.ListN.{length, getD, set, length-append, drop-of-length-le}
-use lib.Seq.{sets, sets-eq, getD-append-add}
+use lib.Seq.{sets-eq, getD-append-add}
 use borrow.Author.Tests.{eq-eqb, ne-eqb}
 use Rattle.laws.proofs.BytesLaws.{four-bytes}
+use Rattle.laws.proofs.StoreLaws.{stored-four}
 use Rattle.laws.specs.Put.{Put}
 use Rattle.laws.proofs.PutLaws.{put-is, put-nothing, put-then}
 use Rattle.state.specs.declared.State.{State}
 use Rattle.words.specs.Words.{le32, le64, stateIn, stateWords, le32Bytes, le64Bytes, wordsBytes, lay}
-
-four : (out : List ℕ) (at n : ℕ)
-    → set (set (set (set out at (n % 256)) (at + 1) (n / 256 % 256)) (at + 2) (n / 65536 % 256)) (at + 3) (n / 16777216 % 256) ≡ sets out at (le32Bytes n)
-unfolding le32Bytes
-four out at n =
-    let e : at + 2 ≡ suc (suc at) = omega arith in
-    let f : at + 3 ≡ suc (suc (suc at)) = omega arith in
-    rw (add-one at, e, f)
 
 length-four : (n : ℕ) → length (le32Bytes n) ≡ 4
 unfolding le32Bytes
 length-four n = refl
 
 pub put-four : {out : List ℕ} {at : ℕ} (n : ℕ) → Put out at (le32Bytes n) (set (set (set (set out at (n % 256)) (at + 1) (n / 256 % 256)) (at + 2) (n / 65536 % 256)) (at + 3) (n / 16777216 % 256)) (at + 4)
-put-four {out} {at} n = put-is (omega (arith, length-four n)) (four out at n)
+unfolding le32Bytes
+put-four {out} {at} n = put-is (omega (arith, length-four n)) (stored-four out at _ _ _ _)
 
 length-eight : (n : ℕ) → length (le64Bytes n) ≡ 8
 unfolding le64Bytes

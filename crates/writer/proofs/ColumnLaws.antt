@@ -5,8 +5,9 @@ use native.Mathlib.Omega.{arith}
 use mathlib.Core.List.{List, _++_}
 use mathlib.Core.Path.{_≡_, refl, sym, ap, _∙_}
 use lib.ListN.{length, getD, take, drop}
-use lib.Seq.{length-take-le, take-at}
-use Rattle.laws.specs.Result.{Res.ok, Res.fault}
+use lib.Seq.{length-take-le, take-at, ext-getD}
+use Rattle.laws.specs.Result.{Res.ok}
+use Rattle.laws.proofs.ResultLaws.{ok-same, ok-fault}
 use Rattle.laws.specs.Put.{Put}
 use Rattle.laws.proofs.PutLaws.{put-is}
 use Rattle.refusal.specs.declared.Refusal.{Refusal}
@@ -32,6 +33,13 @@ getD-column f row at zero i h = absurd (omega arith)
 getD-column f row at (suc n) zero h = let e : at + 0 * row ≡ at = omega arith in rw e
 getD-column f row at (suc n) (suc i) h = let e : at + suc i * row ≡ at + row + i * row = omega arith in rw e (getD-column f row (at + row) n i (omega arith))
 
+-- two frames that agree in its rows have the same column
+pub column-ext : (f g : List ℕ) (row at n : ℕ) → ((i : ℕ) → i < n → getD f (at + i * row) 0 ≡ getD g (at + i * row) 0) → columnAt f row at n ≡ columnAt g row at n
+column-ext f g row at n h =
+    let l = length-column f row at n in
+    ext-getD 0 (columnAt f row at n) (columnAt g row at n) (l ∙ sym (length-column g row at n))
+    (λ i k. let b : i < n = omega arith in getD-column f row at n i b ∙ h i b ∙ sym (getD-column g row at n i b))
+
 -- a column that was copied to the front of a buffer
 pub front-length : (n : ℕ) (xs : List ℕ) → n ≤ length xs → n ≡ length (take n xs)
 front-length n xs h = sym (length-take-le n xs h)
@@ -49,12 +57,6 @@ rows-inside f row at n xs p h i k = p i (rw (length-take-le n xs h) at k)
 -- a column of two frames, copied to the front of two buffers, is never refused
 pub held-length : (f : List ℕ) (row at n : ℕ) (xs : List ℕ) → take n xs ≡ columnAt f row at n → n ≡ length (take n xs)
 held-length f row at n xs e = sym (ap length e ∙ length-column f row at n)
-
-ok-same : {k m : ℕ} → ok k ≡ ok m → k ≡ m
-ok-same e = cc
-
-ok-fault : {A : Type 0} {k m : ℕ} → fault k ≡ ok m → A
-ok-fault e = let z : _≡_ {A = ℕ} 0 1 = cc in absurd (omega arith)
 
 module _ (a b old new : List ℕ) (row at n : ℕ) (p : take n a ≡ columnAt old row at n) (q : take n b ≡ columnAt new row at n) (t : n ≤ 1024) where
   whole : columnLength (take n a) (take n b) ≡ ok (length (columnIn old new row n at))

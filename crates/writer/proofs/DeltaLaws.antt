@@ -4,11 +4,11 @@ use native.Mathlib.Omega.{arith}
 use mathlib.Core.List.{List, [], _∷_, _++_}
 use mathlib.Core.Path.{_≡_, refl, sym, ap, _∙_}
 use lib.Dec.{eqb}
-use lib.ListN.{length, set, take, drop, replicate, length-append, length-drop, length-replicate}
-use lib.Seq.{sets, length-sets, length-take-le, set-comm}
+use lib.ListN.{length, set, take, drop, replicate, length-append, length-replicate}
+use lib.Seq.{sets, length-sets, set-comm}
 use Rattle.laws.specs.Result.{pick}
 use Rattle.laws.specs.Put.{Put}
-use Rattle.laws.proofs.StoreLaws.{sets-part, sets-append}
+use Rattle.laws.proofs.StoreLaws.{sets-append, lent-fill}
 use Rattle.state.specs.declared.Sizes.{Sizes}
 use Rattle.state.specs.State.{rowBytes}
 use Rattle.writer.specs.Planes.{Frames}
@@ -108,8 +108,8 @@ delta-is z old new out out₁ h e =
 module _ (out : List ℕ) (p : ℕ) (y : List ℕ) (h : p ≤ 8) (l : 64 ≤ length out) (e : y ≡ replicate (length (take (64 - 4 * p) (drop (4 * p) out))) 0) where
   pub zeros-put : take (4 * p) out ++ (y ++ drop (64 - 4 * p) (drop (4 * p) out)) ≡ sets out (4 * p) (replicate (64 - 4 * p) 0)
   zeros-put =
-      let m : length (take (64 - 4 * p) (drop (4 * p) out)) ≡ 64 - 4 * p = length-take-le (64 - 4 * p) (drop (4 * p) out) (simp length-drop (omega arith)) in
-      rw (e, m) (sets-part (4 * p) 64 out (replicate (64 - 4 * p) 0) (omega arith) l (length-replicate (64 - 4 * p) 0))
+      let i : 4 * p + (64 - 4 * p) - 4 * p ≡ 64 - 4 * p = omega arith in
+      rw i at (lent-fill out (4 * p) (64 - 4 * p) 0 y (omega arith) (rw i e))
 
   pub zeros-fit : {n : ℕ} → n ≤ length out → n ≤ length (take (4 * p) out ++ (y ++ drop (64 - 4 * p) (drop (4 * p) out)))
   zeros-fit k = rw (zeros-put, length-sets out (4 * p) (replicate (64 - 4 * p) 0)) k

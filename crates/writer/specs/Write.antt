@@ -6,7 +6,7 @@ use mathlib.Core.List.{List, [], _∷_, _++_}
 use mathlib.Core.Path.{_≡_}
 use lib.Dec.{leb, eqb}
 use lib.ListN.{length, getD, take, drop, replicate}
-use Rattle.laws.specs.Result.{Res, Res.ok, Res.fault, _>>=_, need}
+use Rattle.laws.specs.Result.{Res, Res.ok, Res.fault, _>>=_, need, leaves}
 use Rattle.refusal.specs.Number.{numberOf}
 use Rattle.state.specs.State.{rowBytes, frameLength}
 use Rattle.state.specs.declared.Sizes.{Sizes}
@@ -78,8 +78,7 @@ written z old new room =
 
 -- the buffer after it: bytes past the delta stay
 abbrev pub bufferAfter : List ℕ → List ℕ → Res ℕ → List ℕ
-bufferAfter bytes out (ok n) = bytes ++ drop (length bytes) out
-bufferAfter bytes out (fault n) = out
+bufferAfter bytes out q = leaves out (λ _. bytes ++ drop (length bytes) out) q
 
 -- what a call answers, and what it leaves in the output buffer
 pub record Writes (z : Sizes) (old new out : List ℕ) (answer : Res ℕ) (out′ : List ℕ) : Type 0 where

@@ -49,35 +49,30 @@ returns-3 c =
     interleave-bad (z .first) (z .row) (z .s .now) (p .before .before .if1 .left) (p .before .byte .ensures .0) (told-true (p .method-ok .ensures) (i .if2 .left)) (c .before .before .byte2 .ensures .0)
     (told-false (c .before .interleave-ok .ensures) (c .if3 .taken))
 
-returns-4 : tie.Need-returns-4
-returns-4 c =
-    let j = c .before .before .before in
+-- the same where the bits were read
+rest-left : (t : tie.After-number32)
+    → let j = t .before in let p = j .before .before .before .before in let z = p .before .before .before .before .args in
+    rest (z .row) (z .s .now) (p .before .byte .result) (j .before .before .byte2 .result) (t .number32 .result) ≡ frameHeader (z .first) (z .row) (z .s .now)
+rest-left t =
+    let j = t .before in
     let i = j .before .before .before in
     let p = i .before in
     let z = p .before .before .before .before .args in
-    rw (told-false (c .before .bits-ok .ensures) (c .if4 .taken)) at
-    (rest-is (z .first) (z .row) (z .s .now) (p .before .before .if1 .left) (p .before .byte .ensures .0) (told-true (p .method-ok .ensures) (i .if2 .left)) (j .before .before .byte2 .ensures .0) (told-true (j .before .interleave-ok .ensures) (j .if3 .left)) (c .before .before .number32 .ensures .0))
+    rest-is (z .first) (z .row) (z .s .now) (p .before .before .if1 .left) (p .before .byte .ensures .0) (told-true (p .method-ok .ensures) (i .if2 .left)) (j .before .before .byte2 .ensures .0) (told-true (j .before .interleave-ok .ensures) (j .if3 .left)) (t .number32 .ensures .0)
+
+returns-4 : tie.Need-returns-4
+returns-4 c = rw (told-false (c .before .bits-ok .ensures) (c .if4 .taken)) at (rest-left (c .before .before))
 
 returns-5 : tie.Need-returns-5
 returns-5 c =
     let k = c .before .before .before in
-    let j = k .before .before .before in
-    let i = j .before .before .before in
-    let p = i .before in
-    let z = p .before .before .before .before .args in
-    rw (told-true (k .before .bits-ok .ensures) (k .if4 .left), ← c .before .before .items-of .ensures, told-false (c .before .columns-ok .ensures) (c .if5 .taken)) at
-    (rest-is (z .first) (z .row) (z .s .now) (p .before .before .if1 .left) (p .before .byte .ensures .0) (told-true (p .method-ok .ensures) (i .if2 .left)) (j .before .before .byte2 .ensures .0) (told-true (j .before .interleave-ok .ensures) (j .if3 .left)) (k .before .before .number32 .ensures .0))
+    rw (told-true (k .before .bits-ok .ensures) (k .if4 .left), ← c .before .before .items-of .ensures, told-false (c .before .columns-ok .ensures) (c .if5 .taken)) at (rest-left (k .before .before))
 
 returns-6 : tie.Need-returns-6
 returns-6 c =
     let l = c .before in
     let k = l .before .before .before in
-    let j = k .before .before .before in
-    let i = j .before .before .before in
-    let p = i .before in
-    let z = p .before .before .before .before .args in
-    rw (told-true (k .before .bits-ok .ensures) (k .if4 .left), ← l .before .before .items-of .ensures, told-true (l .before .columns-ok .ensures) (l .if5 .left), ← c .number322 .ensures .0) at
-    (rest-is (z .first) (z .row) (z .s .now) (p .before .before .if1 .left) (p .before .byte .ensures .0) (told-true (p .method-ok .ensures) (i .if2 .left)) (j .before .before .byte2 .ensures .0) (told-true (j .before .interleave-ok .ensures) (j .if3 .left)) (k .before .before .number32 .ensures .0))
+    rw (told-true (k .before .bits-ok .ensures) (k .if4 .left), ← l .before .before .items-of .ensures, told-true (l .before .columns-ok .ensures) (l .if5 .left), ← c .number322 .ensures .0) at (rest-left (k .before .before))
 
 pub read-header-spec : {M : Type 1} → statement M
 read-header-spec =

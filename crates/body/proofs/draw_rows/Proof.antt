@@ -24,7 +24,10 @@ loop-holds : tie.Need-loop-holds Inv-loop μ-loop
 loop-holds c = (refl, walking-starts (c .before .before .before .pre .planes-least))
 
 take-row-requires : tie.Need-take-row-requires Inv-loop μ-loop
-take-row-requires c κs = let l = c .before in omega (arith, walking-fits (l .before .loop .inv .1) (l .before .before .row-bytes .ensures) (l .loop-test .taken) (l .before .before .before .before .before .pre), l .before .loop .inv .0)
+take-row-requires c κs =
+    let at-loop = c .before .before in
+    let at-row-bytes = at-loop .before in
+    omega (arith, walking-fits (at-loop .loop .inv .1) (at-row-bytes .row-bytes .ensures) (c .before .loop-test .taken) (at-row-bytes .before .before .before .pre), at-loop .loop .inv .0)
 
 returns : tie.Need-returns Inv-loop μ-loop
 returns c =
@@ -41,8 +44,10 @@ add-plane c =
 add-place : tie.Need-add-place Inv-loop μ-loop
 add-place c =
     let l = c .before .before .before .before .before .before .before in
-    let z = l .before .before .before .before .before .args .sizes in
-    omega (arith, walking-fits (l .before .loop .inv .1) (l .before .before .row-bytes .ensures) (l .loop-test .taken) (l .before .before .before .before .before .pre), lines-small z (z .height) (l .before .before .before .before .before .pre) (l .before .before .row-bytes .ensures) (omega arith), l .before .before .before .before .before .pre .length-most)
+    let at-row-bytes = l .before .before in
+    let at-start = at-row-bytes .before .before .before in
+    let z = at-start .args .sizes in
+    omega (arith, walking-fits (l .before .loop .inv .1) (at-row-bytes .row-bytes .ensures) (l .loop-test .taken) (at-start .pre), lines-small z (z .height) (at-start .pre) (at-row-bytes .row-bytes .ensures) (omega arith), at-start .pre .length-most)
 
 add-line : tie.Need-add-line Inv-loop μ-loop
 add-line c = omega arith
@@ -50,7 +55,9 @@ add-line c = omega arith
 mul-place : tie.Need-mul-place Inv-loop μ-loop
 mul-place c =
     let l = c .before .before .before .before .before .before .before .before .before in
-    omega (arith, lines-small (l .before .before .before .before .before .args .sizes) (l .before .loop .line + 1) (l .before .before .before .before .before .pre) (l .before .before .row-bytes .ensures) (omega (arith, l .loop-test .taken)))
+    let at-row-bytes = l .before .before in
+    let at-start = at-row-bytes .before .before .before in
+    omega (arith, lines-small (at-start .args .sizes) (l .before .loop .line + 1) (at-start .pre) (at-row-bytes .row-bytes .ensures) (omega (arith, l .loop-test .taken)))
 
 loop-less : tie.Need-loop-less Inv-loop μ-loop
 loop-less c =

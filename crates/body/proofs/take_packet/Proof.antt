@@ -2,8 +2,9 @@
 use mathlib.Core.Path.{refl, sym, ap, subst, _∙_}
 use lib.ListN.{length-replicate}
 use Rattle.laws.proofs.ResultLaws.{told}
+use Rattle.laws.proofs.StoreLaws.{length-part}
 use Rattle.body.specs.Walk.{packetOf, Fits, took, puts}
-use Rattle.body.proofs.WalkLaws.{length-part, took-is, puts-is, puts-empty, behind, packet-counted}
+use Rattle.body.proofs.WalkLaws.{took-is, puts-is, puts-empty, behind, packet-counted}
 use native.Mathlib.Omega.{arith}
 use borrow.Author.Needs.{needs}
 use Rattle.body.proofs.take_packet.Statement.{statement}

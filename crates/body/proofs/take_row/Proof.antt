@@ -4,7 +4,8 @@ use mathlib.Core.Path.{sym, ap}
 use lib.ListN.{length}
 use Rattle.body.specs.Walk.{took}
 use Rattle.body.proofs.BodyLaws.{row-packed, row-plain, row-short}
-use Rattle.body.proofs.WalkLaws.{length-part, took-is, drawn-kept, drawn-row}
+use Rattle.body.proofs.WalkLaws.{took-is, drawn-kept, drawn-row}
+use Rattle.laws.proofs.StoreLaws.{length-part}
 use native.Mathlib.Omega.{arith}
 use borrow.Author.Needs.{needs}
 use Rattle.body.proofs.take_row.Statement.{statement}

@@ -1,6 +1,6 @@
 -- `body::unpack`: the refusals in their order, each with the frame as it was; then the rows that were checked are drawn.
 use native.Mathlib.Omega.{arith}
-use Rattle.body.proofs.WalkLaws.{check-failed, check-passed, spot-fits}
+use Rattle.body.proofs.WalkLaws.{check-failed, check-passed}
 use Rattle.body.specs.Body.{body, picture}
 use lib.ListN.{length}
 use Rattle.body.proofs.PlainLaws.{rows-most}
@@ -9,18 +9,22 @@ use mathlib.Core.Path.{_≡_, refl, sym, ap, subst, _∙_}
 use Rattle.laws.specs.Result.{answer, orKeep}
 use Rattle.laws.proofs.ResultLaws.{each-is, told}
 use Rattle.state.specs.State.{lengthOf, Sound}
-use Rattle.state.proofs.StateLaws.{sizes-sound}
+use Rattle.state.proofs.StateLaws.{sizes-sound, row-inside}
 use Rattle.body.proofs.BodyLaws.{picture-sizes, picture-length, picture-body, body-drawn}
 use borrow.Author.Needs.{needs}
 use Rattle.body.proofs.unpack.Statement.{statement}
 use Rattle.body.proofs.unpack.Tie as tie
 
+-- where the call begins
+abbrev begin : tie.Else1 → tie.Start
+begin c = c .before .before .before .before .before .before .before
+
 -- the sizes and the frame's length fit each other
-sound : (c : tie.Else1) → Sound (c .before .before .before .before .before .before .before .args .sizes) (length (c .before .before .before .before .before .before .before .args .frame .now))
+sound : (c : tie.Else1) → let a = begin c .args in Sound (a .sizes) (length (a .frame .now))
 sound c = subst (Sound _) (sym (c .if1 .left)) (each-is (told lengthOf (c .before .before .before .before .frame-length .ensures) (c .before .before .l2 .given .1)) (sizes-sound _))
 
 -- so the picture is the one in BODY
-whole : (c : tie.Else1) → let a = c .before .before .before .before .before .before .before .args in picture (a .packed) (a .sizes) (a .s .now) (length (a .frame .now)) ≡ body (a .packed) (a .sizes) (a .s .now)
+whole : (c : tie.Else1) → let a = begin c .args in picture (a .packed) (a .sizes) (a .s .now) (length (a .frame .now)) ≡ body (a .packed) (a .sizes) (a .s .now)
 whole c = picture-body _ _ _ _ (told lengthOf (c .before .before .before .before .frame-length .ensures) (c .before .before .l2 .given .1)) (c .if1 .left)
 
 returns : tie.Need-returns
@@ -34,20 +38,20 @@ mul-check-rows c =
     let z = sound (c .before .before .before) in omega (arith, mul-le-mul-right (at-start .args .sizes .planes) (z .height-most), z .planes-most)
 
 check-rows-requires : tie.Need-check-rows-requires
-check-rows-requires c κs = let z = sound (c .before .before .before) in (omega (arith, c .before .before .row-bytes .ensures, spot-fits _ _ 0 0 z (z .height-least) (z .planes-least)), rows-most z (c .before .before .row-bytes .ensures))
+check-rows-requires c κs = let z = sound (c .before .before .before) in (omega (arith, c .before .before .row-bytes .ensures, row-inside _ _ 0 0 z (z .height-least) (z .planes-least)), rows-most z (c .before .before .row-bytes .ensures))
 
 returns-2 : tie.Need-returns-2
 returns-2 c =
     let at-row-bytes = c .before .before .before .before .before .before in
     let at-node = at-row-bytes .before in
     let r = c .before .before .before .check-rows in
-    let k = whole (at-node) ∙ check-failed _ _ _ (at-row-bytes .row-bytes .ensures) (r .result) (r .ensures .0) (c .if2 .taken) in
+    let k = whole at-node ∙ check-failed _ _ _ (at-row-bytes .row-bytes .ensures) (r .result) (r .ensures .0) (c .if2 .taken) in
     (ap answer (sym k), r .ensures .1 ∙ ap (orKeep _) (sym k))
 
 draw-rows-requires : tie.Need-draw-rows-requires
 draw-rows-requires c κs =
     let at-node = c .before .before .before .before .before .before .before .before in
-    subst (Sound _) (sym (ap length (c .before .before .before .before .check-rows .ensures .1))) (sound (at-node))
+    subst (Sound _) (sym (ap length (c .before .before .before .before .check-rows .ensures .1))) (sound at-node)
 
 returns-3 : tie.Need-returns-3
 returns-3 c =

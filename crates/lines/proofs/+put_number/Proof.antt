@@ -109,7 +109,9 @@ put-number-returns-2 : (t : ℕ) → put-number-lts.Need-returns-2 (
   put-number-below t,
   put-number.Post,
 ) (put-number-at t) put-number.Post
-put-number-returns-2 t c = adds-as (adds-then (c .before .before .before .before .before .before .put-number .ensures) (c .before .before .put-byte2 .ensures)) (decimal-more _ (c .before .before .before .before .before .before .before .before .if1 .left))
+put-number-returns-2 t c =
+    let at-others = c .before .before .before .before .before .before in
+    adds-as (adds-then (at-others .put-number .ensures) (c .before .before .put-byte2 .ensures)) (decimal-more _ (at-others .before .before .if1 .left))
 
 pub +put-number-spec : {M : Type 1} → statement M
 +put-number-spec = close μ-put-number λ t. put-number-lts.spec (

@@ -22,37 +22,30 @@ returns c =
     let at-plan-for = at-p .before .before in
     lists-single _ _ (told planOf (at-plan-for .plan-for .ensures) (at-p .p .given .1)) (c .before .before .put-line .ensures)
 
+-- where the frames were listed
+abbrev listed : tie.After-slice-known11 → tie.After-list-front
+listed c = c .before .before .before .before .before .before .before .before .before .before
+
 same-length-2 : tie.Need-same-length-2
-same-length-2 c =
-    let at-list-front = c .before .before .before .before .before .before .before .before .before .before in
-    at-list-front .list-front .kept .1 .1 .0
+same-length-2 c = listed c .list-front .kept .1 .1 .0
 
 same-length-3 : tie.Need-same-length-3
-same-length-3 c =
-    let at-list-front = c .before .before .before .before .before .before .before .before .before .before in
-    at-list-front .list-front .kept .1 .1 .1 .0
+same-length-3 c = listed c .list-front .kept .1 .1 .1 .0
 
 same-length-4 : tie.Need-same-length-4
-same-length-4 c =
-    let at-list-front = c .before .before .before .before .before .before .before .before .before .before in
-    at-list-front .list-front .kept .1 .1 .1 .1 .0
+same-length-4 c = listed c .list-front .kept .1 .1 .1 .1 .0
 
 same-length-5 : tie.Need-same-length-5
-same-length-5 c =
-    let at-list-front = c .before .before .before .before .before .before .before .before .before .before in
-    at-list-front .list-front .kept .1 .1 .1 .1 .1 .0
+same-length-5 c = listed c .list-front .kept .1 .1 .1 .1 .1 .0
 
 same-length-6 : tie.Need-same-length-6
-same-length-6 c =
-    let at-list-front = c .before .before .before .before .before .before .before .before .before .before in
-    at-list-front .list-front .kept .1 .1 .1 .1 .1 .1 .0
+same-length-6 c = listed c .list-front .kept .1 .1 .1 .1 .1 .1 .0
 
 returns-2 : tie.Need-returns-2
 returns-2 c =
-    let at-list-front = c .before .before .before .before .before .before .before .before .before .before in
-    let at-p = at-list-front .before .before .before .before .before .before .before in
+    let at-p = listed c .before .before .before .before .before .before .before in
     let at-plan-for = at-p .before .before in
-    lists-pictures _ _ (told planOf (at-plan-for .plan-for .ensures) (at-p .p2 .given .1)) (at-list-front .list-front .ensures)
+    lists-pictures _ _ (told planOf (at-plan-for .plan-for .ensures) (at-p .p2 .given .1)) (listed c .list-front .ensures)
 
 pub list-file-spec : {M : Type 1} → statement M
 list-file-spec =

@@ -22,73 +22,57 @@ abbrev μ-loop : tie.MeasureT-loop
 loop-holds : tie.Need-loop-holds Inv-loop μ-loop
 loop-holds c = λ o h. showing-starts _ _ _ _ _ o _ h
 
+-- the step of a turn, the turn, and where the call begins; and what is shown where the turn begins
+abbrev stepped : tie.After-step-line Inv-loop μ-loop → tie.After-step-on Inv-loop μ-loop
+stepped s = s .before .before .before .before .before .before .before .before .before .before
+
+abbrev turn : tie.After-step-on Inv-loop μ-loop → tie.At-loop Inv-loop μ-loop
+turn t = t .before .before .before .before .before
+
+abbrev begin : tie.At-loop Inv-loop μ-loop → tie.Start Inv-loop μ-loop
+begin l = l .before .before .before .before .before .before .before .before .before .before .before .before
+
+shown : (t : tie.After-step-on Inv-loop μ-loop)
+    → let l = turn t .loop in let k = begin (turn t) .args in
+    Showing (k .file .now) (length (k .work .now)) (length (k .rec .now)) (record { lent = lent (k .a .now) (k .b .now) (k .start) (k .work .now) (k .rec .now); text = pictureLine (k .start .sizes) }) (k .out .now)
+    (l .a) (l .b) (l .work) (l .rec) (l .out) (l .state) (l .at)
+shown t = turn t .loop .inv (begin (turn t) .args .out .now) (turn t .before .before .before .put-line .ensures)
+
 same-length : tie.Need-same-length Inv-loop μ-loop
-same-length c =
-    let at-step-on = c .before .before .before .before .before .before .before .before .before .before .before .before .before .before .before in
-    let at-loop = at-step-on .before .before .before .before .before in
-    let at-put-line = at-loop .before .before .before in
-    let at-start = at-put-line .before .before .before .before .before .before .before .before .before in
-    at-step-on .step-on .kept .1 .1 .0 ∙ (at-loop .loop .inv) (at-start .args .out .now) (at-put-line .put-line .ensures) .left
+same-length c = let t = stepped (c .before .before .before .before .before) in t .step-on .kept .1 .1 .0 ∙ shown t .left
 
 same-length-2 : tie.Need-same-length-2 Inv-loop μ-loop
-same-length-2 c =
-    let at-step-on = c .before .before .before .before .before .before .before .before .before .before .before .before .before .before .before in
-    let at-loop = at-step-on .before .before .before .before .before in
-    let at-put-line = at-loop .before .before .before in
-    let at-start = at-put-line .before .before .before .before .before .before .before .before .before in
-    at-step-on .step-on .kept .1 .1 .1 .0 ∙ (at-loop .loop .inv) (at-start .args .out .now) (at-put-line .put-line .ensures) .right
+same-length-2 c = let t = stepped (c .before .before .before .before .before) in t .step-on .kept .1 .1 .1 .0 ∙ shown t .right
 
 same-length-3 : tie.Need-same-length-3 Inv-loop μ-loop
-same-length-3 c =
-    let at-step-on = c .before .before .before .before .before .before .before .before .before .before .before .before .before .before .before in
-    let at-loop = at-step-on .before .before .before .before .before in
-    let at-put-line = at-loop .before .before .before in
-    let at-start = at-put-line .before .before .before .before .before .before .before .before .before in
-    at-step-on .step-on .kept .1 .1 .1 .1 .0 ∙ (at-loop .loop .inv) (at-start .args .out .now) (at-put-line .put-line .ensures) .drawn
+same-length-3 c = let t = stepped (c .before .before .before .before .before) in t .step-on .kept .1 .1 .1 .1 .0 ∙ shown t .drawn
 
 same-length-4 : tie.Need-same-length-4 Inv-loop μ-loop
-same-length-4 c =
-    let at-step-on = c .before .before .before .before .before .before .before .before .before .before .before .before .before .before .before in
-    let at-loop = at-step-on .before .before .before .before .before in
-    let at-put-line = at-loop .before .before .before in
-    let at-start = at-put-line .before .before .before .before .before .before .before .before .before in
-    at-step-on .step-on .kept .1 .1 .1 .1 .1 .0 ∙ (at-loop .loop .inv) (at-start .args .out .now) (at-put-line .put-line .ensures) .written
+same-length-4 c = let t = stepped (c .before .before .before .before .before) in t .step-on .kept .1 .1 .1 .1 .1 .0 ∙ shown t .written
 
 same-length-5 : tie.Need-same-length-5 Inv-loop μ-loop
 same-length-5 c =
-    let at-step-line = c .before .before .before .before .before in
-    let at-step-on = at-step-line .before .before .before .before .before .before .before .before .before .before in
-    let at-loop = at-step-on .before .before .before .before .before in
-    let at-put-line = at-loop .before .before .before in
-    let at-start = at-put-line .before .before .before .before .before .before .before .before .before in
-    showing-size ((at-loop .loop .inv) (at-start .args .out .now) (at-put-line .put-line .ensures)) (at-step-on .step-on .ensures) (at-step-line .step-line .ensures) (c .before .before .before .before .put-line2 .ensures)
+    let s = c .before .before .before .before .before in
+    showing-size (shown (stepped s)) (stepped s .step-on .ensures) (s .step-line .ensures) (c .before .before .before .before .put-line2 .ensures)
 
 returns : tie.Need-returns Inv-loop μ-loop
 returns c =
-    let at-step-line = c .before .before .before .before .before in
-    let at-step-on = at-step-line .before .before .before .before .before .before .before .before .before .before in
-    let at-loop = at-step-on .before .before .before .before .before in
-    let at-put-line = at-loop .before .before .before in
-    let at-start = at-put-line .before .before .before .before .before .before .before .before .before in
-    showing-stops ((at-loop .loop .inv) (at-start .args .out .now) (at-put-line .put-line .ensures)) (at-step-on .step-on .ensures) (at-step-line .step-line .ensures) (c .before .before .before .before .put-line2 .ensures) (c .before .taken .ensures) (not-true _ (c .if1 .taken))
+    let s = c .before .before .before .before .before in
+    showing-stops (shown (stepped s)) (stepped s .step-on .ensures) (s .step-line .ensures) (c .before .before .before .before .put-line2 .ensures) (c .before .taken .ensures) (not-true _ (c .if1 .taken))
 
 loop-less : tie.Need-loop-less Inv-loop μ-loop
 loop-less c =
-    let at-put-line = c .before .before .before .before .before in
-    let at-step-line = at-put-line .before in
-    let at-step-on = at-step-line .before .before .before .before .before .before .before .before .before .before in
-    let at-loop = at-step-on .before .before .before .before .before in
-    let at-put-line-2 = at-loop .before .before .before in
-    let at-start = at-put-line-2 .before .before .before .before .before .before .before .before .before in
-    showing-less ((at-loop .loop .inv) (at-start .args .out .now) (at-put-line-2 .put-line .ensures)) (at-step-on .step-on .ensures) (at-step-line .step-line .ensures) (at-put-line .put-line2 .ensures) (c .before .before .taken .ensures) (not-false _ (c .before .if1 .left))
+    let put = c .before .before .before .before .before in
+    let s = put .before in
+    showing-less (shown (stepped s)) (stepped s .step-on .ensures) (s .step-line .ensures) (put .put-line2 .ensures) (c .before .before .taken .ensures) (not-false _ (c .before .if1 .left))
 
 loop-again : tie.Need-loop-again Inv-loop μ-loop
 loop-again c =
-    let at-put-line = c .before .before .before .before .before in
-    let at-step-line = at-put-line .before in
-    let at-step-on = at-step-line .before .before .before .before .before .before .before .before .before .before in
-    let at-loop = at-step-on .before .before .before .before .before in
-    λ o h. showing-turns ((at-loop .loop .inv) o h) (at-step-on .step-on .ensures) (at-step-line .step-line .ensures) (at-put-line .put-line2 .ensures) (c .before .before .taken .ensures) (not-false _ (c .before .if1 .left)) (at-step-on .step-on .kept .1 .1 .0) (at-step-on .step-on .kept .1 .1 .1 .0) (at-step-on .step-on .kept .1 .1 .1 .1 .0) (at-step-on .step-on .kept .1 .1 .1 .1 .1 .0)
+    let put = c .before .before .before .before .before in
+    let s = put .before in
+    let t = stepped s in
+    let k = t .step-on .kept in
+    λ o h. showing-turns (turn t .loop .inv o h) (t .step-on .ensures) (s .step-line .ensures) (put .put-line2 .ensures) (c .before .before .taken .ensures) (not-false _ (c .before .if1 .left)) (k .1 .1 .0) (k .1 .1 .1 .0) (k .1 .1 .1 .1 .0) (k .1 .1 .1 .1 .1 .0)
 
 pub list-frames-spec : {M : Type 1} → statement M
 list-frames-spec =

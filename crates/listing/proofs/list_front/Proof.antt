@@ -46,40 +46,33 @@ slice-aggregate-list-film-4 c =
     let at-start = c .before .before .before .before .before .before .before .before .before .before in
     sym (length-take-le 65536 (at-start .args .rec .now) (at-start .pre .written))
 
+-- where the film was listed, and where the call begins
+abbrev listed : tie.After-slice-known10 → tie.After-list-film
+listed c = c .before .before .before .before .before .before .before .before .before .before
+
+abbrev begin : tie.After-list-film → tie.Start
+begin t = t .before .before .before .before .before .before .before .before .before .before .before .before
+
 same-length : tie.Need-same-length
-same-length c =
-    let at-list-film = c .before .before .before .before .before .before .before .before .before .before in
-    let at-start = at-list-film .before .before .before .before .before .before .before .before .before .before .before .before in
-    length-front (at-start .args .a .now) (at-list-film .list-film .last .1 .0) (at-start .args .n) (at-list-film .list-film .kept .1 .0)
+same-length c = let t = listed c in length-front (begin t .args .a .now) (t .list-film .last .1 .0) (begin t .args .n) (t .list-film .kept .1 .0)
 
 same-length-2 : tie.Need-same-length-2
-same-length-2 c =
-    let at-list-film = c .before .before .before .before .before .before .before .before .before .before in
-    let at-start = at-list-film .before .before .before .before .before .before .before .before .before .before .before .before in
-    length-front (at-start .args .b .now) (at-list-film .list-film .last .1 .1 .0) (at-start .args .n) (at-list-film .list-film .kept .1 .1 .0)
+same-length-2 c = let t = listed c in length-front (begin t .args .b .now) (t .list-film .last .1 .1 .0) (begin t .args .n) (t .list-film .kept .1 .1 .0)
 
 same-length-3 : tie.Need-same-length-3
-same-length-3 c =
-    let at-list-film = c .before .before .before .before .before .before .before .before .before .before in
-    let at-start = at-list-film .before .before .before .before .before .before .before .before .before .before .before .before in
-    length-front (at-start .args .work .now) (at-list-film .list-film .last .1 .1 .1 .0) (at-start .args .n) (at-list-film .list-film .kept .1 .1 .1 .0)
+same-length-3 c = let t = listed c in length-front (begin t .args .work .now) (t .list-film .last .1 .1 .1 .0) (begin t .args .n) (t .list-film .kept .1 .1 .1 .0)
 
 same-length-4 : tie.Need-same-length-4
-same-length-4 c =
-    let at-list-film = c .before .before .before .before .before .before .before .before .before .before in
-    let at-start = at-list-film .before .before .before .before .before .before .before .before .before .before .before .before in
-    length-front (at-start .args .rec .now) (at-list-film .list-film .last .1 .1 .1 .1 .0) 65536 (at-list-film .list-film .kept .1 .1 .1 .1 .0)
+same-length-4 c = let t = listed c in length-front (begin t .args .rec .now) (t .list-film .last .1 .1 .1 .1 .0) 65536 (t .list-film .kept .1 .1 .1 .1 .0)
 
 same-length-5 : tie.Need-same-length-5
-same-length-5 c =
-    let at-list-film = c .before .before .before .before .before .before .before .before .before .before in
-    at-list-film .list-film .kept .1 .1 .1 .1 .1 .0
+same-length-5 c = listed c .list-film .kept .1 .1 .1 .1 .1 .0
 
 returns : tie.Need-returns
 returns c =
-    let at-list-film = c .before .before .before .before .before .before .before .before .before .before in
-    let at-start = at-list-film .before .before .before .before .before .before .before .before .before .before .before .before in
-    let k = at-start .args in lists-front (k .file .now) (record { a = k .a .now; b = k .b .now; work = k .work .now; rec = k .rec .now }) {n = k .n} (at-start .pre) (at-list-film .list-film .ensures)
+    let t = listed c in
+    let k = begin t .args in
+    lists-front (k .file .now) (record { a = k .a .now; b = k .b .now; work = k .work .now; rec = k .rec .now }) {n = k .n} (begin t .pre) (t .list-film .ensures)
 
 pub list-front-spec : {M : Type 1} → statement M
 list-front-spec =

@@ -39,9 +39,8 @@ Inv-loop old new at₀ bytes₀ at bytes = Measuring old new at bytes
 abbrev μ-loop : tie.MeasureT-loop
 μ-loop old new at₀ bytes₀ at bytes = length old - at
 
-ahead : (c : tie.After-known-told Inv-loop μ-loop)
-    → RunAhead (c .before .before .before .before .before .before .before .args .old .now) (c .before .before .before .before .before .before .before .args .new .now)
-    (c .before .before .before .before .loop .at) (c .before .c .given .0 .0) (c .before .c .given .0 .1 .0)
+ahead : (c : tie.After-known-told Inv-loop μ-loop) → let at-loop = c .before .before .before .before in let a = at-loop .before .before .before .args in
+    RunAhead (a .old .now) (a .new .now) (at-loop .loop .at) (c .before .c .given .0 .0) (c .before .c .given .0 .1 .0)
 ahead c = ahead-of _ _ _ _ _ (told changeOf (c .before .before .before .next-run .ensures) (c .before .c .given .1))
 
 loop-holds : tie.Need-loop-holds Inv-loop μ-loop

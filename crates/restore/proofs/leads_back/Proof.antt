@@ -21,7 +21,7 @@ list t = t .before .before .before .h .given .0 .1 .1 .0
 header : (t : tie.After-take-list)
     → pastOf (begin t .args .bytes .now) (begin t .args .shown .now)
     ≡ pastFrom (t .before .before .before .h .given .0 .0) (t .before .before .before .h .given .0 .1 .0) (beforeOf (drop (list t) (begin t .args .bytes .now)) (begin t .args .shown .now))
-header t = subst (HeaderAt _) (t .before .before .before .h .given .1) (t .before .before .before .before .before .read-header .ensures) (begin t .args .shown .now)
+header t = let at-header = t .before .before .before in subst (HeaderAt _) (at-header .h .given .1) (at-header .before .before .read-header .ensures) (begin t .args .shown .now)
 
 returns : tie.Need-returns
 returns c =

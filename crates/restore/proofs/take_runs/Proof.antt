@@ -44,10 +44,10 @@ returns-2 c =
     take-equal (turn k .loop .inv) (k .before .before .before .before .loop-test .taken) (found k) (t .take-run .ensures) (not-true _ (c .if1 .taken))
 
 add-place : tie.Need-add-place Inv-loop μ-loop
-add-place c = omega (arith, found (c .before .before .before .before .before) .fits)
+add-place c = let at-found = c .before .before .before .before .before in omega (arith, found at-found .fits)
 
 add-at : tie.Need-add-at Inv-loop μ-loop
-add-at c = omega (arith, found (c .before .before .before .before .before) .inside)
+add-at c = let at-found = c .before .before .before .before .before in omega (arith, found at-found .inside)
 
 loop-again : tie.Need-loop-again Inv-loop μ-loop
 loop-again c =

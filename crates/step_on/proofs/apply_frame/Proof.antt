@@ -8,7 +8,8 @@ use Rattle.step_on.proofs.apply_frame.Tie as tie
 returns : tie.Need-returns
 returns c =
     let i = c .before .before .before .before in
-    let k : i .before .before .before .before .before .before .args .header .interleave ≡ 1 = i .if1 .taken in
+    let at-start = i .before .before .before .before .before .before in
+    let k : at-start .args .header .interleave ≡ 1 = i .if1 .taken in
     rw (eq-eqb _ _ k) (c .before .before .apply .ensures)
 
 returns-2 : tie.Need-returns-2

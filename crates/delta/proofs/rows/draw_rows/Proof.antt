@@ -3,8 +3,9 @@
 use native.Mathlib.Nat.{mul-le-mul-right}
 use native.Mathlib.Omega.{arith}
 use borrow.Author.Tests.{not-true, not-false}
-use Prim.Native.Nat.{_-_, _<_}
+use Prim.Native.Nat.{_+_, _-_, _*_, _<_, _≤_}
 use mathlib.Core.Path.{sym, _∙_}
+use lib.ListN.{length}
 use Rattle.laws.proofs.StoreLaws.{lent-copy}
 use Rattle.delta.proofs.DeltaLaws.{Putting, putting-starts, putting-more, putting-ends, put-beside}
 use Rattle.delta.proofs.FillLaws.{run-inside}
@@ -21,43 +22,39 @@ abbrev μ-loop : tie.MeasureT-loop
 returns : tie.Need-returns Inv-loop μ-loop
 returns c = rw (not-true (c .before .before .before .args .drawing) (c .if1 .taken))
 
+-- where the call begins; and items that lie one after the other, in the frame and in the delta
+abbrev begin : tie.Then4 Inv-loop μ-loop → tie.Start Inv-loop μ-loop
+begin c = c .before .before .before .before .before .before
+
+rows-run : (c : tie.Then4 Inv-loop μ-loop) → let k = begin c .args in k .place + k .count * k .shape .item ≤ length (k .frame .now)
+rows-run c = run-inside (begin c .pre .1 .rows) (c .before .before .if2 .taken) (c .if4 .taken)
+
+items-run : (c : tie.Then4 Inv-loop μ-loop) → let k = begin c .args in k .from + k .count * k .shape .item ≤ length (k .d .now)
+items-run c = run-inside (begin c .pre .2 .inside) (c .before .if3 .taken) (c .if4 .taken)
+
 mul-end : tie.Need-mul-end Inv-loop μ-loop
-mul-end c =
-    let b = c .before .before .before .before .before .before in
-    omega (arith, run-inside (b .pre .1 .rows) (c .before .before .if2 .taken) (c .if4 .taken))
+mul-end c = omega (arith, rows-run c)
 
 add-end : tie.Need-add-end Inv-loop μ-loop
-add-end c =
-    let b = c .before .before .before .before .before .before in
-    omega (arith, run-inside (b .pre .1 .rows) (c .before .before .if2 .taken) (c .if4 .taken))
+add-end c = omega (arith, rows-run c)
 
 mul-to : tie.Need-mul-to Inv-loop μ-loop
-mul-to c =
-    let b = c .before .before .before .before .before .before in
-    omega (arith, run-inside (b .pre .2 .inside) (c .before .if3 .taken) (c .if4 .taken))
+mul-to c = omega (arith, items-run c)
 
 add-to : tie.Need-add-to Inv-loop μ-loop
-add-to c =
-    let b = c .before .before .before .before .before .before in
-    omega (arith, run-inside (b .pre .2 .inside) (c .before .if3 .taken) (c .if4 .taken))
+add-to c = omega (arith, items-run c)
 
 part-copy-end : tie.Need-part-copy-end Inv-loop μ-loop
-part-copy-end c =
-    let b = c .before .before .before .before .before .before in
-    run-inside (b .pre .1 .rows) (c .before .before .if2 .taken) (c .if4 .taken)
+part-copy-end c = rows-run c
 
 part-copy-end-2 : tie.Need-part-copy-end-2 Inv-loop μ-loop
-part-copy-end-2 c =
-    let b = c .before .before .before .before .before .before .before in
-    run-inside (b .pre .2 .inside) (c .before .before .if3 .taken) (c .before .if4 .taken)
+part-copy-end-2 c = items-run (c .before)
 
 returns-2 : tie.Need-returns-2 Inv-loop μ-loop
 returns-2 c =
     let t = c .before .before .before .before .before in
-    let b = t .before .before .before .before .before .before in
-    let f = run-inside (b .pre .1 .rows) (t .before .before .if2 .taken) (t .if4 .taken) in
-    let s = run-inside (b .pre .2 .inside) (t .before .if3 .taken) (t .if4 .taken) in
-    rw (not-false (b .args .drawing) (t .before .before .before .if1 .left), t .before .before .if2 .taken, t .before .if3 .taken) (lent-copy _ _ _ _ _ _ f s (c .before .before .copy .ensures) ∙ sym (put-beside (b .args .shape .item) (b .args .d .now) (b .args .count) (b .args .from) (b .args .place) (b .args .frame .now) s))
+    let b = begin t in
+    rw (not-false (b .args .drawing) (t .before .before .before .if1 .left), t .before .before .if2 .taken, t .before .if3 .taken) (lent-copy _ _ _ _ _ _ (rows-run t) (items-run t) (c .before .before .copy .ensures) ∙ sym (put-beside (b .args .shape .item) (b .args .d .now) (b .args .count) (b .args .from) (b .args .place) (b .args .frame .now) (items-run t)))
 
 loop-holds : tie.Need-loop-holds Inv-loop μ-loop
 loop-holds c = putting-starts

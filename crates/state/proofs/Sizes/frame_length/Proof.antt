@@ -8,7 +8,7 @@ use Rattle.state.proofs.Sizes.frame_length.Statement.{statement}
 use Rattle.state.proofs.Sizes.frame_length.Tie as tie
 
 -- the sizes where the products are formed
-limits : (c : tie.After-struct-known) → Sound (c .before .before .before .before .before .before .before .before .args .self) (frameBytes (c .before .before .before .before .before .before .before .before .args .self))
+limits : (c : tie.After-struct-known) → let z = c .before .before .before .before .before .before .before .before .args .self in Sound z (frameBytes z)
 limits c =
     let at-within = c .before .before .before .before .before in
     let at-if = at-within .before in
