@@ -90,7 +90,7 @@ pub fn columns_ok(items: Items, row: usize) -> bool
 }
 
 // Reads the contents of an ANHD, of the first frame or a later one, for a picture with row bytes per row.
-pub fn read_header(first: bool, row: usize, s: &[u8]) -> Anhd
+pub fn frame_header(first: bool, row: usize, s: &[u8]) -> Anhd
     ensures { λ r. ⌜ anhdOf r ≡ frameHeader first row (now (s .entry)) ⌝ }
 {
     if s.len() < 40 {

@@ -11,7 +11,7 @@ use Rattle.laws.proofs.ResultLaws.{told}
 use Rattle.opening.specs.declared.Opening.{Opening}
 use Rattle.opening.specs.declared.OpenedFile.{OpenedFile}
 use Rattle.opening.specs.declared.Size.{Size}
-use Rattle.opening.specs.Open.{firstSize, sizeOf, opening, openingOf, MeetsOpen}
+use Rattle.opening.specs.Open.{frameSize, sizeOf, opening, openingOf, MeetsOpen}
 use Rattle.step_on.specs.declared.On.{On}
 use Rattle.step_on.specs.declared.SteppedOn.{SteppedOn}
 use Rattle.step_back.specs.declared.Back.{Back}
@@ -25,7 +25,7 @@ use Rattle.step_back.specs.Back.{backOf, stepBack, MeetsBack}
 use Rattle.shown.specs.Row.{rowPlace}
 use Rattle.writer.specs.declared.Delta.{Delta}
 use Rattle.writer.specs.Write.{deltaOf, Writes}
-use Rattle.words.specs.Words.{stateIn, stateWords, lay}
+use Rattle.words.specs.Words.{readState, stateWords, lay}
 use Rattle.words.proofs.WordLaws.{not-laid}
 use Rattle.anim.specs.Export.{numberOr, WorldC, worldIn, OpensC, answerNumber, stateLeft, reportLeft, HandsOn, LentC, StepsOnC, StepsBackC, rowC, lengthLeft, OutputC, WritesC, SizesC}
 
@@ -33,14 +33,14 @@ use Rattle.anim.specs.Export.{numberOr, WorldC, worldIn, OpensC, answerN
 module _ (file : List ℕ) (w : WorldC) where
   pub open-unsized : {r : ℕ} → r ≡ 11 → (length (w .state) ≡ 48 → ⊥) → OpensC file w r w
   open-unsized e h =
-      let k : w .state ≡ lay (stateWords zeros) (w .state) = unfold stateWords in not-laid _ h in
+      let k : w .state ≡ lay (w .state) (stateWords zeros) = unfold stateWords in not-laid _ h in
       rw (ne-eqb (length (w .state)) 48 h) (record { answer = e; left = λ i. record { state = k i; a = w .a; b = w .b } })
 
   pub open-sized : {o : OpenedFile} {r : ℕ} {state a b : List ℕ} → length (w .state) ≡ 48 → MeetsOpen file (w .a) (w .b) o (record { a = a; b = b; state = o .state })
-      → state ≡ lay (stateWords (o .state)) (w .state) → {x : Opening} → o .answer ≡ x → r ≡ numberOr (openingOf x) → OpensC file w r (record { state = state; a = a; b = b })
+      → state ≡ lay (w .state) (stateWords (o .state)) → {x : Opening} → o .answer ≡ x → r ≡ numberOr (openingOf x) → OpensC file w r (record { state = state; a = a; b = b })
   open-sized {o} h m s {x} e k =
       let l = m .left in
-      let t = s ∙ ap (λ (v : World). lay (stateWords (v .state)) (w .state)) l in
+      let t = s ∙ ap (λ (v : World). lay (w .state) (stateWords (v .state))) l in
       rw (eq-eqb (length (w .state)) 48 h)
       (record { answer = k ∙ ap (λ (y : Opening). numberOr (openingOf y)) (sym e) ∙ ap numberOr (m .answer) ∙ whole (opening file (length (w .a)) (length (w .b))); left = λ i. record { state = t i; a = l i .a; b = l i .b } })
     where
@@ -89,7 +89,7 @@ module _ (plane row : ℕ) (state : List ℕ) (a b : ℕ) where
   pub row-unsized : (length state ≡ 48 → ⊥) → fault 11 ≡ rowC plane row state a b
   row-unsized h = rw (ne-eqb (length state) 48 h)
 
-  pub row-sized : length state ≡ 48 → {q : Res ℕ} → q ≡ rowPlace (stateIn state) a b plane row → q ≡ rowC plane row state a b
+  pub row-sized : length state ≡ 48 → {q : Res ℕ} → q ≡ rowPlace (readState state) a b plane row → q ≡ rowC plane row state a b
   row-sized h e = rw (eq-eqb (length state) 48 h) e
 
 -- writing a delta
@@ -97,7 +97,7 @@ module _ (z : Sizes) (old new : List ℕ) (l : OutputC) where
   pub write-unsized : {r : ℕ} → r ≡ 11 → (length (l .len) ≡ 8 → ⊥) → WritesC z old new l r l
   write-unsized e h = rw (ne-eqb (length (l .len)) 8 h) (record { answer = e; left = refl })
 
-  pub write-sized : {d : Delta} {out : List ℕ} → length (l .len) ≡ 8 → Writes z old new (l .out) (deltaOf d) out
+  pub write-sized : {d : Delta} {out : List ℕ} → length (l .len) ≡ 8 → Writes (l .out) old new z (deltaOf d) out
       → {x : Delta} {r : ℕ} {len : List ℕ} → d ≡ x → r ≡ numberOr (deltaOf x) → len ≡ lengthLeft (l .len) (deltaOf x) → WritesC z old new l r (record { out = out; len = len })
   write-sized h m k n t =
       let e = told deltaOf (m .answers) k in
@@ -109,5 +109,5 @@ module _ (file size : List ℕ) where
   pub size-unsized : {r : ℕ} → r ≡ 11 → (length size ≡ 8 → ⊥) → SizesC file size r size
   size-unsized e h = rw (ne-eqb (length size) 8 h) (record { answer = e; sizeOut = refl })
 
-  pub size-sized : {s x : Size} {r : ℕ} {size′ : List ℕ} → length size ≡ 8 → sizeOf s ≡ firstSize file → s ≡ x → r ≡ numberOr (sizeOf x) → size′ ≡ lengthLeft size (sizeOf x) → SizesC file size r size′
+  pub size-sized : {s x : Size} {r : ℕ} {size′ : List ℕ} → length size ≡ 8 → sizeOf s ≡ frameSize file → s ≡ x → r ≡ numberOr (sizeOf x) → size′ ≡ lengthLeft size (sizeOf x) → SizesC file size r size′
   size-sized h m k n l = rw (eq-eqb (length size) 8 h, told sizeOf m k) (record { answer = n; sizeOut = l })

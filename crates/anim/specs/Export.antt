@@ -13,7 +13,7 @@ use Rattle.laws.specs.Result.{Res, Res.ok, Res.fault, leaves, pick}
 use Rattle.state.specs.declared.State.{State}
 use Rattle.state.specs.declared.Sizes.{Sizes}
 use Rattle.state.specs.Film.{Film}
-use Rattle.opening.specs.Open.{firstSize, opening, worldOpened}
+use Rattle.opening.specs.Open.{frameSize, opening, worldOpened}
 use Rattle.step_on.specs.declared.SteppedOn.{SteppedOn}
 use Rattle.state.specs.World.{World}
 use Rattle.state.specs.After.{Answer, Answer.refused, Answer.ended, Answer.tookOn, Answer.tookBack, After, kept, workAfter}
@@ -21,7 +21,7 @@ use Rattle.step_on.specs.Step.{stepOn, onOf}
 use Rattle.step_back.specs.Back.{stepBack}
 use Rattle.shown.specs.Row.{rowPlace}
 use Rattle.writer.specs.Write.{deltaBytes, written, bufferAfter}
-use Rattle.words.specs.Words.{stateIn, stateWords, reportWords, lay}
+use Rattle.words.specs.Words.{readState, stateWords, reportWords, lay}
 
 -- 0 where there is a value, otherwise the refusal's number
 abbrev pub numberOr : {A : Type 0} → Res A → ℕ
@@ -40,13 +40,13 @@ pub record WorldC : Type 0 where
 
 -- the same as a world
 abbrev pub worldIn : WorldC → World
-worldIn w = record { a = w .a; b = w .b; state = stateIn (w .state) }
+worldIn w = record { a = w .a; b = w .b; state = readState (w .state) }
 
 -- what an opening that comes to q leaves
 abbrev pub openedC : WorldC → Res Film → WorldC
 openedC w q =
     let o : World = worldOpened (w .a) (w .b) q in
-    record { state = lay (stateWords (o .state)) (w .state); a = o .a; b = o .b }
+    record { state = lay (w .state) (stateWords (o .state)); a = o .a; b = o .b }
 
 pub record LeavesOpenC (q : Res Film) (w : WorldC) (r : ℕ) (w′ : WorldC) : Type 0 where
   pub answer : r ≡ numberOr q
@@ -67,13 +67,13 @@ answerNumber tookBack = 0
 abbrev pub stateLeft : Answer → State → List ℕ → List ℕ
 stateLeft (refused n) s out = out
 stateLeft ended s out = out
-stateLeft (tookOn r) s out = lay (stateWords s) out
-stateLeft tookBack s out = lay (stateWords s) out
+stateLeft (tookOn r) s out = lay out (stateWords s)
+stateLeft tookBack s out = lay out (stateWords s)
 
 abbrev pub reportLeft : Answer → List ℕ → List ℕ
 reportLeft (refused n) out = out
 reportLeft ended out = out
-reportLeft (tookOn r) out = lay (reportWords r) out
+reportLeft (tookOn r) out = lay out (reportWords r)
 reportLeft tookBack out = out
 
 -- what a step comes to, or 11 for a slice of a wrong length
@@ -136,7 +136,7 @@ StepsBackC w rec r w′ = LeavesBackC (backC w rec) w r w′
 
 -- a row's place, or its refusal, with A and B of these lengths
 abbrev pub rowC : (plane row : ℕ) (state : List ℕ) (a b : ℕ) → Res ℕ
-rowC plane row state a b = sized (eqb (length state) 48) (rowPlace (stateIn state) a b plane row)
+rowC plane row state a b = sized (eqb (length state) 48) (rowPlace (readState state) a b plane row)
 
 -- the place, 0 if the row is refused
 abbrev pub placeOr : Res ℕ → ℕ
@@ -145,7 +145,7 @@ placeOr (fault n) = 0
 
 -- the slice for a length: the length is written into it where there is one
 abbrev pub lengthLeft : List ℕ → Res ℕ → List ℕ
-lengthLeft out q = leaves out (λ n. lay (n ∷ []) out) q
+lengthLeft out q = leaves out (λ n. lay out (n ∷ [])) q
 
 -- what C lends to the writer besides the sizes and the pictures: the output buffer, and the slice for the delta's length
 pub record OutputC : Type 0 where
@@ -163,7 +163,7 @@ sizesIn width height planes = record { width = width; height = height; planes = 
 
 -- the contract of `anim_write_delta`
 abbrev pub WritesC : (z : Sizes) (old new : List ℕ) (l : OutputC) (r : ℕ) (l′ : OutputC) → Type 0
-WritesC z old new l r l′ = LeavesDeltaC (sized (eqb (length (l .len)) 8) (written z old new (length (l .out)))) (deltaBytes z old new) l r l′
+WritesC z old new l r l′ = LeavesDeltaC (sized (eqb (length (l .len)) 8) (written (length (l .out)) old new z)) (deltaBytes old new z) l r l′
 
 -- asking for the length of a frame that comes to q
 pub record LeavesSizeC (q : Res ℕ) (size : List ℕ) (r : ℕ) (size′ : List ℕ) : Type 0 where
@@ -172,4 +172,4 @@ pub record LeavesSizeC (q : Res ℕ) (size : List ℕ) (r : ℕ) (size′ : List
 
 -- the contract of `anim_frame_size`
 abbrev pub SizesC : (file size : List ℕ) (r : ℕ) (size′ : List ℕ) → Type 0
-SizesC file size r size′ = LeavesSizeC (sized (eqb (length size) 8) (firstSize file)) size r size′
+SizesC file size r size′ = LeavesSizeC (sized (eqb (length size) 8) (frameSize file)) size r size′

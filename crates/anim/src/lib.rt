@@ -25,7 +25,7 @@ fn wrong_length() -> u64
 }
 
 // Whether the slices for a state and a report have their lengths.
-fn sized(state: usize, report: usize) -> bool
+fn lengths_ok(state: usize, report: usize) -> bool
     ensures { λ r. ⌜ r ≡ (eqb state 48 && eqb report 32) ⌝ }
 {
     if state != 48 {
@@ -111,7 +111,7 @@ pub extern "C" fn anim_step_on(
           report = now (report .exit);
         }) ⌝ }
 {
-    if !sized(state.len(), report.len()) {
+    if !lengths_ok(state.len(), report.len()) {
         return wrong_length();
     }
     let s = step_on::step_on(file, words::read_state(state), a, b, work, rec);

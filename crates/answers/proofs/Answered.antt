@@ -7,7 +7,7 @@ use lib.ListN.{length}
 use Rattle.state.specs.World.{World}
 use Rattle.step_on.specs.Step.{stepOn}
 use Rattle.step_back.specs.Back.{stepBack}
-use Rattle.words.specs.Words.{stateIn}
+use Rattle.words.specs.Words.{readState}
 use Rattle.anim.specs.Export.{worldIn}
 use Rattle.answers.specs.Answers.{Answers, isAnswer, Answers.sizes, Answers.opens, Answers.stepsOn, Answers.stepsBack, Answers.rows, Answers.writes}
 use Rattle.answers.proofs.Table.{size-table, opening-table, place-table, written-table}
@@ -21,5 +21,5 @@ answered (stepsOn file l _ _ c) =
     ap isAnswer (c .answer)
     ∙ step-answered (eqb (length (l .world .state)) 48 && eqb (length (l .report)) 32) w (stepOn file w (length (l .work)) (length (l .rec))) (on-answered file w (length (l .work)) (length (l .rec)))
 answered (stepsBack w rec _ _ c) = ap isAnswer (c .answer) ∙ step-answered (eqb (length (w .state)) 48) (worldIn w) (stepBack (worldIn w) rec) (back-answered (worldIn w) rec)
-answered (rows plane row state a b _ e) = ap isAnswer e ∙ sized-answered (eqb (length state) 48) (place-table (stateIn state) a b plane row)
+answered (rows plane row state a b _ e) = ap isAnswer e ∙ sized-answered (eqb (length state) 48) (place-table (readState state) a b plane row)
 answered (writes z old new l _ _ c) = ap isAnswer (c .answer) ∙ sized-answered (eqb (length (l .len)) 8) (written-table z old new (length (l .out)))

@@ -9,9 +9,9 @@ use Rattle.laws.specs.Result.{Res, Res.ok, Res.fault, pick}
 use Rattle.laws.proofs.ResultLaws.{pick-both}
 use Rattle.laws.proofs.LoopLaws.{Comes, Comes.comes-next, Comes.comes-done, comes-pick, iterate-holds}
 use Rattle.delta.specs.Reading.{Reading, byteAt, pairAt}
-use Rattle.delta.specs.Column.{skip, fill, Kind as OpKind, Kind.same, Kind.skips, Kind.uniq, kindOf as opKindOf, opAs, readOp, readOps, readColumn, readColumns}
+use Rattle.delta.specs.Column.{skipRows, fill, OpKind, OpKind.same, OpKind.skips, OpKind.uniq, opKindOf, opAs, readOp, readOps, readColumn, readColumns}
 use Rattle.delta.specs.Words.{wordRun, moveOf, wordOp, pastOp, offsetOn, wordStep, readWords}
-use Rattle.delta.specs.Delta.{pointer, readPlane, readPlanes, readPicture, readDelta}
+use Rattle.delta.specs.Delta.{listPointer, readPlane, readPlanes, readPicture, readDelta}
 use Rattle.delta.specs.declared.Shape.{Shape}
 use Rattle.answers.proofs.InTable.{InTable, InTable.table-value, InTable.table-refusal, table-bind, table-need}
 
@@ -27,7 +27,7 @@ module _ (S : Shape) (d : List ℕ) where
       (table-need (leb (pick (S .inline) p (c .itemAt) + size) (length d)) 42 _ refl table-value)
 
   op-table : (base : ℕ) (c : Reading) → InTable (readOp S d base c)
-  unfolding readOp skip
+  unfolding readOp skipRows
   op-table base c = table-bind (byte-table (c .opAt)) λ b. go (opKindOf b)
     where
       go : (k : OpKind) → InTable (opAs S d base c k)
@@ -71,8 +71,8 @@ module _ (S : Shape) (d : List ℕ) where
       step x (ok o) h = comes-pick (eqb o 65535) (λ _. comes-done table-value) (λ _. past (wordOp S d base x o) (word-table base x o))
       step x (fault n) (table-refusal h) = comes-done (table-refusal h)
 
-  pointer-table : (p : ℕ) → InTable (pointer d (S .pointers) p)
-  unfolding pointer
+  pointer-table : (p : ℕ) → InTable (listPointer d (S .pointers) p)
+  unfolding listPointer
   pointer-table p = table-need (leb (S .pointers) (be32 d (4 * p))) 41 _ refl (table-need (leb (be32 d (4 * p)) (length d)) 41 _ refl table-value)
 
   planes-table : (k p : ℕ) (c : Reading) → InTable (readPlanes S d k p c)

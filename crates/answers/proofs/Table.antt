@@ -16,15 +16,15 @@ use Rattle.state.specs.State.{within, rowBytes, frameLength, stateLength, lentL
 use Rattle.state.specs.World.{World, shownIn, hiddenIn}
 use Rattle.iff.specs.Ids.{FORM, ANIM, ILBM, BMHD, BODY, ANHD, DLTA}
 use Rattle.iff.specs.Chunk.{Chunk, Walk, padded, chunkAt, walkOn, walkStep, chunks, find, has, bytesOf, contents}
-use Rattle.form.specs.Form.{animEnd, Frame as Form, chunksOf, passOn, frameStep, nextFrame}
-use Rattle.bmhd.specs.Header.{sizesAt, refusedAs, header}
+use Rattle.form.specs.Form.{animEnd, FormIlbm, chunksOf, passOn, formStep, nextForm}
+use Rattle.bmhd.specs.Header.{sizesAt, refusedAs, bitmapHeader}
 use Rattle.bmhd.specs.declared.Header.{Header}
 use Rattle.anhd.specs.Anhd.{methodOk, interleaveOk, bitsOk, columnsOk, itemsOf, frameHeader}
-use Rattle.body.specs.ByteRun.{Row, Kind, Kind.copies, Kind.nothing, Kind.repeats, kindOf, packetAs, packetAt, withPacket, unpackOn, unpackRow}
+use Rattle.body.specs.ByteRun.{Row, PacketKind, PacketKind.copies, PacketKind.nothing, PacketKind.repeats, packetKindOf, packetAs, packetAt, withPacket, unpackOn, unpackRow}
 use Rattle.body.specs.Body.{rowAt, rowsFrom, body}
 use Rattle.delta.specs.Reading.{shapeOf}
 use Rattle.frame.specs.Frame.{Frame, frameIn, frameOr, frameAt}
-use Rattle.opening.specs.Open.{bodyIn, placesIn, firstPlaces, firstHeader, firstSize, firstDelta, firstPicture, firstOf, opening}
+use Rattle.opening.specs.Open.{bodyIn, placesIn, firstPlaces, firstHeader, frameSize, firstDelta, firstPicture, firstOf, opening}
 use Rattle.record.specs.Record.{pastOf, restored}
 use Rattle.step_on.specs.Step.{ready, change, build, look, lookAhead}
 use Rattle.step_back.specs.Back.{retreat}
@@ -47,16 +47,16 @@ chunks-table s = iterate-holds (walkStep s) (λ w. length s - w .at) (fault 21) 
     step w (ok none) k = comes-done table-value
     step w (fault n) (table-refusal k) = comes-done (table-refusal k)
 
-find-table : (id : ℕ) (s : List ℕ) → InTable (find id s)
+find-table : (id : ℕ) (s : List ℕ) → InTable (find s id)
 unfolding find
 find-table id s = table-bind (chunks-table s) λ cs. table-value
 
-has-table : (id : ℕ) (s : List ℕ) → InTable (has id s)
+has-table : (id : ℕ) (s : List ℕ) → InTable (has s id)
 has-table id s = table-bind (find-table id s) λ o. table-value
 
-form-table : (s : List ℕ) (from : ℕ) → InTable (nextFrame s from)
-unfolding nextFrame
-form-table s from = iterate-holds (frameStep s) (λ at. length s - at) (fault 21) (λ _. Unit {0}) InTable (table-refusal {n = 21} refl) (λ at _. step (chunkAt s at) (chunk-table s at)) from tt
+form-table : (s : List ℕ) (from : ℕ) → InTable (nextForm s from)
+unfolding nextForm
+form-table s from = iterate-holds (formStep s) (λ at. length s - at) (fault 21) (λ _. Unit {0}) InTable (table-refusal {n = 21} refl) (λ at _. step (chunkAt s at) (chunk-table s at)) from tt
   where
     step : (q : Res (Option Chunk)) → InTable q → Comes (λ (_ : ℕ). Unit {0}) InTable (passOn s q)
     step (ok (some c)) k =
@@ -85,8 +85,8 @@ length-table : (z : Sizes) → InTable (frameLength z)
 unfolding frameLength
 length-table z = table-need (within 1 1024 (z .width)) 11 _ refl (table-need (within 1 1024 (z .height)) 11 _ refl (table-need (within 1 8 (z .planes)) 11 _ refl table-value))
 
-header-table : (s : List ℕ) → InTable (header s)
-unfolding header
+header-table : (s : List ℕ) → InTable (bitmapHeader s)
+unfolding bitmapHeader
 header-table s =
     table-need (eqb (length s) 20) 24 _ refl
     (table-bind (refused-table (frameLength (sizesAt s))) λ n. table-need (not (eqb (getD s 9 0) 1)) 24 _ refl (table-need (leb (getD s 10 0) 1) 24 _ refl table-value))
@@ -97,10 +97,10 @@ header-table s =
 
 first-header-table : (s : List ℕ) (t : Bool) → InTable (firstHeader s t)
 unfolding firstHeader
-first-header-table s t = table-bind (pick-both InTable t table-value (has-table ANHD s)) λ h. table-need h 31 _ refl (header-table (contents BMHD s))
+first-header-table s t = table-bind (pick-both InTable t table-value (has-table ANHD s)) λ h. table-need h 31 _ refl (header-table (contents s BMHD))
 
-pub size-table : (file : List ℕ) → InTable (firstSize file)
-unfolding firstSize
+pub size-table : (file : List ℕ) → InTable (frameSize file)
+unfolding frameSize
 size-table file = table-bind (places-table file) λ p. table-bind (first-header-table (chunksOf file (p .form)) (p .body)) λ z. table-value
 
 -- a frame's header
@@ -111,11 +111,11 @@ anhd-table first B d =
     (table-need (bitsOk (getD d 0 0) (be32 d 20)) 35 _ refl (table-need (columnsOk (itemsOf (getD d 0 0) (be32 d 20)) B) 36 _ refl table-value))))
 
 -- a later frame
-frame-table : (s : List ℕ) (B at : ℕ) → InTable (frameAt s B at)
+frame-table : (s : List ℕ) (B at : ℕ) → InTable (frameAt s at B)
 unfolding frameAt frameIn
 frame-table s B at = table-bind (form-table s at) go
   where
-    go : (o : Option Form) → InTable (frameOr s B o)
+    go : (o : Option FormIlbm) → InTable (frameOr s B o)
     go none = table-value
     go (some x) =
         table-bind
@@ -127,14 +127,14 @@ frame-table s B at = table-bind (form-table s at) go
 -- the first picture's BODY
 packet-table : (s : List ℕ) (at room : ℕ) → InTable (packetAt s at room)
 unfolding packetAt
-packet-table s at room = table-need (ltb at (length s)) 25 _ refl (go (kindOf (getD s at 0)))
+packet-table s at room = table-need (ltb at (length s)) 25 _ refl (go (packetKindOf (getD s at 0)))
   where
-    go : (k : Kind) → InTable (packetAs s at room k)
+    go : (k : PacketKind) → InTable (packetAs s at room k)
     go (copies n) = table-need (leb n room) 25 _ refl (table-need (leb (at + 1 + n) (length s)) 25 _ refl table-value)
     go nothing = table-value
     go (repeats n) = table-need (leb n room) 25 _ refl (table-need (leb (at + 2) (length s)) 25 _ refl table-value)
 
-unpack-table : (s : List ℕ) (B at : ℕ) → InTable (unpackRow s B at)
+unpack-table : (s : List ℕ) (B at : ℕ) → InTable (unpackRow s at B)
 unfolding unpackRow
 unpack-table s B at = iterate-holds (unpackOn s B) (λ (w : Row). length s - w .next) (fault 25) (λ _. Unit {0}) InTable (table-refusal {n = 25} refl) (λ w _. step w) (record { bytes = []; next = at }) tt
   where
@@ -145,12 +145,12 @@ unpack-table s B at = iterate-holds (unpackOn s B) (λ (w : Row). length s - w .
     step : (w : Row) → Comes (λ (_ : Row). Unit {0}) InTable (unpackOn s B w)
     step w = comes-pick (leb B (length (w .bytes))) (λ _. comes-done table-value) (λ _. with-table w (packetAt s (w .next) (B - length (w .bytes))) (packet-table s (w .next) (B - length (w .bytes))))
 
-row-table : (packed : Bool) (s : List ℕ) (B at : ℕ) → InTable (rowAt packed s B at)
+row-table : (packed : Bool) (s : List ℕ) (B at : ℕ) → InTable (rowAt s at B packed)
 unfolding rowAt
 row-table true s B at = unpack-table s B at
 row-table false s B at = table-need (leb (at + B) (length s)) 25 _ refl table-value
 
-rows-table : (packed : Bool) (s : List ℕ) (B k at : ℕ) → InTable (rowsFrom packed s B k at)
+rows-table : (packed : Bool) (s : List ℕ) (B k at : ℕ) → InTable (rowsFrom s at B k packed)
 unfolding rowsFrom
 rows-table packed s B zero at = table-value
 rows-table packed s B (suc k) at = table-bind (row-table packed s B at) λ r. table-bind (rows-table packed s B k (r .next)) λ rs. table-value
@@ -158,9 +158,9 @@ rows-table packed s B (suc k) at = table-bind (row-table packed s B at) λ r. ta
 -- opening
 picture-table : (s : List ℕ) (t : Bool) (z : Header) → InTable (firstPicture s t z)
 unfolding firstPicture firstDelta body
-picture-table s true z = table-bind (rows-table (z .packed) (contents BODY s) (rowBytes (z .sizes .width)) (z .sizes .height * z .sizes .planes) 0) λ rs. table-value
+picture-table s true z = table-bind (rows-table (z .packed) (contents s BODY) (rowBytes (z .sizes .width)) (z .sizes .height * z .sizes .planes) 0) λ rs. table-value
 picture-table s false z =
-    table-bind (anhd-table true (rowBytes (z .sizes .width)) (contents ANHD s)) λ h. table-bind (delta-table (shapeOf (z .sizes) (h .items)) (contents DLTA s)) λ ops. table-value
+    table-bind (anhd-table true (rowBytes (z .sizes .width)) (contents s ANHD)) λ h. table-bind (delta-table (shapeOf (z .sizes) (h .items)) (contents s DLTA)) λ ops. table-value
 
 pub opening-table : (file : List ℕ) (a b : ℕ) → InTable (opening file a b)
 unfolding opening firstOf
@@ -209,7 +209,7 @@ place-table s a b plane row =
     table-bind (lent-table s a b) λ n. table-need (ltb plane (s .sizes .planes)) 14 _ refl (table-need (ltb row (s .sizes .height)) 14 _ refl table-value)
 
 -- the writer
-pub written-table : (z : Sizes) (old new : List ℕ) (room : ℕ) → InTable (written z old new room)
+pub written-table : (z : Sizes) (old new : List ℕ) (room : ℕ) → InTable (written room old new z)
 unfolding written
 written-table z old new room =
-    table-bind (length-table z) λ n. table-need (eqb (length old) n) 12 _ refl (table-need (eqb (length new) n) 12 _ refl (table-need (leb (length (deltaBytes z old new)) room) 51 _ refl table-value))
+    table-bind (length-table z) λ n. table-need (eqb (length old) n) 12 _ refl (table-need (eqb (length new) n) 12 _ refl (table-need (leb (length (deltaBytes old new z)) room) 51 _ refl table-value))

@@ -41,14 +41,14 @@ pointed p q lists = (0 ∷ 0 ∷ 0 ∷ p ∷ []) ++ replicate 28 0 ++ (0 ∷ 0 �
 
 -- what a delta makes of the zeros
 abbrev method5 : ℕ → List ℕ → Res (List ℕ)
-method5 p lists = newFrame smallPicture Bytes (pointed p 0 lists) fourZeros 4
+method5 p lists = newFrame 4 fourZeros (pointed p 0 lists) smallPicture Bytes
 
 abbrev method7 : ℕ → ℕ → List ℕ → Res (List ℕ)
-method7 p q lists = newFrame smallPicture Shorts (pointed p q lists) fourZeros 4
+method7 p q lists = newFrame 4 fourZeros (pointed p q lists) smallPicture Shorts
 
 -- a row of B = 2 bytes, unpacked
 abbrev twoBytes : List ℕ → Res (List ℕ)
-twoBytes s = unpackRow s 2 0 >>= λ r. ok (r .bytes)
+twoBytes s = unpackRow s 0 2 >>= λ r. ok (r .bytes)
 
 -- the record of the step from frame 1 to frame 2, after an opening
 abbrev stepRecord : List ℕ → Res (List ℕ)
@@ -87,7 +87,7 @@ table =
     -- P10
     ∷ (stepRecord (twoFrames (pointed 64 0 P2)) ⇒ ok (0x02 ∷ 0x40 ∷ 0x02 ∷ 0x00 ∷ 0x01 ∷ 0x00 ∷ 0x01 ∷ 0x01 ∷ 0x00 ∷ []))
     -- P11
-    ∷ (ok (deltaBytes smallPicture fourZeros (0xAA ∷ 0x00 ∷ 0xBB ∷ 0x00 ∷ [])) ⇒ ok (pointed 64 0 P2))
-    ∷ ((written smallPicture fourZeros (0xAA ∷ 0x00 ∷ 0xBB ∷ 0x00 ∷ []) 69 >>= λ n. ok (n ∷ [])) ⇒ ok (69 ∷ []))
-    ∷ (ok (deltaBytes smallPicture fourZeros fourZeros) ⇒ ok (replicate 64 0))
+    ∷ (ok (deltaBytes fourZeros (0xAA ∷ 0x00 ∷ 0xBB ∷ 0x00 ∷ []) smallPicture) ⇒ ok (pointed 64 0 P2))
+    ∷ ((written 69 fourZeros (0xAA ∷ 0x00 ∷ 0xBB ∷ 0x00 ∷ []) smallPicture >>= λ n. ok (n ∷ [])) ⇒ ok (69 ∷ []))
+    ∷ (ok (deltaBytes fourZeros fourZeros smallPicture) ⇒ ok (replicate 64 0))
     ∷ []

@@ -8,11 +8,11 @@ use lib.ListN.{length, getD}
 use Rattle.laws.specs.Result.{Res, Res.ok, Res.fault, Each, Each.each, Each.no-value}
 use Rattle.laws.proofs.ResultLaws.{each-bind, each-need}
 use Rattle.state.specs.State.{frameLength}
-use Rattle.bmhd.specs.Header.{sizesAt, refusedAs, header}
+use Rattle.bmhd.specs.Header.{sizesAt, refusedAs, bitmapHeader}
 use Rattle.bmhd.specs.declared.Header.{Header}
 
-pub header-sizes : (s : List ℕ) → Each (λ (h : Header). frameLength (h .sizes) ≡ ok (h .length)) (header s)
-unfolding header
+pub header-sizes : (s : List ℕ) → Each (λ (h : Header). frameLength (h .sizes) ≡ ok (h .length)) (bitmapHeader s)
+unfolding bitmapHeader
 header-sizes s =
     each-need (eqb (length s) 20) 24 _ λ _.
     each-bind (go (frameLength (sizesAt s)) refl) λ n e.

@@ -24,8 +24,8 @@ refusedAs n (ok a) = ok a
 refusedAs n (fault m) = fault n
 
 -- the picture's sizes, the length of a frame, and whether BODY is packed; or 24
-unfoldable pub header : List ℕ → Res Header
-header s =
+unfoldable pub bitmapHeader : List ℕ → Res Header
+bitmapHeader s =
     need (eqb (length s) 20) 24 >>= λ _.
     refusedAs 24 (frameLength (sizesAt s)) >>= λ n.
     need (not (eqb (getD s 9 0) 1)) 24 >>= λ _.
@@ -33,6 +33,6 @@ header s =
     ok (record { sizes = sizesAt s; length = n; packed = eqb (getD s 10 0) 1 })
 
 -- what an answer says in the paper's terms
-abbrev pub headerOf : Bmhd → Res Header
-headerOf (Picture h) = ok h
-headerOf (Refused why) = fault (numberOf why)
+abbrev pub bmhdOf : Bmhd → Res Header
+bmhdOf (Picture h) = ok h
+bmhdOf (Refused why) = fault (numberOf why)

@@ -1,6 +1,6 @@
 // The header of the first picture: the contents of its BMHD.
 ghost use mathlib.Core.Path.{_≡_};
-ghost use Rattle.bmhd.specs.Header.{sizesAt, header, headerOf};
+ghost use Rattle.bmhd.specs.Header.{sizesAt, bitmapHeader, bmhdOf};
 use buffer::byte;
 use buffer::number16;
 use refusal::Refusal;
@@ -32,8 +32,8 @@ fn sizes_at(s: &[u8]) -> Sizes
 }
 
 // Reads the contents of a BMHD.
-pub fn read_header(s: &[u8]) -> Bmhd
-    ensures { λ r. ⌜ headerOf r ≡ header (now (s .entry)) ⌝ }
+pub fn bitmap_header(s: &[u8]) -> Bmhd
+    ensures { λ r. ⌜ bmhdOf r ≡ bitmapHeader (now (s .entry)) ⌝ }
 {
     if s.len() != 20 {
         return Bmhd::Refused(Refusal::BadBmhd);

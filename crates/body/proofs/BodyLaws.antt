@@ -20,7 +20,7 @@ use Rattle.laws.proofs.StoreLaws.{sets-agree, length-part}
 use Rattle.state.specs.declared.Sizes.{Sizes}
 use Rattle.state.specs.State.{rowBytes, frameBytes, frameLength, Sound}
 use Rattle.body.specs.ByteRun.{Row, packetAt, withPacket, unpackOn, unpackRow}
-use Rattle.body.specs.Body.{rowAt, rowsFrom, place, draw, body, picture}
+use Rattle.body.specs.Body.{rowAt, rowsFrom, place, drawRows, body, unpack}
 use Rattle.body.proofs.ByteRunLaws.{Within, packet-within}
 
 -- a row that is being unpacked has at most B bytes, and a finished one has B
@@ -35,26 +35,26 @@ unpack-turn s B w h = go (leb B (length (w .bytes))) refl (packetAt s (w .next) 
         comes-next l
     go false b (fault n) q = comes-done no-value
 
-unpack-long : (s : List ℕ) (B at : ℕ) → Each (λ (r : Row). length (r .bytes) ≡ B) (unpackRow s B at)
+unpack-long : (s : List ℕ) (B at : ℕ) → Each (λ (r : Row). length (r .bytes) ≡ B) (unpackRow s at B)
 unfolding unpackRow
 unpack-long s B at =
     iterate-holds (unpackOn s B) (λ (w : Row). length s - w .next) (fault 25) (λ (t : Row). length (t .bytes) ≤ B) (Each (λ (r : Row). length (r .bytes) ≡ B))
     no-value (unpack-turn s B) (record { bytes = []; next = at }) (omega arith)
 
 -- a row by the kind of BODY
-pub row-packed : {packed : Bool} (s : List ℕ) (B at : ℕ) → packed ≡ true → rowAt packed s B at ≡ unpackRow s B at
+pub row-packed : {packed : Bool} (s : List ℕ) (B at : ℕ) → packed ≡ true → rowAt s at B packed ≡ unpackRow s at B
 unfolding rowAt
 row-packed s B at e = rw e
 
-pub row-plain : {packed : Bool} (s : List ℕ) (B at : ℕ) → packed ≡ false → at + B ≤ length s → rowAt packed s B at ≡ ok (record { bytes = take B (drop at s); next = at + B })
+pub row-plain : {packed : Bool} (s : List ℕ) (B at : ℕ) → packed ≡ false → at + B ≤ length s → rowAt s at B packed ≡ ok (record { bytes = take B (drop at s); next = at + B })
 unfolding rowAt
 row-plain s B at e h = rw (e, le-leb (at + B) (length s) h)
 
-pub row-short : {packed : Bool} (s : List ℕ) (B at : ℕ) → packed ≡ false → length s < at + B → rowAt packed s B at ≡ fault 25
+pub row-short : {packed : Bool} (s : List ℕ) (B at : ℕ) → packed ≡ false → length s < at + B → rowAt s at B packed ≡ fault 25
 unfolding rowAt
 row-short s B at e h = rw (e, lt-leb (at + B) (length s) h)
 
-pub row-long : (packed : Bool) (s : List ℕ) (B at : ℕ) → Each (λ (r : Row). length (r .bytes) ≡ B) (rowAt packed s B at)
+pub row-long : (packed : Bool) (s : List ℕ) (B at : ℕ) → Each (λ (r : Row). length (r .bytes) ≡ B) (rowAt s at B packed)
 unfolding rowAt
 row-long true s B at = unpack-long s B at
 row-long false s B at = each-need (leb (at + B) (length s)) 25 _ λ e. each (length-part s at B (omega (arith, leb-true (at + B) (length s) e)))
@@ -64,13 +64,13 @@ pub data Rows (B : ℕ) : ℕ → List (List ℕ) → Type 0 where
   no-rows : Rows B 0 []
   one-more : {k : ℕ} {r : List ℕ} {rs : List (List ℕ)} → length r ≡ B → Rows B k rs → Rows B (suc k) (r ∷ rs)
 
-pub rows-long : (packed : Bool) (s : List ℕ) (B k at : ℕ) → Each (Rows B k) (rowsFrom packed s B k at)
+pub rows-long : (packed : Bool) (s : List ℕ) (B k at : ℕ) → Each (Rows B k) (rowsFrom s at B k packed)
 unfolding rowsFrom
 rows-long packed s B zero at = each no-rows
 rows-long packed s B (suc k) at = each-bind (row-long packed s B at) λ r l. each-bind (rows-long packed s B k (r .next)) λ rs ls. each (one-more l ls)
 
-pub length-draw : (z : Sizes) (i : ℕ) (rs : List (List ℕ)) (f : List ℕ) → length (draw z i rs f) ≡ length f
-unfolding draw
+pub length-draw : (z : Sizes) (i : ℕ) (rs : List (List ℕ)) (f : List ℕ) → length (drawRows z i rs f) ≡ length f
+unfolding drawRows
 length-draw z i [] f = refl
 length-draw z i (r ∷ rs) f = length-draw z (i + 1) rs (sets f (place z i) r) ∙ length-sets f (place z i) r
 
@@ -81,8 +81,8 @@ record Holds (z : Sizes) (j m : ℕ) : Type 0 where
 
 -- two frames agree where they did before, and where a row is drawn
 draw-agree : (z : Sizes) {k : ℕ} {rs : List (List ℕ)} → Rows (rowBytes (z .width)) k rs → (i j m : ℕ) (f g : List ℕ) → length f ≡ length g → j < length f
-    → (getD f j 0 ≡ getD g j 0) ⊎ ((i ≤ m) × (m < i + k) × Holds z j m) → getD (draw z i rs f) j 0 ≡ getD (draw z i rs g) j 0
-unfolding draw
+    → (getD f j 0 ≡ getD g j 0) ⊎ ((i ≤ m) × (m < i + k) × Holds z j m) → getD (drawRows z i rs f) j 0 ≡ getD (drawRows z i rs g) j 0
+unfolding drawRows
 draw-agree z no-rows i j m f g l h (inl e) = e
 draw-agree z no-rows i j m f g l h (inr w) = absurd (omega (arith, w .0, w .1))
 draw-agree z (one-more {k = k} {r = r} {rs = rs} q rows) i j m f g l h w =
@@ -125,16 +125,16 @@ row-of z n j b h =
 
 -- so the rows of a whole BODY make one picture of any frame
 pub draw-any : (z : Sizes) (n : ℕ) → Sound z n → (rs : List (List ℕ)) → Rows (rowBytes (z .width)) (z .height * z .planes) rs → (f g : List ℕ) → length f ≡ n → length g ≡ n
-    → draw z 0 rs f ≡ draw z 0 rs g
+    → drawRows z 0 rs f ≡ drawRows z 0 rs g
 draw-any z n b rs rows f g l k =
-    ext-getD 0 (draw z 0 rs f) (draw z 0 rs g) (length-draw z 0 rs f ∙ l ∙ sym k ∙ sym (length-draw z 0 rs g)) λ j h.
+    ext-getD 0 (drawRows z 0 rs f) (drawRows z 0 rs g) (length-draw z 0 rs f ∙ l ∙ sym k ∙ sym (length-draw z 0 rs g)) λ j h.
     let i : j < length f = rw (length-draw z 0 rs f) at h in
     let w = row-of z n j b (rw l at i) in
     draw-agree z rows 0 j (w .0) f g (l ∙ sym k) i (inr (omega arith, omega (arith, w .1), w .2))
 
 -- the picture, drawn into a frame that is there
 pub body-drawn : (packed : Bool) (z : Sizes) (n : ℕ) (s : List ℕ) (rs : List (List ℕ)) (f : List ℕ) → Sound z n → length f ≡ n
-    → rowsFrom packed s (rowBytes (z .width)) (z .height * z .planes) 0 ≡ ok rs → body packed z s ≡ ok (draw z 0 rs f)
+    → rowsFrom s 0 (rowBytes (z .width)) (z .height * z .planes) packed ≡ ok rs → body s z packed ≡ ok (drawRows z 0 rs f)
 unfolding body
 body-drawn packed z n s rs f b l e =
     rw e (ap (λ (g : List ℕ). ok g)
@@ -142,25 +142,25 @@ body-drawn packed z n s rs f b l e =
     (length-replicate (frameBytes z) 0 ∙ sym (b .length)) l))
 
 -- a picture has the length of a frame
-pub body-length : (packed : Bool) (z : Sizes) (s : List ℕ) → Each (λ f. length f ≡ frameBytes z) (body packed z s)
+pub body-length : (packed : Bool) (z : Sizes) (s : List ℕ) → Each (λ f. length f ≡ frameBytes z) (body s z packed)
 unfolding body
 body-length packed z s =
     each-bind (rows-long packed s (rowBytes (z .width)) (z .height * z .planes) 0) λ rs _.
     each (length-draw z 0 rs (replicate (frameBytes z) 0) ∙ length-replicate (frameBytes z) 0)
 
 -- the picture in a frame buffer, refusal by refusal
-pub picture-sizes : (packed : Bool) (z : Sizes) (s : List ℕ) (n : ℕ) {m : ℕ} → frameLength z ≡ fault m → picture packed z s n ≡ fault m
-unfolding picture
+pub picture-sizes : (packed : Bool) (z : Sizes) (s : List ℕ) (n : ℕ) {m : ℕ} → frameLength z ≡ fault m → unpack n s z packed ≡ fault m
+unfolding unpack
 picture-sizes packed z s n e = rw e
 
-pub picture-length : (packed : Bool) (z : Sizes) (s : List ℕ) (n : ℕ) {m : ℕ} → frameLength z ≡ ok m → (n ≡ m → ⊥) → picture packed z s n ≡ fault 12
-unfolding picture
+pub picture-length : (packed : Bool) (z : Sizes) (s : List ℕ) (n : ℕ) {m : ℕ} → frameLength z ≡ ok m → (n ≡ m → ⊥) → unpack n s z packed ≡ fault 12
+unfolding unpack
 picture-length packed z s n {m} e h = rw (e, ne-eqb n m h)
 
-pub picture-body : (packed : Bool) (z : Sizes) (s : List ℕ) (n : ℕ) {m : ℕ} → frameLength z ≡ ok m → n ≡ m → picture packed z s n ≡ body packed z s
-unfolding picture
+pub picture-body : (packed : Bool) (z : Sizes) (s : List ℕ) (n : ℕ) {m : ℕ} → frameLength z ≡ ok m → n ≡ m → unpack n s z packed ≡ body s z packed
+unfolding unpack
 picture-body packed z s n {m} e h = rw (e, eq-eqb n m h)
 
-pub body-short : (packed : Bool) (z : Sizes) (s : List ℕ) {n : ℕ} → answer (rowsFrom packed s (rowBytes (z .width)) (z .height * z .planes) 0) ≡ fault n → body packed z s ≡ fault n
+pub body-short : (packed : Bool) (z : Sizes) (s : List ℕ) {n : ℕ} → answer (rowsFrom s 0 (rowBytes (z .width)) (z .height * z .planes) packed) ≡ fault n → body s z packed ≡ fault n
 unfolding body
-body-short packed z s e = rw (answer-refused (rowsFrom packed s (rowBytes (z .width)) (z .height * z .planes) 0) e)
+body-short packed z s e = rw (answer-refused (rowsFrom s 0 (rowBytes (z .width)) (z .height * z .planes) packed) e)

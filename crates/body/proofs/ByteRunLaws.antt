@@ -10,7 +10,7 @@ use Rattle.laws.specs.Result.{Res.ok, Res.fault, Each, Each.each}
 use Rattle.laws.proofs.ResultLaws.{each-need}
 use Rattle.laws.specs.Loop.{Step.done}
 use Rattle.laws.proofs.StoreLaws.{length-part}
-use Rattle.body.specs.ByteRun.{Row, Kind, Kind.copies, Kind.nothing, Kind.repeats, kindOf, packetAs, packetAt, withPacket, unpackOn}
+use Rattle.body.specs.ByteRun.{Row, PacketKind, PacketKind.copies, PacketKind.nothing, PacketKind.repeats, packetKindOf, packetAs, packetAt, withPacket, unpackOn}
 
 -- a packet at a place lies within BODY, and its bytes within what is left of the row
 pub record Within (s : List ℕ) (at room : ℕ) (p : Row) : Type 0 where
@@ -18,7 +18,7 @@ pub record Within (s : List ℕ) (at room : ℕ) (p : Row) : Type 0 where
   pub ends : p .next ≤ length s
   pub fits : length (p .bytes) ≤ room
 
-within-as : (s : List ℕ) (at room : ℕ) (k : Kind) → at < length s → Each (Within s at room) (packetAs s at room k)
+within-as : (s : List ℕ) (at room : ℕ) (k : PacketKind) → at < length s → Each (Within s at room) (packetAs s at room k)
 within-as s at room (copies n) h =
     each-need (leb n room) 25 _ λ f. each-need (leb (at + 1 + n) (length s)) 25 _ λ e.
     let g : at + 1 + n ≤ length s = leb-true (at + 1 + n) (length s) e in
@@ -32,7 +32,7 @@ within-as s at room (repeats n) h =
 
 pub packet-within : (s : List ℕ) (at room : ℕ) → Each (Within s at room) (packetAt s at room)
 unfolding packetAt
-packet-within s at room = each-need (ltb at (length s)) 25 _ λ h. within-as s at room (kindOf (getD s at 0)) (ltb-true at (length s) h)
+packet-within s at room = each-need (ltb at (length s)) 25 _ λ h. within-as s at room (packetKindOf (getD s at 0)) (ltb-true at (length s) h)
 
 -- one turn of unpacking
 pub unpack-more : (s : List ℕ) (B : ℕ) (w p : Row) → length (w .bytes) < B → packetAt s (w .next) (B - length (w .bytes)) ≡ ok p → unpackOn s B w ≡ withPacket w (ok p)

@@ -15,24 +15,24 @@ use Rattle.state.specs.State.{rowBytes, frameBytes, Sound}
 use Rattle.body.specs.Body.{rowAt, rowsFrom}
 use Rattle.body.specs.Walk.{checkOf}
 
-pub plain-fits : (s : List ℕ) (B k at : ℕ) → at + k * B ≤ length s → answer (rowsFrom false s B k at) ≡ ok tt
+pub plain-fits : (s : List ℕ) (B k at : ℕ) → at + k * B ≤ length s → answer (rowsFrom s at B k false) ≡ ok tt
 unfolding rowsFrom rowAt
 plain-fits s B zero at h = refl
 plain-fits s B (suc k) at h =
     let m = suc-mul k B in
-    rw (le-leb (at + B) (length s) (omega (arith, m))) (answer-ok (rowsFrom false s B k (at + B)) (λ rs. take B (drop at s) ∷ rs) ∙ plain-fits s B k (at + B) (omega (arith, m)))
+    rw (le-leb (at + B) (length s) (omega (arith, m))) (answer-ok (rowsFrom s (at + B) B k false) (λ rs. take B (drop at s) ∷ rs) ∙ plain-fits s B k (at + B) (omega (arith, m)))
 
-pub plain-short : (s : List ℕ) (B k at : ℕ) → at ≤ length s → length s < at + k * B → answer (rowsFrom false s B k at) ≡ fault 25
+pub plain-short : (s : List ℕ) (B k at : ℕ) → at ≤ length s → length s < at + k * B → answer (rowsFrom s at B k false) ≡ fault 25
 unfolding rowsFrom rowAt
 plain-short s B zero at l h = absurd (omega arith)
 plain-short s B (suc k) at l h = go (leb (at + B) (length s)) refl (λ q. plain-short s B k (at + B) q (omega (arith, suc-mul k B)))
   where
-    go : (t : Bool) → leb (at + B) (length s) ≡ t → (at + B ≤ length s → answer (rowsFrom false s B k (at + B)) ≡ fault 25) → answer (rowsFrom false s B (suc k) at) ≡ fault 25
+    go : (t : Bool) → leb (at + B) (length s) ≡ t → (at + B ≤ length s → answer (rowsFrom s (at + B) B k false) ≡ fault 25) → answer (rowsFrom s at B (suc k) false) ≡ fault 25
     go false e ih = rw e
-    go true e ih = rw e (answer-ok (rowsFrom false s B k (at + B)) (λ rs. take B (drop at s) ∷ rs) ∙ ih (leb-true (at + B) (length s) e))
+    go true e ih = rw e (answer-ok (rowsFrom s (at + B) B k false) (λ rs. take B (drop at s) ∷ rs) ∙ ih (leb-true (at + B) (length s) e))
 
 -- the length answers the check
-pub plain-checked : (s : List ℕ) (B k : ℕ) (r p : Bool) → p ≡ false → r ≡ leb (k * B) (length s) → checkOf r ≡ answer (rowsFrom p s B k 0)
+pub plain-checked : (s : List ℕ) (B k : ℕ) (r p : Bool) → p ≡ false → r ≡ leb (k * B) (length s) → checkOf r ≡ answer (rowsFrom s 0 B k p)
 plain-checked s B k true p q e = rw q (sym (plain-fits s B k 0 (omega (arith, leb-true (k * B) (length s) (sym e)))))
 plain-checked s B k false p q e = rw q (sym (plain-short s B k 0 (omega arith) (omega (arith, leb-false (k * B) (length s) (sym e)))))
 

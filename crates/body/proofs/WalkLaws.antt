@@ -15,7 +15,7 @@ use Rattle.state.specs.declared.Sizes.{Sizes}
 use Rattle.state.specs.State.{rowBytes, Sound}
 use Rattle.state.proofs.StateLaws.{row-inside}
 use Rattle.body.specs.ByteRun.{Row, packetAt, unpackOn, unpackRow}
-use Rattle.body.specs.Body.{rowAt, rowsFrom, place, draw, body}
+use Rattle.body.specs.Body.{rowAt, rowsFrom, place, drawRows, body}
 use Rattle.body.specs.Walk.{Count, took, tookOf, puts, Drawn, checkOf, DrawnRows}
 use Rattle.body.specs.declared.Took.the-variants.{Bytes}
 use Rattle.body.proofs.ByteRunLaws.{packet-within, unpack-more, unpack-fault, unpack-end}
@@ -25,35 +25,35 @@ use Rattle.body.proofs.BodyLaws.{place-at, body-short}
 pub took-is : {r : Res Row} {b : Row} (count : ℕ) → r ≡ ok b → length (b .bytes) ≡ count → tookOf (Bytes count (b .next)) ≡ took r
 took-is {r} {b} count e l = rw (e, l)
 
-pub puts-is : {r : Res Row} {b : Row} (drawing : Bool) (f : List ℕ) (place : ℕ) → r ≡ ok b → puts drawing f place r ≡ pick drawing (sets f place (b .bytes)) f
+pub puts-is : {r : Res Row} {b : Row} (drawing : Bool) (f : List ℕ) (place : ℕ) → r ≡ ok b → puts f place r drawing ≡ pick drawing (sets f place (b .bytes)) f
 puts-is drawing f place e = rw e
 
-pub puts-fault : {r : Res Row} {n : ℕ} (drawing : Bool) (f : List ℕ) (place : ℕ) → r ≡ fault n → puts drawing f place r ≡ f
+pub puts-fault : {r : Res Row} {n : ℕ} (drawing : Bool) (f : List ℕ) (place : ℕ) → r ≡ fault n → puts f place r drawing ≡ f
 puts-fault drawing f place e = rw e
 
-pub puts-empty : {r : Res Row} {b : Row} (drawing : Bool) (f : List ℕ) (place : ℕ) → r ≡ ok b → b .bytes ≡ [] → puts drawing f place r ≡ f
+pub puts-empty : {r : Res Row} {b : Row} (drawing : Bool) (f : List ℕ) (place : ℕ) → r ≡ ok b → b .bytes ≡ [] → puts f place r drawing ≡ f
 puts-empty true f place e l = rw (e, l)
 puts-empty false f place e l = rw e
 
 -- the row that an answer counts
-pub record Behind (r : Res Row) (count nx : ℕ) : Type 0 where
+pub record TookRow (r : Res Row) (count nx : ℕ) : Type 0 where
   pub row : Row
   pub is : r ≡ ok row
   pub counted : length (row .bytes) ≡ count
   pub ends : row .next ≡ nx
 
-pub behind : {r : Res Row} {count nx : ℕ} → ok (record { count = count; next = nx }) ≡ took r → Behind r count nx
-behind {r = ok b} {count} {nx} e =
+pub took-row : {r : Res Row} {count nx : ℕ} → ok (record { count = count; next = nx }) ≡ took r → TookRow r count nx
+took-row {r = ok b} {count} {nx} e =
     let z : _≡_ {A = Count} (record { count = length (b .bytes); next = b .next }) (record { count = count; next = nx }) = cc in
     record { row = b; is = refl; counted = ap (λ (k : Count). k .count) z; ends = ap (λ (k : Count). k .next) z }
-behind {r = fault n} e = never (cc)
+took-row {r = fault n} e = never (cc)
 
-pub behind-fault : {r : Res Row} {n : ℕ} → fault n ≡ took r → r ≡ fault n
-behind-fault {r = ok b} e = never (cc)
-behind-fault {r = fault m} {n} e = let z : m ≡ n = cc in rw z
+pub took-row-fault : {r : Res Row} {n : ℕ} → fault n ≡ took r → r ≡ fault n
+took-row-fault {r = ok b} e = never (cc)
+took-row-fault {r = fault m} {n} e = let z : m ≡ n = cc in rw z
 
 -- a packet's count fits its row, and its next place lies past it and within BODY
-pub packet-counted : (s : List ℕ) (at room : ℕ) {count nx : ℕ} → Behind (packetAt s at room) count nx → (at < nx) × (nx ≤ length s) × (count ≤ room)
+pub packet-counted : (s : List ℕ) (at room : ℕ) {count nx : ℕ} → TookRow (packetAt s at room) count nx → (at < nx) × (nx ≤ length s) × (count ≤ room)
 packet-counted s at room w =
     let p = each-is (w .is) (packet-within s at room) in
     (rw (w .ends) at (p .rises), rw (w .ends) at (p .ends), rw (w .counted) at (p .fits))
@@ -64,7 +64,7 @@ pub record Unpacking (s : List ℕ) (B from : ℕ) (drawing : Bool) (f : List �
   pub counted : length bytes ≡ filled
   pub fits : filled ≤ B
   pub drawn : g ≡ pick drawing (sets f place bytes) f
-  pub going : Going (unpackOn s B) (λ (w : Row). length s - w .next) (fault 25) (unpackRow s B from) (record { bytes = bytes; next = at })
+  pub going : Going (unpackOn s B) (λ (w : Row). length s - w .next) (fault 25) (unpackRow s from B) (record { bytes = bytes; next = at })
 
 pick-same : (t : Bool) (f : List ℕ) → f ≡ pick t f f
 pick-same true f = refl
@@ -80,7 +80,7 @@ puts-more true f g place bytes more e = rw e (sets-append f place bytes more)
 puts-more false f g place bytes more e = e
 
 module _ {s : List ℕ} {B from : ℕ} {drawing : Bool} {f : List ℕ} {place : ℕ} {g : List ℕ} {at filled : ℕ} (u : Unpacking s B from drawing f place g at filled) where
-  pub unpacking-more : {count nx : ℕ} {h : List ℕ} → filled < B → Behind (packetAt s at (B - filled)) count nx → h ≡ puts drawing g (place + filled) (packetAt s at (B - filled))
+  pub unpacking-more : {count nx : ℕ} {h : List ℕ} → filled < B → TookRow (packetAt s at (B - filled)) count nx → h ≡ puts g (place + filled) (packetAt s at (B - filled)) drawing
       → Unpacking s B from drawing f place h nx (filled + count)
   unpacking-more {count} {nx} {h} l w e =
       let p = w .row in
@@ -93,71 +93,71 @@ module _ {s : List ℕ} {B from : ℕ} {drawing : Bool} {f : List ℕ} {place : 
         going = rw (← (w .ends)) (turns (u .going) (unpack-more s B (record { bytes = u .bytes; next = at }) p (omega (arith, u .counted)) (rw (u .counted) (w .is))) (omega (arith, c .0, c .1, w .ends)));
       }
 
-  pub unpacking-fault : {n : ℕ} → filled < B → packetAt s at (B - filled) ≡ fault n → unpackRow s B from ≡ fault n
+  pub unpacking-fault : {n : ℕ} → filled < B → packetAt s at (B - filled) ≡ fault n → unpackRow s from B ≡ fault n
   unpacking-fault {n} l e = sym (stops (u .going) (unpack-fault s B (record { bytes = u .bytes; next = at }) n (omega (arith, u .counted)) (rw (u .counted) e)))
 
-  pub unpacking-end : B ≤ filled → unpackRow s B from ≡ ok (record { bytes = u .bytes; next = at })
+  pub unpacking-end : B ≤ filled → unpackRow s from B ≡ ok (record { bytes = u .bytes; next = at })
   unpacking-end l = sym (stops (u .going) (unpack-end s B (record { bytes = u .bytes; next = at }) (omega (arith, u .counted))))
 
 -- the frame after a row, where it was refused and where it was taken
-pub drawn-fault : {drawing : Bool} {f g : List ℕ} {place n : ℕ} {r : Res Row} (bytes : List ℕ) → g ≡ pick drawing (sets f place bytes) f → r ≡ fault n → Drawn drawing f place r g
+pub drawn-fault : {drawing : Bool} {f g : List ℕ} {place n : ℕ} {r : Res Row} (bytes : List ℕ) → g ≡ pick drawing (sets f place bytes) f → r ≡ fault n → Drawn f place r drawing g
 drawn-fault {drawing} {f} {g} bytes e q = record { row = λ b p. never (cc); check = λ d. e ∙ rw d }
 
-pub drawn-row : {drawing : Bool} {f g : List ℕ} {place : ℕ} {r : Res Row} {b : Row} → g ≡ pick drawing (sets f place (b .bytes)) f → r ≡ ok b → Drawn drawing f place r g
+pub drawn-row : {drawing : Bool} {f g : List ℕ} {place : ℕ} {r : Res Row} {b : Row} → g ≡ pick drawing (sets f place (b .bytes)) f → r ≡ ok b → Drawn f place r drawing g
 drawn-row {drawing} {f} {g} {place} {r} {b} e q = record { row = λ x p. let z : b ≡ x = cc in rw (← z) e; check = λ d. e ∙ rw d }
 
-pub drawn-kept : {drawing : Bool} {f : List ℕ} {place n : ℕ} {r : Res Row} → r ≡ fault n → Drawn drawing f place r f
+pub drawn-kept : {drawing : Bool} {f : List ℕ} {place n : ℕ} {r : Res Row} → r ≡ fault n → Drawn f place r drawing f
 drawn-kept {drawing} {f} q = drawn-fault [] (pick-same drawing f) q
 
 -- one row of several
-rows-step : (packed : Bool) (s : List ℕ) (B k at : ℕ) {r : Row} → rowAt packed s B at ≡ ok r → 0 < k
-    → rowsFrom packed s B k at ≡ (rowsFrom packed s B (k - 1) (r .next) >>= λ rs. ok (r .bytes ∷ rs))
+rows-step : (packed : Bool) (s : List ℕ) (B k at : ℕ) {r : Row} → rowAt s at B packed ≡ ok r → 0 < k
+    → rowsFrom s at B k packed ≡ (rowsFrom s (r .next) B (k - 1) packed >>= λ rs. ok (r .bytes ∷ rs))
 unfolding rowsFrom
 rows-step packed s B zero at e h = absurd (omega arith)
 rows-step packed s B (suc k) at e h = let l : suc k - 1 ≡ k = omega arith in rw (l, e)
 
-pub rows-on : (packed : Bool) (s : List ℕ) (B k at : ℕ) {count nx : ℕ} → Behind (rowAt packed s B at) count nx → 0 < k
-    → answer (rowsFrom packed s B k at) ≡ answer (rowsFrom packed s B (k - 1) nx)
+pub rows-on : (packed : Bool) (s : List ℕ) (B k at : ℕ) {count nx : ℕ} → TookRow (rowAt s at B packed) count nx → 0 < k
+    → answer (rowsFrom s at B k packed) ≡ answer (rowsFrom s nx B (k - 1) packed)
 rows-on packed s B k at w h =
-    ap answer (rows-step packed s B k at (w .is) h) ∙ answer-ok (rowsFrom packed s B (k - 1) (w .row .next)) (λ rs. w .row .bytes ∷ rs)
-    ∙ ap (λ (p : ℕ). answer (rowsFrom packed s B (k - 1) p)) (w .ends)
+    ap answer (rows-step packed s B k at (w .is) h) ∙ answer-ok (rowsFrom s (w .row .next) B (k - 1) packed) (λ rs. w .row .bytes ∷ rs)
+    ∙ ap (λ (p : ℕ). answer (rowsFrom s p B (k - 1) packed)) (w .ends)
 
-pub rows-stop : (packed : Bool) (s : List ℕ) (B k at : ℕ) {n : ℕ} → rowAt packed s B at ≡ fault n → 0 < k → rowsFrom packed s B k at ≡ fault n
+pub rows-stop : (packed : Bool) (s : List ℕ) (B k at : ℕ) {n : ℕ} → rowAt s at B packed ≡ fault n → 0 < k → rowsFrom s at B k packed ≡ fault n
 unfolding rowsFrom
 rows-stop packed s B zero at e h = absurd (omega arith)
 rows-stop packed s B (suc k) at e h = rw e
 
-pub rows-none : (packed : Bool) (s : List ℕ) (B k at : ℕ) → k ≡ 0 → rowsFrom packed s B k at ≡ ok []
+pub rows-none : (packed : Bool) (s : List ℕ) (B k at : ℕ) → k ≡ 0 → rowsFrom s at B k packed ≡ ok []
 unfolding rowsFrom
 rows-none packed s B k at e = rw e
 
 -- rows that are being drawn into the frame g, which was f: k are left from row i on
 pub record Drawing (packed : Bool) (z : Sizes) (s f g : List ℕ) (at i k : ℕ) : Type 0 where
   pub left : k + i ≡ z .height * z .planes
-  pub rows : (rs : List (List ℕ)) → rowsFrom packed s (rowBytes (z .width)) (z .height * z .planes) 0 ≡ ok rs
-      → (rest : List (List ℕ)) × (rowsFrom packed s (rowBytes (z .width)) k at ≡ ok rest) × (draw z i rest g ≡ draw z 0 rs f)
+  pub rows : (rs : List (List ℕ)) → rowsFrom s 0 (rowBytes (z .width)) (z .height * z .planes) packed ≡ ok rs
+      → (rest : List (List ℕ)) × (rowsFrom s at (rowBytes (z .width)) k packed ≡ ok rest) × (drawRows z i rest g ≡ drawRows z 0 rs f)
 
 pub drawing-starts : {packed : Bool} {z : Sizes} {s f : List ℕ} → Drawing packed z s f f 0 0 (z .height * z .planes)
 drawing-starts = record { left = omega arith; rows = λ rs e. (rs, e, refl) }
 
 record Split (packed : Bool) (s : List ℕ) (B k nx : ℕ) (b : List ℕ) (rows : List (List ℕ)) : Type 0 where
   rest : List (List ℕ)
-  there : rowsFrom packed s B (k - 1) nx ≡ ok rest
+  there : rowsFrom s nx B (k - 1) packed ≡ ok rest
   whole : rows ≡ b ∷ rest
 
-split : (packed : Bool) (s : List ℕ) (B k at : ℕ) {r : Row} (rows : List (List ℕ)) → rowAt packed s B at ≡ ok r → 0 < k → rowsFrom packed s B k at ≡ ok rows
+split : (packed : Bool) (s : List ℕ) (B k at : ℕ) {r : Row} (rows : List (List ℕ)) → rowAt s at B packed ≡ ok r → 0 < k → rowsFrom s at B k packed ≡ ok rows
     → Split packed s B k (r .next) (r .bytes) rows
 split packed s B k at {r} rows e h q =
-    let m = made-of (rowsFrom packed s B (k - 1) (r .next)) (sym (rows-step packed s B k at e h) ∙ q) in
+    let m = made-of (rowsFrom s (r .next) B (k - 1) packed) (sym (rows-step packed s B k at e h) ∙ q) in
     record { rest = m .0; there = m .1; whole = sym (m .2) }
 
-draw-step : (z : Sizes) (i : ℕ) (g h b : List ℕ) (rest rows : List (List ℕ)) → rows ≡ b ∷ rest → h ≡ sets g (place z i) b → draw z (i + 1) rest h ≡ draw z i rows g
-unfolding draw
+draw-step : (z : Sizes) (i : ℕ) (g h b : List ℕ) (rest rows : List (List ℕ)) → rows ≡ b ∷ rest → h ≡ sets g (place z i) b → drawRows z (i + 1) rest h ≡ drawRows z i rows g
+unfolding drawRows
 draw-step z i g h b rest rows e l = rw (e, l)
 
 module _ {packed : Bool} {z : Sizes} {s f g : List ℕ} {at i k : ℕ} (d : Drawing packed z s f g at i k) where
-  pub drawing-more : {count nx : ℕ} {h : List ℕ} → 0 < k → Behind (rowAt packed s (rowBytes (z .width)) at) count nx
-      → Drawn true g (place z i) (rowAt packed s (rowBytes (z .width)) at) h → Drawing packed z s f h nx (i + 1) (k - 1)
+  pub drawing-more : {count nx : ℕ} {h : List ℕ} → 0 < k → TookRow (rowAt s at (rowBytes (z .width)) packed) count nx
+      → Drawn g (place z i) (rowAt s at (rowBytes (z .width)) packed) true h → Drawing packed z s f h nx (i + 1) (k - 1)
   drawing-more {count} {nx} {h} l w x = record {
     left = omega (arith, d .left);
     rows = λ rs e.
@@ -166,7 +166,7 @@ module _ {packed : Bool} {z : Sizes} {s f g : List ℕ} {at i k : ℕ} (d : Draw
         (q .rest, rw (← (w .ends)) (q .there), draw-step z i g h (w .row .bytes) (q .rest) (p .0) (q .whole) (x .row (w .row) (w .is)) ∙ p .2);
   }
 
-  pub drawing-stop : {n : ℕ} → 0 < k → rowAt packed s (rowBytes (z .width)) at ≡ fault n → (h : List ℕ) → DrawnRows packed z s f h
+  pub drawing-stop : {n : ℕ} → 0 < k → rowAt s at (rowBytes (z .width)) packed ≡ fault n → (h : List ℕ) → DrawnRows f s z packed h
   drawing-stop l e h = record {
     rows = λ rs q.
         let p = d .rows rs q in
@@ -175,8 +175,8 @@ module _ {packed : Bool} {z : Sizes} {s f g : List ℕ} {at i k : ℕ} (d : Draw
         never (cc);
   }
 
-  pub drawing-end : k ≡ 0 → DrawnRows packed z s f g
-  unfolding draw
+  pub drawing-end : k ≡ 0 → DrawnRows f s z packed g
+  unfolding drawRows
   drawing-end e = record {
     rows = λ rs q.
         let p = d .rows rs q in
@@ -213,34 +213,34 @@ module _ {packed : Bool} {z : Sizes} {s f g : List ℕ} {at line plane spot row 
   pub walking-fits : {n : ℕ} → Sound z n → spot + row ≤ n
   walking-fits {n} b = omega (arith, w .place, r, row-inside z n line plane b l (w .inside))
 
-  more : {count nx : ℕ} {h : List ℕ} → Behind (rowAt packed s row at) count nx → Drawn true g spot (rowAt packed s row at) h → Drawing packed z s f h nx (line * z .planes + plane + 1) (w .left - 1)
+  more : {count nx : ℕ} {h : List ℕ} → TookRow (rowAt s at row packed) count nx → Drawn g spot (rowAt s at row packed) true h → Drawing packed z s f h nx (line * z .planes + plane + 1) (w .left - 1)
   more {count} {nx} {h} b d = drawing-more (w .drawing) some-left (rw r at b) (rw (place-at z line plane (w .inside), ← (w .place)) (rw r at d))
 
-  pub walking-down : {count nx : ℕ} {h : List ℕ} → plane + 1 ≡ z .planes → Behind (rowAt packed s row at) count nx → Drawn true g spot (rowAt packed s row at) h
+  pub walking-down : {count nx : ℕ} {h : List ℕ} → plane + 1 ≡ z .planes → TookRow (rowAt s at row packed) count nx → Drawn g spot (rowAt s at row packed) true h
       → Walking packed z s f h nx (line + 1) 0 ((line + 1) * row)
   walking-down e b d =
       let i : (line + 1) * z .planes + 0 ≡ line * z .planes + plane + 1 = omega arith in
       record { inside = omega (arith, w .inside); place = rw r (omega arith); left = w .left - 1; drawing = rw i (more b d) }
 
-  pub walking-on : {count nx : ℕ} {h : List ℕ} → (plane + 1 ≡ z .planes → ⊥) → Behind (rowAt packed s row at) count nx → Drawn true g spot (rowAt packed s row at) h
+  pub walking-on : {count nx : ℕ} {h : List ℕ} → (plane + 1 ≡ z .planes → ⊥) → TookRow (rowAt s at row packed) count nx → Drawn g spot (rowAt s at row packed) true h
       → Walking packed z s f h nx line (plane + 1) (spot + z .height * row)
   walking-on e b d =
       let i : line * z .planes + (plane + 1) ≡ line * z .planes + plane + 1 = omega arith in
       record { inside = omega (arith, w .inside, e); place = rw (w .place, r) (omega arith); left = w .left - 1; drawing = rw i (more b d) }
 
-  pub walking-stop : {n : ℕ} → rowAt packed s row at ≡ fault n → (h : List ℕ) → DrawnRows packed z s f h
+  pub walking-stop : {n : ℕ} → rowAt s at row packed ≡ fault n → (h : List ℕ) → DrawnRows f s z packed h
   walking-stop e h = drawing-stop (w .drawing) some-left (rw r at e) h
 
-pub walking-end : {packed : Bool} {z : Sizes} {s f g : List ℕ} {at line plane spot : ℕ} → Walking packed z s f g at line plane spot → z .height ≤ line → DrawnRows packed z s f g
+pub walking-end : {packed : Bool} {z : Sizes} {s f g : List ℕ} {at line plane spot : ℕ} → Walking packed z s f g at line plane spot → z .height ≤ line → DrawnRows f s z packed g
 walking-end {z = z} {line = line} {plane = plane} w h = drawing-end (w .drawing) (spot-past (z .height) (z .planes) line plane (w .left) h (w .drawing .left))
 
 -- what the check of all rows tells
 module _ (packed : Bool) (z : Sizes) (s : List ℕ) {row : ℕ} (b : row ≡ rowBytes (z .width)) where
-  pub check-failed : (r : Bool) → checkOf r ≡ answer (rowsFrom packed s row (z .height * z .planes) 0) → not r ≡ true → body packed z s ≡ fault 25
+  pub check-failed : (r : Bool) → checkOf r ≡ answer (rowsFrom s 0 row (z .height * z .planes) packed) → not r ≡ true → body s z packed ≡ fault 25
   check-failed true e h = never (cc)
   check-failed false e h = body-short packed z s (rw b at (sym e))
 
-  pub check-passed : (r : Bool) → checkOf r ≡ answer (rowsFrom packed s row (z .height * z .planes) 0) → not r ≡ false
-      → (rs : List (List ℕ)) × (rowsFrom packed s (rowBytes (z .width)) (z .height * z .planes) 0 ≡ ok rs)
-  check-passed true e h = answered (rowsFrom packed s (rowBytes (z .width)) (z .height * z .planes) 0) (rw b at e)
+  pub check-passed : (r : Bool) → checkOf r ≡ answer (rowsFrom s 0 row (z .height * z .planes) packed) → not r ≡ false
+      → (rs : List (List ℕ)) × (rowsFrom s 0 (rowBytes (z .width)) (z .height * z .planes) packed ≡ ok rs)
+  check-passed true e h = answered (rowsFrom s 0 (rowBytes (z .width)) (z .height * z .planes) packed) (rw b at e)
   check-passed false e h = never (cc)

@@ -15,16 +15,16 @@ use Rattle.body.specs.declared.Unpacked.{Unpacked}
 use Rattle.body.specs.declared.Unpacked.the-variants.{Done, Refused}
 
 -- the row of B bytes at a place of BODY, packed or not
-unfoldable pub rowAt : Bool → List ℕ → ℕ → ℕ → Res Row
-rowAt true s B at = unpackRow s B at
-rowAt false s B at = need (leb (at + B) (length s)) 25 >>= λ _. ok (record { bytes = take B (drop at s); next = at + B })
+unfoldable pub rowAt : List ℕ → ℕ → ℕ → Bool → Res Row
+rowAt s at B true = unpackRow s at B
+rowAt s at B false = need (leb (at + B) (length s)) 25 >>= λ _. ok (record { bytes = take B (drop at s); next = at + B })
 
 -- k rows from a place on
-unfoldable pub rowsFrom : Bool → List ℕ → ℕ → ℕ → ℕ → Res (List (List ℕ))
-rowsFrom packed s B zero at = ok []
-rowsFrom packed s B (suc k) at =
-    rowAt packed s B at >>= λ r.
-    rowsFrom packed s B k (r .next) >>= λ rs.
+unfoldable pub rowsFrom : List ℕ → ℕ → ℕ → ℕ → Bool → Res (List (List ℕ))
+rowsFrom s at B zero packed = ok []
+rowsFrom s at B (suc k) packed =
+    rowAt s at B packed >>= λ r.
+    rowsFrom s (r .next) B k packed >>= λ rs.
     ok (r .bytes ∷ rs)
 
 -- where row i of BODY stands in a frame: it is row i / planes of plane i % planes
@@ -32,22 +32,22 @@ unfoldable pub place : Sizes → ℕ → ℕ
 place z i = (i % z .planes * z .height + i / z .planes) * rowBytes (z .width)
 
 -- the rows, from row i on, put into a frame
-unfoldable pub draw : Sizes → ℕ → List (List ℕ) → List ℕ → List ℕ
-draw z i [] f = f
-draw z i (r ∷ rs) f = draw z (i + 1) rs (sets f (place z i) r)
+unfoldable pub drawRows : Sizes → ℕ → List (List ℕ) → List ℕ → List ℕ
+drawRows z i [] f = f
+drawRows z i (r ∷ rs) f = drawRows z (i + 1) rs (sets f (place z i) r)
 
 -- the picture in a BODY, or 25
-unfoldable pub body : Bool → Sizes → List ℕ → Res (List ℕ)
-body packed z s =
-    rowsFrom packed s (rowBytes (z .width)) (z .height * z .planes) 0 >>= λ rs.
-    ok (draw z 0 rs (replicate (frameBytes z) 0))
+unfoldable pub body : List ℕ → Sizes → Bool → Res (List ℕ)
+body s z packed =
+    rowsFrom s 0 (rowBytes (z .width)) (z .height * z .planes) packed >>= λ rs.
+    ok (drawRows z 0 rs (replicate (frameBytes z) 0))
 
 -- the same for a frame buffer of n bytes: 11 for the sizes and 12 for the buffer come first
-unfoldable pub picture : Bool → Sizes → List ℕ → ℕ → Res (List ℕ)
-picture packed z s n =
+unfoldable pub unpack : ℕ → List ℕ → Sizes → Bool → Res (List ℕ)
+unpack n s z packed =
     frameLength z >>= λ m.
     need (eqb n m) 12 >>= λ _.
-    body packed z s
+    body s z packed
 
 -- what an answer says in the paper's terms
 abbrev pub unpackedOf : Unpacked → Res (Unit {0})

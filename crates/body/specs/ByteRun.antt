@@ -14,16 +14,16 @@ pub record Row : Type 0 where
   pub next : ℕ
 
 -- what a packet does, decided by ranges of its first byte
-pub data Kind : Type 0 where
-  copies : ℕ → Kind
-  nothing : Kind
-  repeats : ℕ → Kind
+pub data PacketKind : Type 0 where
+  copies : ℕ → PacketKind
+  nothing : PacketKind
+  repeats : ℕ → PacketKind
 
-abbrev pub kindOf : ℕ → Kind
-kindOf n = pick (leb n 127) (copies (n + 1)) (pick (eqb n 128) nothing (repeats (257 - n)))
+abbrev pub packetKindOf : ℕ → PacketKind
+packetKindOf n = pick (leb n 127) (copies (n + 1)) (pick (eqb n 128) nothing (repeats (257 - n)))
 
 -- the packet of a kind at a place, with room bytes left of its row
-abbrev pub packetAs : List ℕ → ℕ → ℕ → Kind → Res Row
+abbrev pub packetAs : List ℕ → ℕ → ℕ → PacketKind → Res Row
 packetAs s at room (copies n) =
     need (leb n room) 25 >>= λ _.
     need (leb (at + 1 + n) (length s)) 25 >>= λ _.
@@ -36,7 +36,7 @@ packetAs s at room (repeats n) =
 
 -- the packet at a place, with room bytes left of its row
 unfoldable pub packetAt : List ℕ → ℕ → ℕ → Res Row
-packetAt s at room = need (ltb at (length s)) 25 >>= λ _. packetAs s at room (kindOf (getD s at 0))
+packetAt s at room = need (ltb at (length s)) 25 >>= λ _. packetAs s at room (packetKindOf (getD s at 0))
 
 -- a row with one packet more, or the packet's refusal
 abbrev pub withPacket : Row → Res Row → Step Row (Res Row)
@@ -52,4 +52,4 @@ unpackOn s B w =
 -- the row of B bytes that is packed at a place
 unfoldable pub unpackRow : List ℕ → ℕ → ℕ → Res Row
 unfolding iterate
-unpackRow s B at = iterate (unpackOn s B) (λ (w : Row). length s - w .next) (fault 25) (record { bytes = []; next = at })
+unpackRow s at B = iterate (unpackOn s B) (λ (w : Row). length s - w .next) (fault 25) (record { bytes = []; next = at })

@@ -9,7 +9,7 @@ use Rattle.laws.specs.Result.{Res, Res.ok, Res.fault, _>>=_, pick}
 use Rattle.state.specs.declared.Sizes.{Sizes}
 use Rattle.state.specs.State.{rowBytes}
 use Rattle.body.specs.ByteRun.{Row}
-use Rattle.body.specs.Body.{rowsFrom, draw}
+use Rattle.body.specs.Body.{rowsFrom, drawRows}
 use Rattle.body.specs.declared.Packet.{Packet}
 use Rattle.body.specs.declared.Packet.the-variants.{Copy, Repeat, Nothing, Faulty}
 use Rattle.body.specs.declared.Took.{Took}
@@ -42,12 +42,12 @@ tookOf (Bytes count nx) = ok (record { count = count; next = nx })
 tookOf NoBytes = fault 25
 
 -- the frame with the bytes at a place, if they are drawn and there are any
-abbrev pub puts : Bool → List ℕ → ℕ → Res Row → List ℕ
-puts drawing f place (ok r) = pick drawing (sets f place (r .bytes)) f
-puts drawing f place (fault n) = f
+abbrev pub puts : List ℕ → ℕ → Res Row → Bool → List ℕ
+puts f place (ok r) drawing = pick drawing (sets f place (r .bytes)) f
+puts f place (fault n) drawing = f
 
 -- the same of a row; of a row that is refused nothing is said but that a check draws nothing
-pub record Drawn (drawing : Bool) (f : List ℕ) (place : ℕ) (r : Res Row) (g : List ℕ) : Type 0 where
+pub record Drawn (f : List ℕ) (place : ℕ) (r : Res Row) (drawing : Bool) (g : List ℕ) : Type 0 where
   pub row : (b : Row) → r ≡ ok b → g ≡ pick drawing (sets f place (b .bytes)) f
   pub check : drawing ≡ false → g ≡ f
 
@@ -57,5 +57,5 @@ checkOf true = ok tt
 checkOf false = fault 25
 
 -- a frame g into which the rows of BODY were drawn; of a BODY that is refused nothing is said
-pub record DrawnRows (packed : Bool) (z : Sizes) (s f g : List ℕ) : Type 0 where
-  pub rows : (rs : List (List ℕ)) → rowsFrom packed s (rowBytes (z .width)) (z .height * z .planes) 0 ≡ ok rs → g ≡ draw z 0 rs f
+pub record DrawnRows (f s : List ℕ) (z : Sizes) (packed : Bool) (g : List ℕ) : Type 0 where
+  pub rows : (rs : List (List ℕ)) → rowsFrom s 0 (rowBytes (z .width)) (z .height * z .planes) packed ≡ ok rs → g ≡ drawRows z 0 rs f

@@ -5,7 +5,7 @@ ghost use lib.ListN.{length, take, drop, replicate};
 ghost use lib.Seq.{sets};
 ghost use Rattle.laws.specs.Result.{pick, orKeep, answer};
 ghost use Rattle.body.specs.ByteRun.{packetAt, unpackRow};
-ghost use Rattle.body.specs.Body.{rowAt, rowsFrom, picture, unpackedOf};
+ghost use Rattle.body.specs.Body.{rowAt, rowsFrom, unpack, unpackedOf};
 ghost use Rattle.body.specs.Walk.{packetOf, Fits, took, tookOf, puts, Drawn, checkOf, DrawnRows};
 ghost use Rattle.state.specs.State.{Sound};
 use buffer::fill;
@@ -85,7 +85,7 @@ fn packet_at(s: &[u8], at: usize, room: usize) -> Packet
     }
 }
 
-// Puts count bytes of s into the frame, where that is asked for.
+// Puts count bytes of s into the frame, if drawing is set.
 fn draw_copy(frame: &mut [u8], place: usize, s: &[u8], from: usize, count: usize, drawing: bool)
     requires { ⌜ (place + count ≤ length (now frame)) × (from + count ≤ length (now s)) ⌝ }
     ensures { λ _. ⌜ now (frame .exit) ≡ pick drawing (sets (now (frame .entry)) place (take count (drop from (now (s .entry))))) (now (frame .entry)) ⌝ }
@@ -98,7 +98,7 @@ fn draw_copy(frame: &mut [u8], place: usize, s: &[u8], from: usize, count: usize
     copy(&mut frame[place..end], &s[from..to]);
 }
 
-// Puts one byte into the frame count times, where that is asked for.
+// Puts one byte into the frame count times, if drawing is set.
 fn draw_fill(frame: &mut [u8], place: usize, value: u8, count: usize, drawing: bool)
     requires { ⌜ place + count ≤ length (now frame) ⌝ }
     ensures { λ _. ⌜ now (frame .exit) ≡ pick drawing (sets (now (frame .entry)) place (replicate count value)) (now (frame .entry)) ⌝ }
@@ -110,7 +110,7 @@ fn draw_fill(frame: &mut [u8], place: usize, value: u8, count: usize, drawing: b
     fill(&mut frame[place..end], value);
 }
 
-// Takes the packet at a place; its bytes go into the frame where that is asked for.
+// Takes the packet at a place; its bytes go into the frame if drawing is set.
 fn take_packet(
     frame: &mut [u8],
     place: usize,
@@ -121,7 +121,7 @@ fn take_packet(
 ) -> Took
     requires { ⌜ place + room ≤ length (now frame) ⌝ }
     ensures { λ r. ⌜ (tookOf r ≡ took (packetAt (now (s .entry)) at room))
-        × (now (frame .exit) ≡ puts drawing (now (frame .entry)) place (packetAt (now (s .entry)) at room)) ⌝ }
+        × (now (frame .exit) ≡ puts (now (frame .entry)) place (packetAt (now (s .entry)) at room) drawing) ⌝ }
 {
     let p = packet_at(s, at, room);
     match p {
@@ -148,8 +148,8 @@ fn unpack_row(
     drawing: bool,
 ) -> Took
     requires { ⌜ place + row ≤ length (now frame) ⌝ }
-    ensures { λ r. ⌜ (tookOf r ≡ took (unpackRow (now (s .entry)) row from))
-        × Drawn drawing (now (frame .entry)) place (unpackRow (now (s .entry)) row from) (now (frame .exit)) ⌝ }
+    ensures { λ r. ⌜ (tookOf r ≡ took (unpackRow (now (s .entry)) from row))
+        × Drawn (now (frame .entry)) place (unpackRow (now (s .entry)) from row) drawing (now (frame .exit)) ⌝ }
 {
     let mut at = from;
     let mut filled = 0;
@@ -180,8 +180,8 @@ fn take_row(
     drawing: bool,
 ) -> Took
     requires { ⌜ place + row ≤ length (now frame) ⌝ }
-    ensures { λ r. ⌜ (tookOf r ≡ took (rowAt packed (now (s .entry)) row at))
-        × Drawn drawing (now (frame .entry)) place (rowAt packed (now (s .entry)) row at) (now (frame .exit)) ⌝ }
+    ensures { λ r. ⌜ (tookOf r ≡ took (rowAt (now (s .entry)) at row packed))
+        × Drawn (now (frame .entry)) place (rowAt (now (s .entry)) at row packed) drawing (now (frame .exit)) ⌝ }
 {
     if packed {
         return unpack_row(frame, place, s, at, row, drawing);
@@ -201,8 +201,8 @@ fn take_row(
 
 // Whether count rows of BODY are all there. The frame stays as it is.
 fn check_rows(frame: &mut [u8], s: &[u8], row: usize, count: usize, packed: bool) -> bool
-    requires { ⌜ (row ≤ length (now frame)) × (count * row ≤ 1048576) ⌝ }
-    ensures { λ r. ⌜ (checkOf r ≡ answer (rowsFrom packed (now (s .entry)) row count 0)) × (now (frame .exit) ≡ now (frame .entry)) ⌝ }
+    requires { ⌜ (row ≤ length (now frame)) × (count * row ≤ 8 * 1024 * 128) ⌝ }
+    ensures { λ r. ⌜ (checkOf r ≡ answer (rowsFrom (now (s .entry)) 0 row count packed)) × (now (frame .exit) ≡ now (frame .entry)) ⌝ }
 {
     if !packed {
         return count * row <= s.len();
@@ -223,7 +223,7 @@ fn check_rows(frame: &mut [u8], s: &[u8], row: usize, count: usize, packed: bool
 // Puts the rows of BODY into the frame.
 fn draw_rows(frame: &mut [u8], s: &[u8], sizes: Sizes, packed: bool)
     requires { ⌜ Sound sizes (length (now frame)) ⌝ }
-    ensures { λ _. ⌜ DrawnRows packed sizes (now (s .entry)) (now (frame .entry)) (now (frame .exit)) ⌝ }
+    ensures { λ _. ⌜ DrawnRows (now (frame .entry)) (now (s .entry)) sizes packed (now (frame .exit)) ⌝ }
 {
     let row = sizes.row_bytes();
     let height = sizes.height;
@@ -250,8 +250,8 @@ fn draw_rows(frame: &mut [u8], s: &[u8], sizes: Sizes, packed: bool)
 
 // Unpacks a BODY into the frame, all or nothing.
 pub fn unpack(frame: &mut [u8], s: &[u8], sizes: Sizes, packed: bool) -> Unpacked
-    ensures { λ r. ⌜ (unpackedOf r ≡ answer (picture packed sizes (now (s .entry)) (length (now (frame .entry)))))
-        × (now (frame .exit) ≡ orKeep (now (frame .entry)) (picture packed sizes (now (s .entry)) (length (now (frame .entry))))) ⌝ }
+    ensures { λ r. ⌜ (unpackedOf r ≡ answer (unpack (length (now (frame .entry))) (now (s .entry)) sizes packed))
+        × (now (frame .exit) ≡ orKeep (now (frame .entry)) (unpack (length (now (frame .entry))) (now (s .entry)) sizes packed)) ⌝ }
 {
     let l = sizes.frame_length();
     match l {

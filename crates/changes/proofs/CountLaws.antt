@@ -18,7 +18,7 @@ use Rattle.runs.specs.Front.{runsAt}
 use Rattle.runs.proofs.RunLaws.{runs-end, kept-at, changed-at, changed-is, changed-joins}
 use Rattle.runs.proofs.StretchLaws.{by-test}
 use Rattle.runs.proofs.NextLaws.{changed-kept}
-use Rattle.changes.specs.Count.{countOf, Counted}
+use Rattle.changes.specs.Count.{count, CountsBlock}
 use Rattle.changes.specs.declared.Counts.{Counts}
 
 byte-small : (t : Bool) → boolByte t ≤ 1
@@ -67,11 +67,11 @@ module _ (old new : List ℕ) (l : length old ≡ length new) (i : ℕ) where
   differing-step h = rw (drop-cons old i 0 h, drop-cons new i 0 (omega arith), add-one i) (picked (eqb (getD old i 0) (getD new i 0)) (differing (drop (suc i) old) (drop (suc i) new)))
 
 -- the turns of a count
-pub count-starts : (old new : List ℕ) (at : ℕ) → Counted old new at at 0 0
+pub count-starts : (old new : List ℕ) (at : ℕ) → CountsBlock old new at at 0 0
 count-starts old new at = record { runs = omega arith; bytes = omega arith; few-runs = omega arith; few-bytes = omega arith }
 
-pub count-then : {old new : List ℕ} {from i to ends changed ends′ changed′ : ℕ} → Counted old new from i ends changed → Counted old new i to ends′ changed′
-    → Counted old new from to (ends + ends′) (changed + changed′)
+pub count-then : {old new : List ℕ} {from i to ends changed ends′ changed′ : ℕ} → CountsBlock old new from i ends changed → CountsBlock old new i to ends′ changed′
+    → CountsBlock old new from to (ends + ends′) (changed + changed′)
 count-then c d = record {
   runs = omega (arith, c .runs, d .runs);
   bytes = omega (arith, c .bytes, d .bytes);
@@ -80,7 +80,7 @@ count-then c d = record {
 }
 
 pub count-byte : (old new : List ℕ) (i : ℕ) → length old ≡ length new → i + 1 < length old
-    → Counted old new i (i + 1) (boolByte (not (eqb (getD old i 0) (getD new i 0)) && eqb (getD old (i + 1) 0) (getD new (i + 1) 0))) (boolByte (not (eqb (getD old i 0) (getD new i 0))))
+    → CountsBlock old new i (i + 1) (boolByte (not (eqb (getD old i 0) (getD new i 0)) && eqb (getD old (i + 1) 0) (getD new (i + 1) 0))) (boolByte (not (eqb (getD old i 0) (getD new i 0))))
 unfolding runsAt
 count-byte old new i l h = record {
   runs = sym (runs-step old new l i h);
@@ -94,7 +94,7 @@ module _ (old new : List ℕ) (i : ℕ) (l : length old ≡ length new) (h : i +
   none-left : length (runsAt old new (i + 1)) ≡ 0
   none-left = rw (runs-end old new (i + 1) (omega arith))
 
-  last-kept : getD old i 0 ≡ getD new i 0 → Counted old new i (i + 1) 0 0
+  last-kept : getD old i 0 ≡ getD new i 0 → CountsBlock old new i (i + 1) 0 0
   unfolding runsAt
   last-kept e = record {
     runs = omega (arith, ap length (kept-at old new i (omega arith) (sym l) e), count-kept (runsAt old new (i + 1)));
@@ -107,7 +107,7 @@ module _ (old new : List ℕ) (i : ℕ) (l : length old ≡ length new) (h : i +
   unfolding changed
   one-left e = rw (changed-at old new i (omega arith) (sym l) e, runs-end old new (i + 1) (omega arith), changed)
 
-  last-changed : getD old i 0 ≢ getD new i 0 → Counted old new i (i + 1) 1 1
+  last-changed : getD old i 0 ≢ getD new i 0 → CountsBlock old new i (i + 1) 1 1
   unfolding runsAt
   last-changed e = record {
     runs = omega (arith, none-left, one-left e);
@@ -117,12 +117,12 @@ module _ (old new : List ℕ) (i : ℕ) (l : length old ≡ length new) (h : i +
   }
 
 -- what the whole comes to
-pub count-two : (old new : List ℕ) → length old ≢ length new → record { runs = 0; changed = 0 } ≡ countOf old new
-unfolding countOf
+pub count-two : (old new : List ℕ) → length old ≢ length new → record { runs = 0; changed = 0 } ≡ count old new
+unfolding count
 count-two old new h = simp (ne-eqb _ _ h)
 
-count-all : (old new : List ℕ) (runs changed : ℕ) → length old ≡ length new → Counted old new 0 (length old) runs changed → record { runs = runs; changed = changed } ≡ countOf old new
-unfolding countOf runsAt differing
+count-all : (old new : List ℕ) (runs changed : ℕ) → length old ≡ length new → CountsBlock old new 0 (length old) runs changed → record { runs = runs; changed = changed } ≡ count old new
+unfolding count runsAt differing
 count-all old new runs changed l c =
     let n : length (runsAt old new (length old)) ≡ 0 = rw (runs-end old new (length old) (omega arith)) in
     let d : differing (drop (length old) old) (drop (length old) new) ≡ 0 = rw (drop-of-length-le old {i = length old} (omega arith), differing) in
@@ -130,20 +130,20 @@ count-all old new runs changed l c =
     let q : changed ≡ differing old new = omega (arith, c .bytes, d) in
     simp (eq-eqb _ _ l, p, q)
 
-module _ {old new : List ℕ} {i runs changed : ℕ} (c : Counted old new 0 i runs changed) (l : length old ≡ length new) (h : i + 1 ≡ length old) where
-  pub all-kept : getD old i 0 ≡ getD new i 0 → record { runs = runs; changed = changed } ≡ countOf old new
+module _ {old new : List ℕ} {i runs changed : ℕ} (c : CountsBlock old new 0 i runs changed) (l : length old ≡ length new) (h : i + 1 ≡ length old) where
+  pub all-kept : getD old i 0 ≡ getD new i 0 → record { runs = runs; changed = changed } ≡ count old new
   all-kept e = count-all old new runs changed l (simp add-zero at (rw h at (count-then c (last-kept old new i l h e))))
 
-  pub all-changed : getD old i 0 ≢ getD new i 0 → record { runs = runs + 1; changed = changed + 1 } ≡ countOf old new
+  pub all-changed : getD old i 0 ≢ getD new i 0 → record { runs = runs + 1; changed = changed + 1 } ≡ count old new
   all-changed e = count-all old new (runs + 1) (changed + 1) l (rw h at (count-then c (last-changed old new i l h e)))
 
-pub count-none : (old new : List ℕ) → length old ≡ length new → length old ≡ 0 → record { runs = 0; changed = 0 } ≡ countOf old new
+pub count-none : (old new : List ℕ) → length old ≡ length new → length old ≡ 0 → record { runs = 0; changed = 0 } ≡ count old new
 count-none old new l e = count-all old new 0 0 l (rw e (count-starts old new 0))
 
 -- what the count of two lists of one length tells
-module _ (old new : List ℕ) {c : Counts} (l : length old ≡ length new) (e : c ≡ countOf old new) where
+module _ (old new : List ℕ) {c : Counts} (l : length old ≡ length new) (e : c ≡ count old new) where
   told : c ≡ record { runs = length (runsOf old new); changed = differing old new }
-  unfolding countOf
+  unfolding count
   told = e ∙ simp (eq-eqb (length old) (length new) l)
 
   pub runs-counted : c .runs ≡ length (runsOf old new)

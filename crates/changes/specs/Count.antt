@@ -10,11 +10,11 @@ use Rattle.runs.specs.Runs.{runsOf, differing}
 use Rattle.changes.specs.declared.Counts.{Counts}
 
 -- how many runs there are, and how many elements differ; none for lists of two lengths
-unfoldable pub countOf : List ℕ → List ℕ → Counts
-countOf old new = pick (eqb (length old) (length new)) (record { runs = length (runsOf old new); changed = differing old new }) (record { runs = 0; changed = 0 })
+unfoldable pub count : List ℕ → List ℕ → Counts
+count old new = pick (eqb (length old) (length new)) (record { runs = length (runsOf old new); changed = differing old new }) (record { runs = 0; changed = 0 })
 
 -- the runs that end, and the bytes that differ, from one place to another
-pub record Counted (old new : List ℕ) (from to ends changed : ℕ) : Type 0 where
+pub record CountsBlock (old new : List ℕ) (from to ends changed : ℕ) : Type 0 where
   pub runs : ends + length (runsOf (drop to old) (drop to new)) ≡ length (runsOf (drop from old) (drop from new))
   pub bytes : changed + differing (drop to old) (drop to new) ≡ differing (drop from old) (drop from new)
   pub few-runs : from + ends ≤ to

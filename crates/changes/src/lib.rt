@@ -2,7 +2,7 @@
 ghost use mathlib.Core.Path.{_≡_};
 ghost use Prim.Native.Nat.{_+_, _<_, _≤_};
 ghost use lib.ListN.{length};
-ghost use Rattle.changes.specs.Count.{countOf, Counted};
+ghost use Rattle.changes.specs.Count.{count, CountsBlock};
 
 // How many runs there are, and how many bytes changed.
 pub struct Counts {
@@ -19,7 +19,7 @@ struct Block {
 // Counts size bytes from a place on, which aren't the last. There is no branch, so that many bytes are counted at once.
 fn count_block(old: &[u8], new: &[u8], at: usize, size: usize) -> Block
     requires { ⌜ (length (now old) ≡ length (now new)) × (at + size < length (now old)) × (size ≤ 128) ⌝ }
-    ensures { λ r. ⌜ Counted (now (old .entry)) (now (new .entry)) at (at + size) (r .ends) (r .changed) ⌝ }
+    ensures { λ r. ⌜ CountsBlock (now (old .entry)) (now (new .entry)) at (at + size) (r .ends) (r .changed) ⌝ }
 {
     let mut ends: u8 = 0;
     let mut changed: u8 = 0;
@@ -36,7 +36,7 @@ fn count_block(old: &[u8], new: &[u8], at: usize, size: usize) -> Block
 
 // Counts the runs and the bytes that changed, at a cost that does not depend on them. Between buffers of two lengths there are none.
 pub fn count(old: &[u8], new: &[u8]) -> Counts
-    ensures { λ r. ⌜ r ≡ countOf (now (old .entry)) (now (new .entry)) ⌝ }
+    ensures { λ r. ⌜ r ≡ count (now (old .entry)) (now (new .entry)) ⌝ }
 {
     let n = old.len();
     let mut runs: usize = 0;

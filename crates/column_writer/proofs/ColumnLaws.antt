@@ -8,9 +8,9 @@ use lib.Dec.{eqb, leb}
 use lib.ListN.{replicate, length}
 use borrow.Author.Tests.{eq-eqb, ne-eqb, eqb-true, le-leb, lt-leb}
 use Rattle.runs.specs.Runs.{Run, changed, runsOf}
-use Rattle.runs.specs.Front.{front, behind, later}
+use Rattle.runs.specs.Front.{front, afterFront, later}
 use Rattle.runs.proofs.RunLaws.{changed-is}
-use Rattle.column_writer.specs.Column.{Op, Op.skip, Op.uniq, Op.same, Group, join, groupsOf, loose, stretch, cut, cutAll, opsOf, uniqs, columnOps}
+use Rattle.column_writer.specs.Column.{WrittenOp, WrittenOp.skip, WrittenOp.uniq, WrittenOp.same, Group, join, groupsOf, joinUniq, stretchOps, cut, cutAll, opsOf, uniqs, columnOps}
 use Rattle.column_writer.specs.Piece.{NotFirst}
 use Rattle.column_writer.proofs.BoundLaws.{cut-no-skip}
 
@@ -44,16 +44,16 @@ unfolding groupsOf
 group-front zero v vs h = join-apart v vs h
 group-front (suc n) v vs h = ap (join v) (group-front n v vs h) ∙ join-same v (suc n) (groupsOf vs)
 
-pub stretch-same : (n v : ℕ) (gs : List Group) → 4 ≤ n → stretch (record { value = v; rows = n } ∷ gs) ≡ same n v ∷ stretch gs
-unfolding stretch
-stretch-same n v gs h = rw (le-leb 4 n h, stretch)
+pub stretch-same : (n v : ℕ) (gs : List Group) → 4 ≤ n → stretchOps (record { value = v; rows = n } ∷ gs) ≡ same n v ∷ stretchOps gs
+unfolding stretchOps
+stretch-same n v gs h = rw (le-leb 4 n h, stretchOps)
 
-pub stretch-few : (n v : ℕ) (gs : List Group) → n < 4 → stretch (record { value = v; rows = n } ∷ gs) ≡ loose (replicate n v) (stretch gs)
-unfolding stretch
-stretch-few n v gs h = rw (lt-leb 4 n h, stretch)
+pub stretch-few : (n v : ℕ) (gs : List Group) → n < 4 → stretchOps (record { value = v; rows = n } ∷ gs) ≡ joinUniq (replicate n v) (stretchOps gs)
+unfolding stretchOps
+stretch-few n v gs h = rw (lt-leb 4 n h, stretchOps)
 
-pub stretch-none : stretch (groupsOf []) ≡ []
-unfolding stretch groupsOf
+pub stretch-none : stretchOps (groupsOf []) ≡ []
+unfolding stretchOps groupsOf
 stretch-none = refl
 
 -- the rows of groups
@@ -76,56 +76,56 @@ flat-groups [] = refl
 flat-groups (v ∷ vs) = flat-join v (groupsOf vs) ∙ ap (λ (l : List ℕ). v ∷ l) (flat-groups vs)
 
 -- rows that become a Uniq, in two parts
-pub loose-join : (vs ws : List ℕ) (os : List Op) → loose (vs ++ ws) os ≡ loose vs (loose ws os)
-unfolding loose
-loose-join vs ws [] = refl
-loose-join vs ws (skip n ∷ os) = refl
-loose-join vs ws (uniq us ∷ os) = ap (λ (l : List ℕ). uniq l ∷ os) (append-assoc vs ws us)
-loose-join vs ws (same c v ∷ os) = refl
+pub join-uniq-join : (vs ws : List ℕ) (os : List WrittenOp) → joinUniq (vs ++ ws) os ≡ joinUniq vs (joinUniq ws os)
+unfolding joinUniq
+join-uniq-join vs ws [] = refl
+join-uniq-join vs ws (skip n ∷ os) = refl
+join-uniq-join vs ws (uniq us ∷ os) = ap (λ (l : List ℕ). uniq l ∷ os) (append-assoc vs ws us)
+join-uniq-join vs ws (same c v ∷ os) = refl
 
-pub loose-none : (vs : List ℕ) → loose vs [] ≡ uniq vs ∷ []
-unfolding loose
-loose-none vs = refl
+pub join-uniq-none : (vs : List ℕ) → joinUniq vs [] ≡ uniq vs ∷ []
+unfolding joinUniq
+join-uniq-none vs = refl
 
-pub loose-same : (vs : List ℕ) (c v : ℕ) (os : List Op) → loose vs (same c v ∷ os) ≡ uniq vs ∷ same c v ∷ os
-unfolding loose
-loose-same vs c v os = refl
+pub join-uniq-same : (vs : List ℕ) (c v : ℕ) (os : List WrittenOp) → joinUniq vs (same c v ∷ os) ≡ uniq vs ∷ same c v ∷ os
+unfolding joinUniq
+join-uniq-same vs c v os = refl
 
 -- the ops of runs: those of the stretch that begins at once, and those after it
 pub ops-none : opsOf [] ≡ []
 unfolding opsOf
 ops-none = refl
 
-run-at-once : (vs : List ℕ) (rs : List Run) → opsOf (record { gap = 0; bytes = vs } ∷ rs) ≡ cutAll (stretch (groupsOf vs)) ++ opsOf rs
+run-at-once : (vs : List ℕ) (rs : List Run) → opsOf (record { gap = 0; bytes = vs } ∷ rs) ≡ cutAll (stretchOps (groupsOf vs)) ++ opsOf rs
 unfolding opsOf cutAll
 run-at-once vs rs = rw cut-no-skip
 
-pub ops-split : (rs : List Run) → opsOf rs ≡ cutAll (stretch (groupsOf (front rs))) ++ opsOf (behind rs)
-unfolding front behind
+pub ops-split : (rs : List Run) → opsOf rs ≡ cutAll (stretchOps (groupsOf (front rs))) ++ opsOf (afterFront rs)
+unfolding front afterFront
 ops-split [] = rw stretch-none (unfold cutAll in refl)
 ops-split (r ∷ rs) = go (eqb (r .gap) 0) refl
   where
-    go : (t : Bool) → eqb (r .gap) 0 ≡ t → opsOf (r ∷ rs) ≡ cutAll (stretch (groupsOf (front (r ∷ rs)))) ++ opsOf (behind (r ∷ rs))
-    go true e = rw (e, front, behind) (ap (λ (g : ℕ). opsOf (record { gap = g; bytes = r .bytes } ∷ rs)) (eqb-true (r .gap) 0 e) ∙ run-at-once (r .bytes) rs)
-    go false e = rw (e, front, behind, stretch-none) (unfold cutAll in refl)
+    go : (t : Bool) → eqb (r .gap) 0 ≡ t → opsOf (r ∷ rs) ≡ cutAll (stretchOps (groupsOf (front (r ∷ rs)))) ++ opsOf (afterFront (r ∷ rs))
+    go true e = rw (e, front, afterFront) (ap (λ (g : ℕ). opsOf (record { gap = g; bytes = r .bytes } ∷ rs)) (eqb-true (r .gap) 0 e) ∙ run-at-once (r .bytes) rs)
+    go false e = rw (e, front, afterFront, stretch-none) (unfold cutAll in refl)
 
-pub cut-first : (o : Op) (os : List Op) (bs : List Op) → cutAll (o ∷ os) ++ bs ≡ cut o ++ (cutAll os ++ bs)
+pub cut-first : (o : WrittenOp) (os : List WrittenOp) (bs : List WrittenOp) → cutAll (o ∷ os) ++ bs ≡ cut o ++ (cutAll os ++ bs)
 unfolding cutAll
 cut-first o os bs = append-assoc (cut o) (cutAll os) bs
 
 -- unchanged rows in front of a changed one
-run-later : (n : ℕ) (vs : List ℕ) (rs : List Run) → opsOf (later n (record { gap = 0; bytes = vs } ∷ rs)) ≡ cut (skip n) ++ (cutAll (stretch (groupsOf vs)) ++ opsOf rs)
+run-later : (n : ℕ) (vs : List ℕ) (rs : List Run) → opsOf (later n (record { gap = 0; bytes = vs } ∷ rs)) ≡ cut (skip n) ++ (cutAll (stretchOps (groupsOf vs)) ++ opsOf rs)
 unfolding later opsOf
-run-later n vs rs = let e : n + 0 ≡ n = omega arith in rw e (cut-first (skip n) (stretch (groupsOf vs)) (opsOf rs))
+run-later n vs rs = let e : n + 0 ≡ n = omega arith in rw e (cut-first (skip n) (stretchOps (groupsOf vs)) (opsOf rs))
 
 pub ops-later : (n a : ℕ) (rs : List Run) → opsOf (later n (changed a rs)) ≡ cut (skip n) ++ opsOf (changed a rs)
-ops-later n a rs = rw (changed-is a rs) (rw (run-at-once (a ∷ front rs) (behind rs)) (run-later n (a ∷ front rs) (behind rs)))
+ops-later n a rs = rw (changed-is a rs) (rw (run-at-once (a ∷ front rs) (afterFront rs)) (run-later n (a ∷ front rs) (afterFront rs)))
 
 -- what holds of the ops of the runs, and of Uniqs over all rows, holds of a column's ops
-pub column-case : (P : List Op → Type 0) (old new : List ℕ) → P (opsOf (runsOf new old)) → P (uniqs (length new) new) → P (columnOps old new)
+pub column-case : (P : List WrittenOp → Type 0) (old new : List ℕ) → P (opsOf (runsOf new old)) → P (uniqs (length new) new) → P (columnOps old new)
 unfolding columnOps
 column-case P old new p q = go (leb (length (opsOf (runsOf new old))) 255)
   where
-    go : (t : Bool) → P (elim t as (λ _. List Op) [ true ↦ opsOf (runsOf new old) | false ↦ uniqs (length new) new ])
+    go : (t : Bool) → P (elim t as (λ _. List WrittenOp) [ true ↦ opsOf (runsOf new old) | false ↦ uniqs (length new) new ])
     go true = p
     go false = q

@@ -7,39 +7,39 @@ use lib.ListN.{length, getD, take, drop, replicate, length-append, length-take, 
 use lib.Seq.{length-take-le, take-all}
 use Rattle.laws.proofs.PutLaws.{Parts}
 use Rattle.runs.proofs.RunLaws.{runs-end}
-use Rattle.column_writer.specs.Column.{Op, Op.skip, Op.uniq, Op.same, restOf, uniqs, cut, opsOf, opBytes, opsBytes}
+use Rattle.column_writer.specs.Column.{WrittenOp, WrittenOp.skip, WrittenOp.uniq, WrittenOp.same, restOf, uniqs, cut, opsOf, opBytes, opsBytes}
 use Rattle.column_writer.specs.Piece.{opsAt, pieceOps, opsIn, bytesIn, NextPiece}
-use Rattle.column_writer.specs.declared.piece.Kind.{Kind}
-use Rattle.column_writer.specs.declared.piece.Kind.the-variants.{Rest, Skip, Same, Uniq}
+use Rattle.column_writer.specs.declared.piece.PieceKind.{PieceKind}
+use Rattle.column_writer.specs.declared.piece.PieceKind.the-variants.{Rest, Skip, Same, Uniq}
 use Rattle.column_writer.proofs.BoundLaws.{cut-no-skip, cut-no-same}
 use Rattle.column_writer.proofs.ColumnLaws.{ops-none}
 
-pub bytes-append : (os ps : List Op) → opsBytes (os ++ ps) ≡ opsBytes os ++ opsBytes ps
+pub bytes-append : (os ps : List WrittenOp) → opsBytes (os ++ ps) ≡ opsBytes os ++ opsBytes ps
 unfolding opsBytes
 bytes-append [] ps = refl
 bytes-append (o ∷ os) ps = ap (λ (t : List ℕ). opBytes o ++ t) (bytes-append os ps) ∙ sym (append-assoc (opBytes o) (opsBytes os) (opsBytes ps))
 
-pub length-bytes-append : (os ps : List Op) → length (opsBytes (os ++ ps)) ≡ length (opsBytes os) + length (opsBytes ps)
+pub length-bytes-append : (os ps : List WrittenOp) → length (opsBytes (os ++ ps)) ≡ length (opsBytes os) + length (opsBytes ps)
 length-bytes-append os ps = ap length (bytes-append os ps) ∙ length-append (opsBytes os) (opsBytes ps)
 
 -- so many ops of one kind, each w bytes long, and a rest
-many-bytes : (w n : ℕ) (o : Op) → length (opBytes o) ≡ w → length (opsBytes (replicate n o)) ≡ n * w
+many-bytes : (w n : ℕ) (o : WrittenOp) → length (opBytes o) ≡ w → length (opsBytes (replicate n o)) ≡ n * w
 unfolding opsBytes
 many-bytes w zero o e = omega arith
 many-bytes w (suc n) o e = length-append (opBytes o) (opsBytes (replicate n o)) ∙ omega (arith, e, many-bytes w n o e)
 
-rest-bytes : (w n : ℕ) (o : Op) → length (opBytes o) ≡ w → length (opsBytes (restOf n o)) ≡ length (restOf n o) * w
+rest-bytes : (w n : ℕ) (o : WrittenOp) → length (opBytes o) ≡ w → length (opsBytes (restOf n o)) ≡ length (restOf n o) * w
 unfolding opsBytes restOf
 rest-bytes w zero o e = omega arith
 rest-bytes w (suc n) o e = length-append (opBytes o) [] ∙ omega (arith, e)
 
-wide : (w n m : ℕ) (o p : Op) → length (opBytes o) ≡ w → length (opBytes p) ≡ w
+wide : (w n m : ℕ) (o p : WrittenOp) → length (opBytes o) ≡ w → length (opBytes p) ≡ w
     → length (opsBytes (replicate n o ++ restOf m p)) ≡ length (replicate n o ++ restOf m p) * w
 wide w n m o p e f =
     length-bytes-append (replicate n o) (restOf m p)
     ∙ rw (many-bytes w n o e, rest-bytes w m p f, length-append (replicate n o) (restOf m p), length-replicate n o) (omega arith)
 
-rest-count : (n : ℕ) (o : Op) → length (restOf n o) ≡ min n 1
+rest-count : (n : ℕ) (o : WrittenOp) → length (restOf n o) ≡ min n 1
 unfolding restOf
 rest-count zero o = omega arith
 rest-count (suc n) o = omega arith
@@ -89,26 +89,26 @@ unfolding cut
 uniq-bytes vs = uniqs-bytes (length vs) vs (omega arith)
 
 -- the same for a piece of a column
-pub piece-count : (kind : Kind) (n : ℕ) (vs : List ℕ) → n ≤ length vs → length (pieceOps kind n vs) ≡ opsIn kind n
+pub piece-count : (kind : PieceKind) (n : ℕ) (vs : List ℕ) → n ≤ length vs → length (pieceOps kind n vs) ≡ opsIn kind n
 piece-count Rest n vs h = refl
 piece-count Skip n vs h = skip-count n
 piece-count Same n vs h = same-count n (getD vs 0 0)
 piece-count Uniq n vs h = uniq-count (take n vs) ∙ rw (length-take-le n vs h)
 
-pub piece-size : (kind : Kind) (n : ℕ) (vs : List ℕ) → n ≤ length vs → length (opsBytes (pieceOps kind n vs)) ≡ bytesIn kind n
+pub piece-size : (kind : PieceKind) (n : ℕ) (vs : List ℕ) → n ≤ length vs → length (opsBytes (pieceOps kind n vs)) ≡ bytesIn kind n
 piece-size Rest n vs h = unfold opsBytes in refl
 piece-size Skip n vs h = omega (arith, skip-bytes n, skip-count n)
 piece-size Same n vs h = omega (arith, same-bytes n (getD vs 0 0), same-count n (getD vs 0 0))
 piece-size Uniq n vs h = omega (arith, uniq-bytes (take n vs), uniq-count (take n vs), length-take-le n vs h)
 
-pub piece-few : (kind : Kind) (n : ℕ) → (opsIn kind n ≤ n) × (bytesIn kind n ≤ 3 * n)
+pub piece-few : (kind : PieceKind) (n : ℕ) → (opsIn kind n ≤ n) × (bytesIn kind n ≤ 3 * n)
 piece-few Rest n = (omega arith, omega arith)
 piece-few Skip n = (omega arith, omega arith)
 piece-few Same n = (omega arith, omega arith)
 piece-few Uniq n = (omega arith, omega arith)
 
 -- the bytes of the next piece, and of what is left
-pub piece-parts : {old new : List ℕ} {row : ℕ} {kind : Kind} {rows : ℕ} → NextPiece old new row kind rows
+pub piece-parts : {old new : List ℕ} {row : ℕ} {kind : PieceKind} {rows : ℕ} → NextPiece old new row kind rows
     → Parts (opsBytes (opsAt old new row)) (opsBytes (pieceOps kind rows (drop row new))) (opsBytes (opsAt old new (row + rows)))
 piece-parts {old} {new} {row} {kind} {rows} p = record { is = ap opsBytes (p .ops) ∙ bytes-append (pieceOps kind rows (drop row new)) (opsAt old new (row + rows)) }
 
@@ -116,7 +116,7 @@ pub none-left : (old new : List ℕ) (row : ℕ) → length new ≤ row → opsA
 none-left old new row h = ap opsOf (runs-end new old row h) ∙ ops-none
 
 -- the first of ops that are cut, and the others
-cut-more : (d n k r : ℕ) (o : Op) (p : ℕ → Op) → d ≡ suc k → r ≡ n → replicate d o ++ restOf n (p n) ≡ o ∷ (replicate k o ++ restOf r (p r))
+cut-more : (d n k r : ℕ) (o : WrittenOp) (p : ℕ → WrittenOp) → d ≡ suc k → r ≡ n → replicate d o ++ restOf n (p n) ≡ o ∷ (replicate k o ++ restOf r (p r))
 cut-more d n k r o p e f = rw (e, f)
 
 pub skip-more : (n : ℕ) → 127 ≤ n → Parts (opsBytes (cut (skip n))) (127 ∷ []) (opsBytes (cut (skip (n - 127))))
@@ -124,7 +124,7 @@ unfolding cut
 skip-more n h = record { is = ap opsBytes (cut-more (n / 127) (n % 127) ((n - 127) / 127) ((n - 127) % 127) (skip 127) skip (omega arith) (omega arith)) ∙ unfold opsBytes opBytes in refl }
 
 -- a rest of some rows is one op
-rest-one : (n : ℕ) (o : Op) → 0 < n → opsBytes (restOf n o) ≡ opBytes o ++ []
+rest-one : (n : ℕ) (o : WrittenOp) → 0 < n → opsBytes (restOf n o) ≡ opBytes o ++ []
 unfolding restOf opsBytes
 rest-one zero o h = absurd (omega arith)
 rest-one (suc n) o h = refl
@@ -166,14 +166,14 @@ uniqs-enough (suc k) zero (v ∷ vs) h l = absurd (omega arith)
 uniqs-enough (suc k) (suc j) [] h l = refl
 uniqs-enough (suc k) (suc j) (v ∷ vs) h l =
     let d = length-drop 127 (v ∷ vs) in
-    ap (λ (t : List Op). uniq (take 127 (v ∷ vs)) ∷ t) (uniqs-enough k j (drop 127 (v ∷ vs)) (omega arith) (omega arith))
+    ap (λ (t : List WrittenOp). uniq (take 127 (v ∷ vs)) ∷ t) (uniqs-enough k j (drop 127 (v ∷ vs)) (omega arith) (omega arith))
 
 uniq-first : (vs : List ℕ) → 0 < length vs → cut (uniq vs) ≡ uniq (take 127 vs) ∷ cut (uniq (drop 127 vs))
 unfolding cut uniqs
 uniq-first [] h = absurd (omega arith)
 uniq-first (v ∷ vs) h =
     let d = length-drop 127 (v ∷ vs) in
-    ap (λ (t : List Op). uniq (take 127 (v ∷ vs)) ∷ t) (uniqs-enough (length vs) (length (drop 127 (v ∷ vs))) (drop 127 (v ∷ vs)) (omega arith) (omega arith))
+    ap (λ (t : List WrittenOp). uniq (take 127 (v ∷ vs)) ∷ t) (uniqs-enough (length vs) (length (drop 127 (v ∷ vs))) (drop 127 (v ∷ vs)) (omega arith) (omega arith))
 
 pub uniq-more : (vs : List ℕ) → 127 ≤ length vs → Parts (opsBytes (cut (uniq vs))) (opBytes (uniq (take 127 vs))) (opsBytes (cut (uniq (drop 127 vs))))
 uniq-more vs h = record { is = ap opsBytes (uniq-first vs (omega arith)) ∙ unfold opsBytes in refl }

@@ -10,9 +10,9 @@ use Rattle.laws.proofs.PutLaws.{Putting, putting, putting-room, putting-more, p
 use Rattle.laws.specs.Store.{over}
 use Rattle.runs.specs.Runs.{runsOf}
 use Rattle.runs.specs.Front.{runsAt}
-use Rattle.column_writer.specs.Column.{Op.uniq, cut, opsOf, opsBytes, columnBytes}
+use Rattle.column_writer.specs.Column.{WrittenOp.uniq, cut, opsOf, opsBytes, columnBytes}
 use Rattle.column_writer.specs.Piece.{opsAt, pieceOps, opsIn, bytesIn, NextPiece, Measured, Prepared}
-use Rattle.column_writer.specs.declared.piece.Kind.{Kind}
+use Rattle.column_writer.specs.declared.piece.PieceKind.{PieceKind}
 use Rattle.column_writer.proofs.CountLaws.{Counting, counting, counting-more, counting-last}
 use Rattle.column_writer.proofs.CutLaws.{none-left, piece-parts, piece-count, piece-size, piece-few, uniq-count, uniq-bytes}
 use Rattle.column_writer.proofs.PlanLaws.{column-few, column-many}
@@ -30,7 +30,7 @@ pub starts : (old new : List ℕ) → Measuring old new 0 0 0
 starts old new = record { inside = omega arith; few = omega arith; short = omega arith; ops-left = omega arith; bytes-left = counting }
 
 module _ {old new : List ℕ} {row ops bytes : ℕ} (m : Measuring old new row ops bytes) where
-  pub more : {kind : Kind} {rows n b : ℕ} → NextPiece old new row kind rows → n ≡ opsIn kind rows → b ≡ bytesIn kind rows → Measuring old new (row + rows) (ops + n) (bytes + b)
+  pub more : {kind : PieceKind} {rows n b : ℕ} → NextPiece old new row kind rows → n ≡ opsIn kind rows → b ≡ bytesIn kind rows → Measuring old new (row + rows) (ops + n) (bytes + b)
   more {kind} {rows} p e f =
       let k : rows ≤ length (drop row new) = simp length-drop (omega (arith, p .inside)) in
       let few = piece-few kind rows in
@@ -64,10 +64,10 @@ unfolding runsAt
 filling old new out l h = record { counts = starts old new; puts = putting (omega (arith, ops-short old new)) }
 
 module _ {out₀ old new out : List ℕ} {ops place row : ℕ} (w : Filling out₀ old new out ops place row) where
-  pub filling-room : {kind : Kind} {rows : ℕ} → NextPiece old new row kind rows → place + length (opsBytes (pieceOps kind rows (drop row new))) ≤ length out
+  pub filling-room : {kind : PieceKind} {rows : ℕ} → NextPiece old new row kind rows → place + length (opsBytes (pieceOps kind rows (drop row new))) ≤ length out
   filling-room p = putting-room (w .puts) (piece-parts p)
 
-  pub filling-more : {kind : Kind} {rows n : ℕ} → NextPiece old new row kind rows → n ≡ opsIn kind rows → {out′ : List ℕ} {next : ℕ} → Put out place (opsBytes (pieceOps kind rows (drop row new))) out′ next
+  pub filling-more : {kind : PieceKind} {rows n : ℕ} → NextPiece old new row kind rows → n ≡ opsIn kind rows → {out′ : List ℕ} {next : ℕ} → Put out place (opsBytes (pieceOps kind rows (drop row new))) out′ next
       → Filling out₀ old new out′ (ops + n) next (row + rows)
   filling-more {kind} {rows} p e v =
       let k : rows ≤ length (drop row new) = simp length-drop (omega (arith, p .inside)) in
@@ -118,7 +118,7 @@ module _ {old new room : List ℕ} {ops bytes : ℕ} (p : Prepared old new room 
   prepared-length = ap length (p .is) ∙ omega (arith, length-take-le bytes room (p .inside))
 
   pub put-column : (out : List ℕ) (at : ℕ) (y : List ℕ) → at + 1 + bytes ≤ length out
-      → y ≡ over (take bytes room) (take (at + 1 + bytes - (at + 1)) (drop (at + 1) (set out at ops)))
+      → y ≡ over (take (at + 1 + bytes - (at + 1)) (drop (at + 1) (set out at ops))) (take bytes room)
       → Put out at (columnBytes old new) (take (at + 1) (set out at ops) ++ (y ++ drop (at + 1 + bytes - (at + 1)) (drop (at + 1) (set out at ops)))) (at + 1 + bytes)
   put-column out at y h e =
       let n = length-take-le bytes room (p .inside) in

@@ -10,70 +10,70 @@ use lib.ListN.{length, replicate, length-append, length-replicate}
 use borrow.Author.Tests.{leb-true}
 use Rattle.runs.specs.Runs.{Run, runsOf, Fit}
 use Rattle.runs.proofs.PatchLaws.{fit-old}
-use Rattle.column_writer.specs.Column.{Op, Op.skip, Op.uniq, Op.same, Group, groupsOf, loose, stretch, cut, cutAll, opsOf, opsBytes, columnBytes}
+use Rattle.column_writer.specs.Column.{WrittenOp, WrittenOp.skip, WrittenOp.uniq, WrittenOp.same, Group, groupsOf, joinUniq, stretchOps, cut, cutAll, opsOf, opsBytes, columnBytes}
 use Rattle.column_writer.proofs.CutLaws.{length-bytes-append, skip-count, skip-bytes, same-count, same-bytes, uniq-count, uniq-bytes}
 use Rattle.column_writer.proofs.ColumnLaws.{flat, flat-groups, column-case}
 
 -- how many bytes ops have once they are cut
-size : List Op → ℕ
+size : List WrittenOp → ℕ
 size os = length (opsBytes (cutAll os))
 
 size-none : size [] ≡ 0
 unfolding size cutAll opsBytes
 size-none = refl
 
-size-first : (o : Op) (os : List Op) → size (o ∷ os) ≡ length (opsBytes (cut o)) + size os
+size-first : (o : WrittenOp) (os : List WrittenOp) → size (o ∷ os) ≡ length (opsBytes (cut o)) + size os
 unfolding size cutAll
 size-first o os = length-bytes-append (cut o) (cutAll os)
 
 -- ops over n rows: those after a Uniq in front have three bytes for two rows
-Tight : ℕ → List Op → Type 0
+Tight : ℕ → List WrittenOp → Type 0
 Tight n [] = Unit {0}
 Tight n (skip g ∷ os) = 2 * size (skip g ∷ os) ≤ 3 * n
 Tight n (uniq vs ∷ os) = 2 * size os + 3 * length vs ≤ 3 * n
 Tight n (same m v ∷ os) = 2 * size (same m v ∷ os) ≤ 3 * n
 
-tight-size : (n : ℕ) (os : List Op) → Tight n os → 2 * size os ≤ 3 * n + 1
+tight-size : (n : ℕ) (os : List WrittenOp) → Tight n os → 2 * size os ≤ 3 * n + 1
 unfolding Tight
 tight-size n [] t = omega (arith, size-none)
 tight-size n (skip g ∷ os) t = omega (arith, t)
 tight-size n (uniq vs ∷ os) t = omega (arith, t, size-first (uniq vs) os, uniq-bytes vs, uniq-count vs)
 tight-size n (same m v ∷ os) t = omega (arith, t)
 
-tight-loose : (n : ℕ) (vs : List ℕ) (os : List Op) → Tight n os → Tight (length vs + n) (loose vs os)
-unfolding Tight loose
-tight-loose n vs [] t = omega (arith, size-none)
-tight-loose n vs (skip g ∷ os) t = omega (arith, t)
-tight-loose n vs (uniq ws ∷ os) t = omega (arith, t, length-append vs ws)
-tight-loose n vs (same m v ∷ os) t = omega (arith, t)
+tight-join-uniq : (n : ℕ) (vs : List ℕ) (os : List WrittenOp) → Tight n os → Tight (length vs + n) (joinUniq vs os)
+unfolding Tight joinUniq
+tight-join-uniq n vs [] t = omega (arith, size-none)
+tight-join-uniq n vs (skip g ∷ os) t = omega (arith, t)
+tight-join-uniq n vs (uniq ws ∷ os) t = omega (arith, t, length-append vs ws)
+tight-join-uniq n vs (same m v ∷ os) t = omega (arith, t)
 
 -- a stretch of changed rows
-tight-stretch : (gs : List Group) → Tight (length (flat gs)) (stretch gs)
-unfolding flat stretch Tight
+tight-stretch : (gs : List Group) → Tight (length (flat gs)) (stretchOps gs)
+unfolding flat stretchOps Tight
 tight-stretch [] = tt
 tight-stretch (g ∷ gs) = go (leb 4 (g .rows)) refl (tight-stretch gs)
   where
-    go : (t : Bool) → leb 4 (g .rows) ≡ t → Tight (length (flat gs)) (stretch gs) → Tight (length (flat (g ∷ gs))) (stretch (g ∷ gs))
+    go : (t : Bool) → leb 4 (g .rows) ≡ t → Tight (length (flat gs)) (stretchOps gs) → Tight (length (flat (g ∷ gs))) (stretchOps (g ∷ gs))
     go true e t =
         let n : 4 ≤ g .rows = leb-true 4 (g .rows) e in
-        rw (e, stretch) (
+        rw (e, stretchOps) (
         omega (
           arith,
           n,
           length-append (replicate (g .rows) (g .value)) (flat gs),
           length-replicate (g .rows) (g .value),
-          tight-size (length (flat gs)) (stretch gs) t,
-          size-first (same (g .rows) (g .value)) (stretch gs),
+          tight-size (length (flat gs)) (stretchOps gs) t,
+          size-first (same (g .rows) (g .value)) (stretchOps gs),
           same-bytes (g .rows) (g .value),
           same-count (g .rows) (g .value),
         ))
-    go false e t = rw (e, stretch, length-append (replicate (g .rows) (g .value)) (flat gs)) (tight-loose (length (flat gs)) (replicate (g .rows) (g .value)) (stretch gs) t)
+    go false e t = rw (e, stretchOps, length-append (replicate (g .rows) (g .value)) (flat gs)) (tight-join-uniq (length (flat gs)) (replicate (g .rows) (g .value)) (stretchOps gs) t)
 
 -- the ops of a run, of runs that all have a gap, and of all runs
 run-size : (r : Run) (rs : List Run) → 2 * length (opsBytes (opsOf (r ∷ rs))) ≤ 2 * ((r .gap + 126) / 127) + 3 * length (r .bytes) + 1 + 2 * length (opsBytes (opsOf rs))
 unfolding opsOf size
 run-size r rs =
-    let s : List Op = stretch (groupsOf (r .bytes)) in
+    let s : List WrittenOp = stretchOps (groupsOf (r .bytes)) in
     omega (
       arith,
       length-bytes-append (cutAll (skip (r .gap) ∷ s)) (opsOf rs),
@@ -100,5 +100,5 @@ ops-short old new = ops-size (length new) (runsOf new old) (fit-old new old)
 pub column-short : (old new : List ℕ) → length (columnBytes old new) ≤ length new + length new / 2 + 2
 unfolding columnBytes
 column-short old new =
-    column-case (λ (os : List Op). length (length os ∷ opsBytes os) ≤ length new + length new / 2 + 2) old new
+    column-case (λ (os : List WrittenOp). length (length os ∷ opsBytes os) ≤ length new + length new / 2 + 2) old new
     (omega (arith, ops-short old new)) (unfold cut in omega (arith, uniq-bytes new, uniq-count new))

@@ -27,18 +27,18 @@ module _ (old new : List ℕ) where
 
 -- what writing answers, and what it leaves in the buffer
 module _ (old new out : List ℕ) (at : ℕ) where
-  pub not-measured : {k : ℕ} → columnLength old new ≡ fault k → Places old new out at (fault k) out
+  pub not-measured : {k : ℕ} → columnLength old new ≡ fault k → Places out at old new (fault k) out
   unfolding placed
   not-measured e = record { answer = simp e; buffer = refl }
 
   module _ {n : ℕ} (e : columnLength old new ≡ ok n) where
-    pub no-room : length out < at + n → Places old new out at (fault 51) out
+    pub no-room : length out < at + n → Places out at old new (fault 51) out
     unfolding placed
     no-room h = record { answer = simp (e, lt-leb _ _ h); buffer = refl }
 
-    pub fits : at + n ≤ length out → placed old new at (length out) ≡ ok (at + n)
+    pub fits : at + n ≤ length out → placed (length out) at old new ≡ ok (at + n)
     unfolding placed
     fits h = simp (e, le-leb _ _ h)
 
-  pub is-written : {left : List ℕ} {next : ℕ} → length old ≡ length new → length new ≤ 1024 → at + length (columnBytes old new) ≤ length out → Put out at (columnBytes old new) left next → Places old new out at (ok next) left
+  pub is-written : {left : List ℕ} {next : ℕ} → length old ≡ length new → length new ≤ 1024 → at + length (columnBytes old new) ≤ length out → Put out at (columnBytes old new) left next → Places out at old new (ok next) left
   is-written l s h p = record { answer = rw (p .place) (sym (fits (measured old new l s) h)); buffer = p .left }

@@ -6,7 +6,7 @@ use mathlib.Core.Path.{_≡_, ap, _∙_}
 use lib.ListN.{length}
 use borrow.Author.Tests.{le-leb, lt-leb}
 use Rattle.runs.specs.Runs.{runsOf}
-use Rattle.column_writer.specs.Column.{Op.uniq, cut, opsOf, opsBytes, columnOps, columnBytes}
+use Rattle.column_writer.specs.Column.{WrittenOp.uniq, cut, opsOf, opsBytes, columnOps, columnBytes}
 use Rattle.column_writer.specs.Piece.{Measured}
 use Rattle.column_writer.proofs.CutLaws.{uniq-count, uniq-bytes}
 

@@ -7,12 +7,12 @@ use mathlib.Core.List.{List, [], _∷_, _++_, append-assoc}
 use mathlib.Core.Path.{_≡_, refl, sym, ap, _∙_}
 use lib.ListN.{length, getD, take, drop, replicate, length-drop, replicate-append-replicate}
 use lib.Seq.{drop-cons, drop-drop, take-add, take-suc, getD-drop}
-use Rattle.runs.specs.Front.{runsAt, front, behind, later}
-use Rattle.runs.proofs.RunLaws.{runs-end, kept-at, changed-at, front-changed, behind-changed, front-kept, later-none, later-kept}
-use Rattle.column_writer.specs.Column.{Op, Op.uniq, Op.same, groupsOf, loose, stretch, cut, cutAll, opsOf}
-use Rattle.column_writer.specs.Piece.{NotFirst, opsAt, Unchanged, GroupPart, GroupRows, LooseRows, NextPiece}
-use Rattle.column_writer.specs.declared.piece.Kind.the-variants.{Rest, Skip, Same, Uniq}
-use Rattle.column_writer.proofs.ColumnLaws.{group-front, stretch-same, stretch-few, stretch-none, loose-join, loose-none, loose-same, ops-split, cut-first, ops-later}
+use Rattle.runs.specs.Front.{runsAt, front, afterFront, later}
+use Rattle.runs.proofs.RunLaws.{runs-end, kept-at, changed-at, front-changed, after-front-changed, front-kept, later-none, later-kept}
+use Rattle.column_writer.specs.Column.{WrittenOp, WrittenOp.uniq, WrittenOp.same, groupsOf, joinUniq, stretchOps, cut, cutAll, opsOf}
+use Rattle.column_writer.specs.Piece.{NotFirst, opsAt, Unchanged, GroupPart, GroupRows, UniqRows, NextPiece}
+use Rattle.column_writer.specs.declared.piece.PieceKind.the-variants.{Rest, Skip, Same, Uniq}
+use Rattle.column_writer.proofs.ColumnLaws.{group-front, stretch-same, stretch-few, stretch-none, join-uniq-join, join-uniq-none, join-uniq-same, ops-split, cut-first, ops-later}
 
 -- a search for a changed row
 pub record Passed (old new : List ℕ) (from i : ℕ) : Type 0 where
@@ -42,8 +42,8 @@ module _ (old new : List ℕ) (i : ℕ) (h : i < length new) (l : length old ≡
   front-at : (getD new i 0 ≡ getD old i 0 → ⊥) → front (runsAt new old i) ≡ getD new i 0 ∷ front (runsAt new old (i + 1))
   front-at e = rw (changed-at new old i h l e) (front-changed (getD new i 0) (runsAt new old (i + 1)))
 
-  behind-at : (getD new i 0 ≡ getD old i 0 → ⊥) → behind (runsAt new old i) ≡ behind (runsAt new old (i + 1))
-  behind-at e = rw (changed-at new old i h l e) (behind-changed (getD new i 0) (runsAt new old (i + 1)))
+  after-front-at : (getD new i 0 ≡ getD old i 0 → ⊥) → afterFront (runsAt new old i) ≡ afterFront (runsAt new old (i + 1))
+  after-front-at e = rw (changed-at new old i h l e) (after-front-changed (getD new i 0) (runsAt new old (i + 1)))
 
   pub front-unchanged : getD new i 0 ≡ getD old i 0 → front (runsAt new old i) ≡ []
   front-unchanged e = rw (kept-at new old i h l e) (front-kept (runsAt new old (i + 1)))
@@ -70,7 +70,7 @@ group-starts old new from l h e =
       high = omega arith;
       rows = rw (n, drop-cons new from 0 h);
       before = rw n (front-at old new from h l e);
-      after = behind-at old new from h l e;
+      after = after-front-at old new from h l e;
     }
 
 module _ {old new : List ℕ} {from i : ℕ} (g : GroupPart old new from i) where
@@ -85,7 +85,7 @@ module _ {old new : List ℕ} {from i : ℕ} (g : GroupPart old new from i) wher
         high = omega arith;
         rows = rw n (rw (add-one (i - from), take-suc (drop from new) (i - from) 0 inside, at, g .rows) (snoc-replicate (i - from) (getD new from 0) ∙ rw (add-one (i - from))));
         before = g .before ∙ rw (front-at old new i h l e, s, n) (joined (i - from) (getD new from 0) (front (runsAt new old (i + 1))));
-        after = g .after ∙ behind-at old new i h l e;
+        after = g .after ∙ after-front-at old new i h l e;
       }
     where
       joined : (n v : ℕ) (vs : List ℕ) → replicate n v ++ (v ∷ vs) ≡ replicate (n + 1) v ++ vs
@@ -101,10 +101,10 @@ module _ {old new : List ℕ} {from i : ℕ} (g : GroupPart old new from i) wher
   group-last h = record { part = g; ends = rw (front-end old new i h) tt }
 
 -- the ops of the stretch that a row lies in, before they are cut
-unfoldable pub stretchAt : List ℕ → List ℕ → ℕ → List Op
-stretchAt old new i = stretch (groupsOf (front (runsAt new old i)))
+unfoldable pub stretchAt : List ℕ → List ℕ → ℕ → List WrittenOp
+stretchAt old new i = stretchOps (groupsOf (front (runsAt new old i)))
 
-ops-at : (old new : List ℕ) (i : ℕ) → opsAt old new i ≡ cutAll (stretchAt old new i) ++ opsOf (behind (runsAt new old i))
+ops-at : (old new : List ℕ) (i : ℕ) → opsAt old new i ≡ cutAll (stretchAt old new i) ++ opsOf (afterFront (runsAt new old i))
 unfolding stretchAt
 ops-at old new i = ops-split (runsAt new old i)
 
@@ -120,53 +120,53 @@ module _ {old new : List ℕ} {from end : ℕ} (g : GroupRows old new from end) 
   unfolding stretchAt
   at-same h = rw groups-at (stretch-same (end - from) (getD new from 0) (groupsOf (front (runsAt new old end))) h)
 
-  at-few : end - from < 4 → stretchAt old new from ≡ loose (take (end - from) (drop from new)) (stretchAt old new end)
+  at-few : end - from < 4 → stretchAt old new from ≡ joinUniq (take (end - from) (drop from new)) (stretchAt old new end)
   unfolding stretchAt
   at-few h = rw (groups-at, g .part .rows) (stretch-few (end - from) (getD new from 0) (groupsOf (front (runsAt new old end))) h)
 
   same-ops : 4 ≤ end - from → opsAt old new from ≡ cut (same (end - from) (getD new from 0)) ++ opsAt old new end
   same-ops h =
       ops-at old new from
-      ∙ rw (at-same h, g .part .after, ops-at old new end) (cut-first (same (end - from) (getD new from 0)) (stretchAt old new end) (opsOf (behind (runsAt new old end))))
+      ∙ rw (at-same h, g .part .after, ops-at old new end) (cut-first (same (end - from) (getD new from 0)) (stretchAt old new end) (opsOf (afterFront (runsAt new old end))))
 
 -- rows that become Uniqs
-pub record Loose (old new : List ℕ) (from i : ℕ) : Type 0 where
+pub record UniqPart (old new : List ℕ) (from i : ℕ) : Type 0 where
   pub low : from < i
   pub high : i ≤ length new
-  pub before : stretchAt old new from ≡ loose (take (i - from) (drop from new)) (stretchAt old new i)
-  pub after : behind (runsAt new old from) ≡ behind (runsAt new old i)
+  pub before : stretchAt old new from ≡ joinUniq (take (i - from) (drop from new)) (stretchAt old new i)
+  pub after : afterFront (runsAt new old from) ≡ afterFront (runsAt new old i)
 
-pub loose-starts : {old new : List ℕ} {from first : ℕ} → GroupRows old new from first → first - from < 4 → Loose old new from first
-loose-starts g h = record { low = g .part .low; high = g .part .high; before = at-few g h; after = g .part .after }
+pub uniq-part-starts : {old new : List ℕ} {from first : ℕ} → GroupRows old new from first → first - from < 4 → UniqPart old new from first
+uniq-part-starts g h = record { low = g .part .low; high = g .part .high; before = at-few g h; after = g .part .after }
 
-module _ {old new : List ℕ} {from i : ℕ} (w : Loose old new from i) where
-  pub loose-more : {end : ℕ} → GroupRows old new i end → end - i < 4 → Loose old new from end
-  loose-more {end} g h =
+module _ {old new : List ℕ} {from i : ℕ} (w : UniqPart old new from i) where
+  pub uniq-part-more : {end : ℕ} → GroupRows old new i end → end - i < 4 → UniqPart old new from end
+  uniq-part-more {end} g h =
       let r : from + (i - from) ≡ i = omega (arith, w .low) in
       let d : drop (i - from) (drop from new) ≡ drop i new = drop-drop (i - from) from new ∙ rw r in
       let n : end - from ≡ i - from + (end - i) = omega (arith, w .low, g .part .low) in
       record {
         low = omega (arith, w .low, g .part .low);
         high = g .part .high;
-        before = w .before ∙ rw (at-few g h, n, take-add (i - from) (end - i) (drop from new), d) (sym (loose-join (take (i - from) (drop from new)) (take (end - i) (drop i new)) (stretchAt old new end)));
+        before = w .before ∙ rw (at-few g h, n, take-add (i - from) (end - i) (drop from new), d) (sym (join-uniq-join (take (i - from) (drop from new)) (take (end - i) (drop i new)) (stretchAt old new end)));
         after = w .after ∙ g .part .after;
       }
 
-  loose-is : (os : List Op) → stretchAt old new i ≡ os → loose (take (i - from) (drop from new)) os ≡ uniq (take (i - from) (drop from new)) ∷ os → LooseRows old new from i
-  loose-is os e f = record {
+  uniq-part-is : (os : List WrittenOp) → stretchAt old new i ≡ os → joinUniq (take (i - from) (drop from new)) os ≡ uniq (take (i - from) (drop from new)) ∷ os → UniqRows old new from i
+  uniq-part-is os e f = record {
     low = w .low;
     high = w .high;
     ops =
         ops-at old new from
-        ∙ rw (w .before, w .after, e, f, ops-at old new i, e) (cut-first (uniq (take (i - from) (drop from new))) os (opsOf (behind (runsAt new old i))));
+        ∙ rw (w .before, w .after, e, f, ops-at old new i, e) (cut-first (uniq (take (i - from) (drop from new))) os (opsOf (afterFront (runsAt new old i))));
   }
 
-  pub loose-none-left : front (runsAt new old i) ≡ [] → LooseRows old new from i
+  pub uniq-part-none-left : front (runsAt new old i) ≡ [] → UniqRows old new from i
   unfolding stretchAt
-  loose-none-left e = loose-is [] (rw e stretch-none) (loose-none (take (i - from) (drop from new)))
+  uniq-part-none-left e = uniq-part-is [] (rw e stretch-none) (join-uniq-none (take (i - from) (drop from new)))
 
-  pub loose-stops : {end : ℕ} → GroupRows old new i end → 4 ≤ end - i → LooseRows old new from i
-  loose-stops {end} g h = loose-is (same (end - i) (getD new i 0) ∷ stretchAt old new end) (at-same g h) (loose-same (take (i - from) (drop from new)) (end - i) (getD new i 0) (stretchAt old new end))
+  pub uniq-part-stops : {end : ℕ} → GroupRows old new i end → 4 ≤ end - i → UniqRows old new from i
+  uniq-part-stops {end} g h = uniq-part-is (same (end - i) (getD new i 0) ∷ stretchAt old new end) (at-same g h) (join-uniq-same (take (i - from) (drop from new)) (end - i) (getD new i 0) (stretchAt old new end))
 
 -- the next piece
 module _ {old new : List ℕ} {from start : ℕ} (u : Unchanged old new from start) where
@@ -199,7 +199,7 @@ piece-same {old} {new} {from} {end} g h =
       ops = rw (e, first-of new from (omega (arith, g .part .low, g .part .high))) (same-ops g h);
     }
 
-pub piece-uniq : {old new : List ℕ} {from end : ℕ} → LooseRows old new from end → NextPiece old new from Uniq (end - from)
+pub piece-uniq : {old new : List ℕ} {from end : ℕ} → UniqRows old new from end → NextPiece old new from Uniq (end - from)
 piece-uniq {old} {new} {from} {end} w =
     let e : from + (end - from) ≡ end = omega (arith, w .low) in
     record { some = omega (arith, w .low); inside = omega (arith, w .low, w .high); ops = rw e (w .ops) }

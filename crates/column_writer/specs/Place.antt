@@ -9,8 +9,8 @@ use lib.Seq.{sets}
 use Rattle.laws.specs.Result.{Res, Res.ok, Res.fault, _>>=_, need, leaves}
 use Rattle.refusal.specs.Number.{numberOf}
 use Rattle.column_writer.specs.Column.{columnBytes}
-use Rattle.column_writer.specs.declared.Size.{Size}
-use Rattle.column_writer.specs.declared.Size.the-variants.{Bytes, Refused}
+use Rattle.column_writer.specs.declared.ColumnSize.{ColumnSize}
+use Rattle.column_writer.specs.declared.ColumnSize.the-variants.{Bytes, Refused}
 use Rattle.column_writer.specs.declared.Placed.{Placed}
 use Rattle.column_writer.specs.declared.Placed.the-variants.{Next, Refused as NotPlaced}
 
@@ -22,21 +22,21 @@ columnLength old new =
     ok (length (columnBytes old new))
 
 -- the place after a column that is written at a place of a buffer of so many bytes
-unfoldable pub placed : List ℕ → List ℕ → ℕ → ℕ → Res ℕ
-placed old new at room =
+unfoldable pub placed : ℕ → ℕ → List ℕ → List ℕ → Res ℕ
+placed room at old new =
     columnLength old new >>= λ n.
     need (leb (at + n) room) 51 >>= λ _.
     ok (at + n)
 
 -- what writing answers, and what it leaves in the buffer: all other bytes stay
-pub record Places (old new out : List ℕ) (at : ℕ) (r : Res ℕ) (out′ : List ℕ) : Type 0 where
-  pub answer : r ≡ placed old new at (length out)
+pub record Places (out : List ℕ) (at : ℕ) (old new : List ℕ) (r : Res ℕ) (out′ : List ℕ) : Type 0 where
+  pub answer : r ≡ placed (length out) at old new
   pub buffer : out′ ≡ leaves out (λ n. sets out at (columnBytes old new)) r
 
 -- what the answers say in the paper's terms
-abbrev pub sizeOf : Size → Res ℕ
-sizeOf (Bytes n) = ok n
-sizeOf (Refused why) = fault (numberOf why)
+abbrev pub columnSizeOf : ColumnSize → Res ℕ
+columnSizeOf (Bytes n) = ok n
+columnSizeOf (Refused why) = fault (numberOf why)
 
 abbrev pub placedOf : Placed → Res ℕ
 placedOf (Next at) = ok at

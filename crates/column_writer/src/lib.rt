@@ -6,11 +6,11 @@ ghost use Prim.Native.Nat.{_+_, _<_, _≤_};
 ghost use lib.ListN.{length, drop};
 ghost use Rattle.laws.specs.Put.{Put};
 ghost use Rattle.runs.specs.Runs.{runsOf};
-ghost use Rattle.column_writer.specs.Column.{Op, cut, opsOf, opBytes, opsBytes};
+ghost use Rattle.column_writer.specs.Column.{WrittenOp, cut, opsOf, opBytes, opsBytes};
 ghost use Rattle.column_writer.specs.Piece.{pieceOps, Measured, Prepared};
-ghost use Rattle.column_writer.specs.Place.{columnLength, sizeOf, Places, placedOf};
-use crate::piece::Kind;
+ghost use Rattle.column_writer.specs.Place.{columnLength, columnSizeOf, Places, placedOf};
 use crate::piece::Piece;
+use crate::piece::PieceKind;
 use crate::piece::Totals;
 use crate::piece::measure;
 use crate::piece::next_piece;
@@ -19,7 +19,7 @@ use copies::copy;
 use refusal::Refusal;
 
 // How many bytes a column is written in.
-pub enum Size {
+pub enum ColumnSize {
     Bytes(usize),
     Refused(Refusal),
 }
@@ -32,8 +32,8 @@ pub enum Placed {
 
 // Writes Skips over rows at a place of out where they fit, and answers the place after them.
 fn write_skips(out: &mut [u8], at: usize, rows: usize) -> usize
-    requires { ⌜ at + length (opsBytes (cut (Op.skip rows))) ≤ length (now out) ⌝ }
-    ensures { λ r. ⌜ Put (now (out .entry)) at (opsBytes (cut (Op.skip rows))) (now (out .exit)) r ⌝ }
+    requires { ⌜ at + length (opsBytes (cut (WrittenOp.skip rows))) ≤ length (now out) ⌝ }
+    ensures { λ r. ⌜ Put (now (out .entry)) at (opsBytes (cut (WrittenOp.skip rows))) (now (out .exit)) r ⌝ }
 {
     let mut place = at;
     let mut left = rows;
@@ -51,8 +51,8 @@ fn write_skips(out: &mut [u8], at: usize, rows: usize) -> usize
 
 // Writes one Same.
 fn write_same(out: &mut [u8], at: usize, rows: usize, value: u8) -> usize
-    requires { ⌜ (rows ≤ 255) × (at + length (opBytes (Op.same rows value)) ≤ length (now out)) ⌝ }
-    ensures { λ r. ⌜ Put (now (out .entry)) at (opBytes (Op.same rows value)) (now (out .exit)) r ⌝ }
+    requires { ⌜ (rows ≤ 255) × (at + length (opBytes (WrittenOp.same rows value)) ≤ length (now out)) ⌝ }
+    ensures { λ r. ⌜ Put (now (out .entry)) at (opBytes (WrittenOp.same rows value)) (now (out .exit)) r ⌝ }
 {
     out[at] = 0;
     out[at + 1] = rows as u8;
@@ -62,8 +62,8 @@ fn write_same(out: &mut [u8], at: usize, rows: usize, value: u8) -> usize
 
 // Writes Sames over rows, all of one value.
 fn write_sames(out: &mut [u8], at: usize, rows: usize, value: u8) -> usize
-    requires { ⌜ at + length (opsBytes (cut (Op.same rows value))) ≤ length (now out) ⌝ }
-    ensures { λ r. ⌜ Put (now (out .entry)) at (opsBytes (cut (Op.same rows value))) (now (out .exit)) r ⌝ }
+    requires { ⌜ at + length (opsBytes (cut (WrittenOp.same rows value))) ≤ length (now out) ⌝ }
+    ensures { λ r. ⌜ Put (now (out .entry)) at (opsBytes (cut (WrittenOp.same rows value))) (now (out .exit)) r ⌝ }
 {
     let mut place = at;
     let mut left = rows;
@@ -79,8 +79,8 @@ fn write_sames(out: &mut [u8], at: usize, rows: usize, value: u8) -> usize
 
 // Writes one Uniq of the given rows.
 fn write_uniq(out: &mut [u8], at: usize, rows: &[u8]) -> usize
-    requires { ⌜ (length (now rows) ≤ 127) × (at + length (opBytes (Op.uniq (now rows))) ≤ length (now out)) ⌝ }
-    ensures { λ r. ⌜ Put (now (out .entry)) at (opBytes (Op.uniq (now (rows .entry)))) (now (out .exit)) r ⌝ }
+    requires { ⌜ (length (now rows) ≤ 127) × (at + length (opBytes (WrittenOp.uniq (now rows))) ≤ length (now out)) ⌝ }
+    ensures { λ r. ⌜ Put (now (out .entry)) at (opBytes (WrittenOp.uniq (now (rows .entry)))) (now (out .exit)) r ⌝ }
 {
     out[at] = (128 + rows.len()) as u8;
     let start = at + 1;
@@ -91,8 +91,8 @@ fn write_uniq(out: &mut [u8], at: usize, rows: &[u8]) -> usize
 
 // Writes Uniqs of the given rows.
 fn write_uniqs(out: &mut [u8], at: usize, rows: &[u8]) -> usize
-    requires { ⌜ at + length (opsBytes (cut (Op.uniq (now rows)))) ≤ length (now out) ⌝ }
-    ensures { λ r. ⌜ Put (now (out .entry)) at (opsBytes (cut (Op.uniq (now (rows .entry))))) (now (out .exit)) r ⌝ }
+    requires { ⌜ at + length (opsBytes (cut (WrittenOp.uniq (now rows)))) ≤ length (now out) ⌝ }
+    ensures { λ r. ⌜ Put (now (out .entry)) at (opsBytes (cut (WrittenOp.uniq (now (rows .entry))))) (now (out .exit)) r ⌝ }
 {
     let mut place = at;
     let mut from = 0;
@@ -116,10 +116,10 @@ fn write_piece(out: &mut [u8], at: usize, new: &[u8], row: usize, piece: Piece) 
     let kind = piece.kind;
     let rows = piece.rows;
     match kind {
-        Kind::Rest => at,
-        Kind::Skip => write_skips(out, at, rows),
-        Kind::Same => write_sames(out, at, rows, new[row]),
-        Kind::Uniq => {
+        PieceKind::Rest => at,
+        PieceKind::Skip => write_skips(out, at, rows),
+        PieceKind::Same => write_sames(out, at, rows, new[row]),
+        PieceKind::Uniq => {
             let end = row + rows;
             write_uniqs(out, at, &new[row..end])
         }
@@ -164,7 +164,7 @@ fn prepare(room: &mut [u8], old: &[u8], new: &[u8]) -> Totals
 // Writes a column of rows that are not too many; room is for its ops.
 fn write_in(out: &mut [u8], at: usize, old: &[u8], new: &[u8], room: &mut [u8]) -> Placed
     requires { ⌜ (length (now old) ≡ length (now new)) × (length (now new) ≤ 1024) × (1536 ≤ length (now room)) ⌝ }
-    ensures { λ r. ⌜ Places (now (old .entry)) (now (new .entry)) (now (out .entry)) at (placedOf r) (now (out .exit)) ⌝ }
+    ensures { λ r. ⌜ Places (now (out .entry)) at (now (old .entry)) (now (new .entry)) (placedOf r) (now (out .exit)) ⌝ }
 {
     let totals = prepare(room, old, new);
     if out.len() < at {
@@ -182,21 +182,21 @@ fn write_in(out: &mut [u8], at: usize, old: &[u8], new: &[u8], room: &mut [u8]) 
 }
 
 // How many bytes a column is written in: 12 for rows of two lengths and for more than 1,024 rows.
-pub fn length(old: &[u8], new: &[u8]) -> Size
-    ensures { λ r. ⌜ sizeOf r ≡ columnLength (now (old .entry)) (now (new .entry)) ⌝ }
+pub fn column_length(old: &[u8], new: &[u8]) -> ColumnSize
+    ensures { λ r. ⌜ columnSizeOf r ≡ columnLength (now (old .entry)) (now (new .entry)) ⌝ }
 {
     if old.len() != new.len() {
-        return Size::Refused(Refusal::BufferLength);
+        return ColumnSize::Refused(Refusal::BufferLength);
     }
     if 1024 < new.len() {
-        return Size::Refused(Refusal::BufferLength);
+        return ColumnSize::Refused(Refusal::BufferLength);
     }
-    Size::Bytes(1 + measure(old, new))
+    ColumnSize::Bytes(1 + measure(old, new))
 }
 
 // Writes a column at a place of out: 12 as above, 51 if it doesn't fit there, and then out stays as it is.
 pub fn write(out: &mut [u8], at: usize, old: &[u8], new: &[u8]) -> Placed
-    ensures { λ r. ⌜ Places (now (old .entry)) (now (new .entry)) (now (out .entry)) at (placedOf r) (now (out .exit)) ⌝ }
+    ensures { λ r. ⌜ Places (now (out .entry)) at (now (old .entry)) (now (new .entry)) (placedOf r) (now (out .exit)) ⌝ }
 {
     if old.len() != new.len() {
         return Placed::Refused(Refusal::BufferLength);

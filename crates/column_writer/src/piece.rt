@@ -1,12 +1,12 @@
 // The walk down a column: the pieces of rows that become ops of one kind, and the ops measured.
 ghost use mathlib.Core.Path.{_≡_};
-ghost use Prim.Native.Nat.{_+_, _-_, _<_, _≤_};
+ghost use Prim.Native.Nat.{_+_, _-_, _*_, _<_, _≤_};
 ghost use lib.ListN.{length, getD};
 ghost use Rattle.column_writer.specs.Column.{columnBytes};
-ghost use Rattle.column_writer.specs.Piece.{Unchanged, GroupRows, LooseRows, NextPiece, opsIn, bytesIn};
+ghost use Rattle.column_writer.specs.Piece.{Unchanged, GroupRows, UniqRows, NextPiece, opsIn, bytesIn};
 
 // The ops that rows of a column become. Rest is the unchanged rows after the last changed one, which write nothing.
-pub(crate) enum Kind {
+pub(crate) enum PieceKind {
     Rest,
     Skip,
     Same,
@@ -15,7 +15,7 @@ pub(crate) enum Kind {
 
 // Rows of a column that are written as ops of one kind.
 pub(crate) struct Piece {
-    pub(crate) kind: Kind,
+    pub(crate) kind: PieceKind,
     pub(crate) rows: usize,
 }
 
@@ -60,9 +60,9 @@ fn group_end(old: &[u8], new: &[u8], from: usize) -> usize
 }
 
 // The end of the rows that become Uniqs, where a group of at least four rows begins or the stretch ends. Their first group ends at first.
-fn loose_end(old: &[u8], new: &[u8], from: usize, first: usize) -> usize
+fn uniq_end(old: &[u8], new: &[u8], from: usize, first: usize) -> usize
     requires { ⌜ (length (now old) ≡ length (now new)) × GroupRows (now old) (now new) from first × (first - from < 4) ⌝ }
-    ensures { λ r. ⌜ LooseRows (now (old .entry)) (now (new .entry)) from r ⌝ }
+    ensures { λ r. ⌜ UniqRows (now (old .entry)) (now (new .entry)) from r ⌝ }
 {
     let mut i = first;
     while i < new.len() {
@@ -86,26 +86,26 @@ pub(crate) fn next_piece(old: &[u8], new: &[u8], from: usize) -> Piece
     let start = first_changed(old, new, from);
     if new.len() <= start {
         return Piece {
-            kind: Kind::Rest,
+            kind: PieceKind::Rest,
             rows: start - from,
         };
     }
     if from < start {
         return Piece {
-            kind: Kind::Skip,
+            kind: PieceKind::Skip,
             rows: start - from,
         };
     }
     let first = group_end(old, new, from);
     if 4 <= first - from {
         return Piece {
-            kind: Kind::Same,
+            kind: PieceKind::Same,
             rows: first - from,
         };
     }
-    let end = loose_end(old, new, from, first);
+    let end = uniq_end(old, new, from, first);
     Piece {
-        kind: Kind::Uniq,
+        kind: PieceKind::Uniq,
         rows: end - from,
     }
 }
@@ -118,19 +118,19 @@ pub(crate) fn piece_totals(piece: Piece) -> Totals
     let kind = piece.kind;
     let rows = piece.rows;
     match kind {
-        Kind::Rest => Totals { ops: 0, bytes: 0 },
-        Kind::Skip => {
+        PieceKind::Rest => Totals { ops: 0, bytes: 0 },
+        PieceKind::Skip => {
             let ops = (rows + 126) / 127;
             Totals { ops, bytes: ops }
         }
-        Kind::Same => {
+        PieceKind::Same => {
             let ops = (rows + 254) / 255;
             Totals {
                 ops,
                 bytes: 3 * ops,
             }
         }
-        Kind::Uniq => {
+        PieceKind::Uniq => {
             let ops = (rows + 126) / 127;
             Totals {
                 ops,
@@ -143,7 +143,7 @@ pub(crate) fn piece_totals(piece: Piece) -> Totals
 // How many bytes follow a column's op count byte: its ops, or the Uniqs over all rows where the ops would be too many.
 pub(crate) fn measure(old: &[u8], new: &[u8]) -> usize
     requires { ⌜ (length (now old) ≡ length (now new)) × (length (now new) ≤ 1024) ⌝ }
-    ensures { λ r. ⌜ (length (columnBytes (now (old .entry)) (now (new .entry))) ≡ 1 + r) × (r ≤ 3072) ⌝ }
+    ensures { λ r. ⌜ (length (columnBytes (now (old .entry)) (now (new .entry))) ≡ 1 + r) × (r ≤ 3 * 1024) ⌝ }
 {
     let mut row = 0;
     let mut ops = 0;

@@ -16,7 +16,7 @@ fn smaller(a: usize, b: usize) -> usize
 // Copies the first n bytes.
 fn copy_front(dst: &mut [u8], src: &[u8], n: usize)
     requires { ⌜ (n ≤ length (now dst)) × (n ≤ length (now src)) ⌝ }
-    ensures { λ _. ⌜ Copied (now (src .entry)) (now (dst .entry)) n (now (dst .exit)) ⌝ }
+    ensures { λ _. ⌜ Copied (now (dst .entry)) (now (src .entry)) n (now (dst .exit)) ⌝ }
 {
     let mut i = 0;
     while i < n {
@@ -51,7 +51,7 @@ fn copy_eight(dst: &mut [u8], src: &[u8], at: usize)
 // Copies the last 32 of the first n bytes, where those before them are copied.
 fn copy_last(dst: &mut [u8], src: &[u8], n: usize)
     requires { ⌜ (32 ≤ n) × (n ≤ length (now dst)) × (n ≤ length (now src)) × (take (n - 32) (now dst) ≡ take (n - 32) (now src)) ⌝ }
-    ensures { λ _. ⌜ Copied (now (src .entry)) (now (dst .entry)) n (now (dst .exit)) ⌝ }
+    ensures { λ _. ⌜ Copied (now (dst .entry)) (now (src .entry)) n (now (dst .exit)) ⌝ }
 {
     copy_eight(dst, src, n - 32);
     copy_eight(dst, src, n - 24);
@@ -61,7 +61,7 @@ fn copy_last(dst: &mut [u8], src: &[u8], n: usize)
 
 // Copies src to the front of dst, as far as both go.
 pub fn copy(dst: &mut [u8], src: &[u8])
-    ensures { λ _. ⌜ now (dst .exit) ≡ over (now (src .entry)) (now (dst .entry)) ⌝ }
+    ensures { λ _. ⌜ now (dst .exit) ≡ over (now (dst .entry)) (now (src .entry)) ⌝ }
 {
     let n = smaller(dst.len(), src.len());
     copy_front(dst, src, n);
@@ -69,7 +69,7 @@ pub fn copy(dst: &mut [u8], src: &[u8])
 
 // The same for many bytes: from 32 on the last block of 32 overlaps the one before it, so that none are left to copy one by one.
 pub fn copy_long(dst: &mut [u8], src: &[u8])
-    ensures { λ _. ⌜ now (dst .exit) ≡ over (now (src .entry)) (now (dst .entry)) ⌝ }
+    ensures { λ _. ⌜ now (dst .exit) ≡ over (now (dst .entry)) (now (src .entry)) ⌝ }
 {
     let count = smaller(dst.len(), src.len());
     if count < 32 {

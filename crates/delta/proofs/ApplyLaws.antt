@@ -83,72 +83,72 @@ planes-sound i e s h = rw e (shape-sound s h i)
 
 -- the checks of the sizes and the two buffers
 module _ (z : Sizes) (i : Items) (d : List ℕ) (m n : ℕ) where
-  pub frame-limits : {k : ℕ} → frameLength z ≡ fault k → readFrame z i d m n ≡ fault k
+  pub frame-limits : {k : ℕ} → frameLength z ≡ fault k → readFrame n m d z i ≡ fault k
   unfolding readFrame
   frame-limits e = simp e
 
-  pub frame-picture : {l : ℕ} → frameLength z ≡ ok l → (m ≡ l → ⊥) → readFrame z i d m n ≡ fault 12
+  pub frame-picture : {l : ℕ} → frameLength z ≡ ok l → (m ≡ l → ⊥) → readFrame n m d z i ≡ fault 12
   unfolding readFrame
   frame-picture {l} e h = simp (e, ne-eqb m l h)
 
-  pub frame-work : {l : ℕ} → frameLength z ≡ ok l → m ≡ l → (n ≡ l → ⊥) → readFrame z i d m n ≡ fault 12
+  pub frame-work : {l : ℕ} → frameLength z ≡ ok l → m ≡ l → (n ≡ l → ⊥) → readFrame n m d z i ≡ fault 12
   unfolding readFrame
   frame-work {l} e h k = simp (e, eq-eqb m l h, ne-eqb n l k)
 
-  pub frame-columns : {l : ℕ} → frameLength z ≡ ok l → m ≡ l → n ≡ l → columnsOk i (rowBytes (z .width)) ≡ false → readFrame z i d m n ≡ fault 36
+  pub frame-columns : {l : ℕ} → frameLength z ≡ ok l → m ≡ l → n ≡ l → columnsOk i (rowBytes (z .width)) ≡ false → readFrame n m d z i ≡ fault 36
   unfolding readFrame
   frame-columns {l} e h k w = rw (e, eq-eqb m l h, eq-eqb n l k, w)
 
-  pub frame-delta : {l : ℕ} → frameLength z ≡ ok l → m ≡ l → n ≡ l → columnsOk i (rowBytes (z .width)) ≡ true → readFrame z i d m n ≡ readDelta (shapeOf z i) d
+  pub frame-delta : {l : ℕ} → frameLength z ≡ ok l → m ≡ l → n ≡ l → columnsOk i (rowBytes (z .width)) ≡ true → readFrame n m d z i ≡ readDelta (shapeOf z i) d
   unfolding readFrame
   frame-delta {l} e h k w = rw (e, eq-eqb m l h, eq-eqb n l k, w)
 
 module _ {z : Sizes} {i : Items} {d f w : List ℕ} where
-  applies-fault : {k : ℕ} → readFrame z i d (length f) (length w) ≡ fault k → Applies z i d f w (fault k) w
+  applies-fault : {k : ℕ} → readFrame (length w) (length f) d z i ≡ fault k → Applies w f d z i (fault k) w
   unfolding opCount newFrame
   applies-fault e = record { counts = rw e; leaves = rw e }
 
-  applies-ok : {ops : List Op} → readFrame z i d (length f) (length w) ≡ ok ops → Applies z i d f w (ok (opsIn (shapeOf z i) ops)) (draw (shapeOf z i) d ops f)
+  applies-ok : {ops : List Op} → readFrame (length w) (length f) d z i ≡ ok ops → Applies w f d z i (ok (opsIn (shapeOf z i) ops)) (draw (shapeOf z i) d ops f)
   unfolding opCount newFrame
   applies-ok e = record { counts = rw e; leaves = rw e }
 
 -- a delta that is checked
 module _ {z : Sizes} {i : Items} {d w : List ℕ} {m : ℕ} where
-  pub check-stops : {why : Refusal} → readFrame z i d m (length w) ≡ fault (numberOf why) → Checked z i d m w w (Refused why)
+  pub check-stops : {why : Refusal} → readFrame (length w) m d z i ≡ fault (numberOf why) → Checked w m d z i w (Refused why)
   check-stops {why} e = stops {why = why} e refl
 
-  pub check-walked : {S : Shape} {g : List ℕ} {n : ℕ} {b : Step} → S ≡ shapeOf z i → readFrame z i d m (length w) ≡ readDelta (shapeOf z i) d → m ≡ length w → Planes (shapeOf z i) (length w)
-      → Took S d false w (readPicture S d) top g n b → Checked z i d m w g b
+  pub check-walked : {S : Shape} {g : List ℕ} {n : ℕ} {b : Step} → S ≡ shapeOf z i → readFrame (length w) m d z i ≡ readDelta (shapeOf z i) d → m ≡ length w → Planes (shapeOf z i) (length w)
+      → Took w S d (readPicture S d) top false g n b → Checked w m d z i g b
   unfolding readDelta
   check-walked e r s p (took {c = c} t) =
       let q : readDelta (shapeOf z i) d ≡ ok (t .new) = rw (← e) (rw (t .same []) refl) in
       passes {c = c} (record { ops = t .new; read = q; frame = r ∙ q; counted = rw (← e) (omega (arith, t .counted)); same = s; planes = p; kept = t .drawn })
   check-walked e r s p (refused {why = why} u) = stops {why = why} (r ∙ rw (← e) (rw (u .same []) refl)) (u .kept refl)
 
-  check-next : {g : List ℕ} {b : Step} {c : Cursor} → Checked z i d m w g b → b ≡ Next c → Passes z i d m w g c
+  check-next : {g : List ℕ} {b : Step} {c : Cursor} → Checked w m d z i g b → b ≡ Next c → Passes w m d z i g c
   check-next {c = c} (passes {c = x} p) e = let u : x ≡ c = cc in rw u at p
   check-next (stops r q) e = never (cc)
 
-  check-faulty : {g : List ℕ} {b : Step} {why : Refusal} → Checked z i d m w g b → b ≡ Refused why → (readFrame z i d m (length w) ≡ fault (numberOf why)) × (g ≡ w)
+  check-faulty : {g : List ℕ} {b : Step} {why : Refusal} → Checked w m d z i g b → b ≡ Refused why → (readFrame (length w) m d z i ≡ fault (numberOf why)) × (g ≡ w)
   check-faulty (passes p) e = never (cc)
   check-faulty {why = why} (stops {why = x} r q) e = let u : x ≡ why = cc in (rw u at r, q)
 
 -- a plane is small enough for its shape to be told
-pub plane-for : {z : Sizes} {i : Items} {d w g : List ℕ} {m : ℕ} {b : Step} {c : Cursor} → Checked z i d m w g b → b ≡ Next c → bytesInPlane z ≤ 131072
+pub plane-for : {z : Sizes} {i : Items} {d w g : List ℕ} {m : ℕ} {b : Step} {c : Cursor} → Checked w m d z i g b → b ≡ Next c → bytesInPlane z ≤ 131072
 plane-for {z} {i} t h = rw (← plane-bytes z i) (check-next t h .planes .plane-most)
 
 -- the frame that is then drawn into has the work buffer's length
-pub planes-for : {S : Shape} {z : Sizes} {i : Items} {d w g : List ℕ} {m n : ℕ} {b : Step} {c : Cursor} → Checked z i d m w g b → b ≡ Next c → S ≡ shapeOf z i → n ≡ length g → Planes S n
+pub planes-for : {S : Shape} {z : Sizes} {i : Items} {d w g : List ℕ} {m n : ℕ} {b : Step} {c : Cursor} → Checked w m d z i g b → b ≡ Next c → S ≡ shapeOf z i → n ≡ length g → Planes S n
 planes-for t h s e = let p = check-next t h in rw (s, e, p .kept) (p .planes)
 
 -- a delta that is checked, and drawn
 module _ {z : Sizes} {i : Items} {d f w : List ℕ} {m : ℕ} (e : m ≡ length f) where
-  pub applies-refused : {g : List ℕ} {b : Step} {why : Refusal} → Checked z i d m w g b → b ≡ Refused why → Applies z i d f w (fault (numberOf why)) g
+  pub applies-refused : {g : List ℕ} {b : Step} {why : Refusal} → Checked w m d z i g b → b ≡ Refused why → Applies w f d z i (fault (numberOf why)) g
   applies-refused c h = let p = check-faulty c h in rw (p .1) (applies-fault (rw e at (p .0)))
 
   -- the second walk draws what the first one read
-  passes-drawn : {S : Shape} {g h k : List ℕ} {n : ℕ} {t : Step} {c : Cursor} → Passes z i d m w g c → S ≡ shapeOf z i → h ≡ f → Took S d true h (readPicture S d) top k n t
-      → Applies z i d f w (ok (c .ops)) k
+  passes-drawn : {S : Shape} {g h k : List ℕ} {n : ℕ} {t : Step} {c : Cursor} → Passes w m d z i g c → S ≡ shapeOf z i → h ≡ f → Took h S d (readPicture S d) top true k n t
+      → Applies w f d z i (ok (c .ops)) k
   unfolding readDelta
   passes-drawn {S} {g} {h} {k} {n} {t} {c} p s l (took u) =
       let a : readDelta (shapeOf z i) d ≡ ok (u .new) = rw (← s) (rw (u .same []) refl) in
@@ -160,16 +160,16 @@ module _ {z : Sizes} {i : Items} {d f w : List ℕ} {m : ℕ} (e : m ≡ length 
       let b = p .read in
       never (cc)
 
-  pub applies-drawn : {S : Shape} {g h k : List ℕ} {n : ℕ} {b t : Step} {c : Cursor} → Checked z i d m w g b → b ≡ Next c → S ≡ shapeOf z i → (g ≡ w → m ≡ length w → h ≡ f) → Took S d true h (readPicture S d) top k n t
-      → Applies z i d f w (ok (c .ops)) k
+  pub applies-drawn : {S : Shape} {g h k : List ℕ} {n : ℕ} {b t : Step} {c : Cursor} → Checked w m d z i g b → b ≡ Next c → S ≡ shapeOf z i → (g ≡ w → m ≡ length w → h ≡ f) → Took h S d (readPicture S d) top true k n t
+      → Applies w f d z i (ok (c .ops)) k
   applies-drawn x y s l u = let p = check-next x y in passes-drawn p s (l (p .kept) (p .same)) u
 
 -- what was applied
 module _ {z : Sizes} {i : Items} {d f w g : List ℕ} where
-  pub new-refused : {n : ℕ} → Applies z i d f w (fault n) g → newFrame z i d f (length w) ≡ fault n
-  new-refused p = answer-refused (newFrame z i d f (length w)) (sym (ap answer (p .counts) ∙ same-answer z i d f (length w)))
+  pub new-refused : {n : ℕ} → Applies w f d z i (fault n) g → newFrame (length w) f d z i ≡ fault n
+  new-refused p = answer-refused (newFrame (length w) f d z i) (sym (ap answer (p .counts) ∙ same-answer z i d f (length w)))
 
-  pub new-drawn : {c : ℕ} → Applies z i d f w (ok c) g → newFrame z i d f (length w) ≡ ok g
+  pub new-drawn : {c : ℕ} → Applies w f d z i (ok c) g → newFrame (length w) f d z i ≡ ok g
   new-drawn p =
-      let k = answered (newFrame z i d f (length w)) (ap answer (p .counts) ∙ same-answer z i d f (length w)) in
+      let k = answered (newFrame (length w) f d z i) (ap answer (p .counts) ∙ same-answer z i d f (length w)) in
       k .1 ∙ ap (λ (h : List ℕ). ok h) (sym (p .leaves ∙ ap (orKeep w) (k .1)))

@@ -17,9 +17,9 @@ use Rattle.state.specs.declared.Sizes.{Sizes}
 use Rattle.anhd.specs.declared.Items.{Items}
 use Rattle.delta.specs.declared.Shape.{Shape}
 use Rattle.delta.specs.Reading.{shapeOf, Op, opsIn, Reading, byteAt}
-use Rattle.delta.specs.Column.{fill, Kind, Kind.same, Kind.skips, Kind.uniq, kindOf, opAs, readOp, readOps, readColumn, readColumns}
+use Rattle.delta.specs.Column.{fill, OpKind, OpKind.same, OpKind.skips, OpKind.uniq, opKindOf, opAs, readOp, readOps, readColumn, readColumns}
 use Rattle.delta.specs.Words.{readWords}
-use Rattle.delta.specs.Delta.{pointer, dataPointer, planeList, readPlane, readPlanes, readPicture, put, draw, readFrame, newFrame, opCount}
+use Rattle.delta.specs.Delta.{listPointer, dataPointer, planeList, readPlane, readPlanes, readPicture, put, draw, readFrame, newFrame, opCount}
 
 -- an item of one byte more
 store : (w : ℕ) (f : List ℕ) (at : ℕ) (d : List ℕ) (from : ℕ) → from < length d → sets f at (take (suc w) (drop from d)) ≡ sets (set f at (getD d from 0)) (suc at) (take w (drop (suc from) d))
@@ -96,23 +96,23 @@ draw-length S d (o ∷ ops) f =
     draw-length S d ops (put (S .item) (S .row) (o .step) d (o .count) (o .from) (o .place) f) ∙ put-length (S .item) (S .row) (o .step) d (o .count) (o .from) (o .place) f
 
 -- a delta keeps the length of the picture
-pub frame-length : (z : Sizes) (i : Items) (d f : List ℕ) (n : ℕ) → Each (λ (g : List ℕ). length g ≡ length f) (newFrame z i d f n)
+pub frame-length : (z : Sizes) (i : Items) (d f : List ℕ) (n : ℕ) → Each (λ (g : List ℕ). length g ≡ length f) (newFrame n f d z i)
 unfolding newFrame
-frame-length z i d f n = each-any (readFrame z i d (length f) n) λ ops. each (draw-length (shapeOf z i) d ops f)
+frame-length z i d f n = each-any (readFrame n (length f) d z i) λ ops. each (draw-length (shapeOf z i) d ops f)
 
 -- there is a frame exactly where there are ops, and they are refused alike
-pub same-answer : (z : Sizes) (i : Items) (d f : List ℕ) (n : ℕ) → answer (opCount z i d f n) ≡ answer (newFrame z i d f n)
+pub same-answer : (z : Sizes) (i : Items) (d f : List ℕ) (n : ℕ) → answer (opCount n f d z i) ≡ answer (newFrame n f d z i)
 unfolding opCount newFrame
-same-answer z i d f n = let r = readFrame z i d (length f) n in answer-ok r (opsIn (shapeOf z i)) ∙ sym (answer-ok r (λ ops. draw (shapeOf z i) d ops f))
+same-answer z i d f n = let r = readFrame n (length f) d z i in answer-ok r (opsIn (shapeOf z i)) ∙ sym (answer-ok r (λ ops. draw (shapeOf z i) d ops f))
 
 -- what an op does, by the range of its first byte
-pub kind-same : (b : ℕ) → b ≡ 0 → kindOf b ≡ same
+pub kind-same : (b : ℕ) → b ≡ 0 → opKindOf b ≡ same
 kind-same b e = rw e
 
-pub kind-skip : (b : ℕ) → 0 < b → b ≤ 127 → kindOf b ≡ skips b
+pub kind-skip : (b : ℕ) → 0 < b → b ≤ 127 → opKindOf b ≡ skips b
 kind-skip b l k = simp (ne-eqb b 0 (omega arith), le-leb _ _ k)
 
-pub kind-uniq : (b : ℕ) → 127 < b → kindOf b ≡ uniq (b - 128)
+pub kind-uniq : (b : ℕ) → 127 < b → opKindOf b ≡ uniq (b - 128)
 kind-uniq b k = simp (ne-eqb b 0 (omega arith), lt-leb _ _ k)
 
 -- the op at a place, by its first byte
@@ -121,7 +121,7 @@ module _ (S : Shape) (d : List ℕ) (base : ℕ) (c : Reading) where
   unfolding readOp byteAt
   op-none h = simp (le-ltb _ _ h)
 
-  pub op-kind : c .opAt < length d → {k : Kind} → kindOf (getD d (c .opAt) 0) ≡ k → readOp S d base c ≡ opAs S d base c k
+  pub op-kind : c .opAt < length d → {k : OpKind} → opKindOf (getD d (c .opAt) 0) ≡ k → readOp S d base c ≡ opAs S d base c k
   unfolding readOp byteAt
   op-kind h e = simp (lt-ltb _ _ h) (rw e)
 
@@ -150,32 +150,32 @@ module _ (S : Shape) (d : List ℕ) (p : ℕ) (c : Reading) where
   plane-same e = simp e
 
   module _ (h : be32 d (4 * p) ≡ 0 → ⊥) where
-    pub plane-bad : {n : ℕ} → pointer d (S .pointers) p ≡ fault n → readPlane S d p c ≡ fault n
+    pub plane-bad : {n : ℕ} → listPointer d (S .pointers) p ≡ fault n → readPlane S d p c ≡ fault n
     unfolding readPlane
     plane-bad e = simp (ne-eqb (be32 d (4 * p)) 0 h, e)
 
-    pub plane-bad-data : {a n : ℕ} → pointer d (S .pointers) p ≡ ok a → dataPointer d S p ≡ fault n → readPlane S d p c ≡ fault n
+    pub plane-bad-data : {a n : ℕ} → listPointer d (S .pointers) p ≡ ok a → dataPointer S d p ≡ fault n → readPlane S d p c ≡ fault n
     unfolding readPlane
     plane-bad-data e k = simp (ne-eqb (be32 d (4 * p)) 0 h, e, k)
 
-    plane-list : {a b : ℕ} → pointer d (S .pointers) p ≡ ok a → dataPointer d S p ≡ ok b → readPlane S d p c ≡ planeList S d (p * S .plane) (record { opAt = a; itemAt = b; line = 0; ops = c .ops })
+    plane-list : {a b : ℕ} → listPointer d (S .pointers) p ≡ ok a → dataPointer S d p ≡ ok b → readPlane S d p c ≡ planeList S d (p * S .plane) (record { opAt = a; itemAt = b; line = 0; ops = c .ops })
     unfolding readPlane
     plane-list e k = rw (ne-eqb (be32 d (4 * p)) 0 h, e, k) refl
 
-    pub plane-columns : {a b : ℕ} → pointer d (S .pointers) p ≡ ok a → dataPointer d S p ≡ ok b → S .words ≡ false
+    pub plane-columns : {a b : ℕ} → listPointer d (S .pointers) p ≡ ok a → dataPointer S d p ≡ ok b → S .words ≡ false
         → readPlane S d p c ≡ readColumns S d (S .row / S .item) (p * S .plane) (record { opAt = a; itemAt = b; line = 0; ops = c .ops })
     plane-columns e k w = plane-list e k ∙ rw w
 
-    pub plane-words : {a b : ℕ} → pointer d (S .pointers) p ≡ ok a → dataPointer d S p ≡ ok b → S .words ≡ true
+    pub plane-words : {a b : ℕ} → listPointer d (S .pointers) p ≡ ok a → dataPointer S d p ≡ ok b → S .words ≡ true
         → readPlane S d p c ≡ readWords S d (p * S .plane) (record { opAt = a; itemAt = b; line = 0; ops = c .ops })
     plane-words e k w = plane-list e k ∙ rw w
 
 -- a pointer leads into the delta
-pub pointer-most : (d : List ℕ) (pointers i : ℕ) → Each (λ (a : ℕ). a ≤ length d) (pointer d pointers i)
-unfolding pointer
+pub pointer-most : (d : List ℕ) (pointers i : ℕ) → Each (λ (a : ℕ). a ≤ length d) (listPointer d pointers i)
+unfolding listPointer
 pointer-most d pointers i = each-need (leb pointers (be32 d (4 * i))) 41 _ λ _. each-need (leb (be32 d (4 * i)) (length d)) 41 _ λ h. each (leb-true (be32 d (4 * i)) (length d) h)
 
-pub data-pointer-most : (d : List ℕ) (S : Shape) (p : ℕ) → Each (λ (a : ℕ). a ≤ length d) (dataPointer d S p)
+pub data-pointer-most : (d : List ℕ) (S : Shape) (p : ℕ) → Each (λ (a : ℕ). a ≤ length d) (dataPointer S d p)
 data-pointer-most d S p = each-pick (S .inline) (λ _. each {a = 0} (omega arith)) (λ _. pointer-most d (S .pointers) (p + 8))
 
 -- one op, column or plane more, and none

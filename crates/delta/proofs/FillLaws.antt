@@ -14,10 +14,10 @@ use Rattle.delta.specs.declared.Cursor.{Cursor}
 use Rattle.delta.specs.declared.Taken.{Taken}
 use Rattle.delta.specs.declared.Taken.the-variants.{Rows, Passed, Refused as NotTaken}
 use Rattle.delta.specs.Reading.{Op, Reading}
-use Rattle.delta.specs.Column.{noRows, skip, fill}
+use Rattle.delta.specs.Column.{noRows, skipRows, fill}
 use Rattle.delta.specs.Delta.{put, draw}
 use Rattle.delta.specs.declared.Step.{Step}
-use Rattle.delta.specs.Walk.{Inside, ItemsIn, Down, Column, Columns, Planes, filled, Skipped, Skipped.skipped, Skipped.past-last, reading, RowsRead, OpRead, Lies, Drawn, Took, Took.took, Took.refused}
+use Rattle.delta.specs.Walk.{Inside, ItemsIn, Down, Column, Columns, Planes, afterFill, Skipped, Skipped.skipped, Skipped.past-last, reading, RowsRead, OpRead, Lies, Drawn, Took, Took.took, Took.refused}
 use Rattle.delta.proofs.WalkLaws.{pick-same}
 
 -- rows from a line on
@@ -77,15 +77,15 @@ pub columns-most : {S : Shape} {n : ℕ} → Planes S n → S .row / S .item ≤
 columns-most {S} v = omega (arith, v .row-most, div-add-mod' (S .row) (S .item), mul-le-mul-left (S .row / S .item) (v .width .least))
 
 -- a Skip
-skip-past : (S : Shape) (c : Reading) (n : ℕ) → S .height < c .line + n → skip S c n ≡ fault 43
-unfolding skip
+skip-past : (S : Shape) (c : Reading) (n : ℕ) → S .height < c .line + n → skipRows S c n ≡ fault 43
+unfolding skipRows
 skip-past S c n h = simp (lt-leb _ _ h)
 
-skip-down : (S : Shape) (c : Reading) (n : ℕ) → c .line + n ≤ S .height → skip S c n ≡ ok (record { opAt = c .opAt + 1; itemAt = c .itemAt; line = c .line + n; ops = c .ops ++ (noRows ∷ []) })
-unfolding skip
+skip-down : (S : Shape) (c : Reading) (n : ℕ) → c .line + n ≤ S .height → skipRows S c n ≡ ok (record { opAt = c .opAt + 1; itemAt = c .itemAt; line = c .line + n; ops = c .ops ++ (noRows ∷ []) })
+unfolding skipRows
 skip-down S c n h = simp (le-leb _ _ h)
 
-pub skip-read : {S : Shape} {c : Cursor} {n : ℕ} {r : Taken} → Skipped S c n r → (d : List ℕ) → c .item ≤ length d → OpRead S d 1 (λ base x. skip S x n) c r
+pub skip-read : {S : Shape} {c : Cursor} {n : ℕ} {r : Taken} → Skipped S c n r → (d : List ℕ) → c .item ≤ length d → OpRead S d 1 (λ base x. skipRows S x n) c r
 skip-read {S} {c} {n} (skipped h) d i = record { same = λ base ops. skip-down S (reading c ops) n h; moved = record { counted = refl; line = h; item = i } }
 skip-read {S} {c} {n} (past-last h) d i = λ base ops. skip-past S (reading c ops) n h
 
@@ -107,7 +107,7 @@ module _ (S : Shape) (d : List ℕ) (c : Cursor) (p n size step : ℕ) where
     unfolding fill
     fill-short k base ops = simp (le-leb _ _ l, lt-leb _ _ (rw e at k))
 
-    pub fill-read : c .item ≤ length d → from + size ≤ length d → ItemsIn size 0 step (S .item) n → {c′ : Cursor} → c′ ≡ filled S c p n size
+    pub fill-read : c .item ≤ length d → from + size ≤ length d → ItemsIn size 0 step (S .item) n → {c′ : Cursor} → c′ ≡ afterFill S c p n size
         → RowsRead S d 1 (λ base x. fill S d base x p n size step) c (c .line) from step n c′
     unfolding fill
     fill-read i k v q =
@@ -133,9 +133,9 @@ module _ (S : Shape) (d : List ℕ) (k : ℕ) (whole : ℕ → Reading → Res R
   op-lies (Passed next) w = tt
   op-lies (NotTaken why) w = tt
 
-  -- drawn where that is asked for
-  pub op-walked : k ≡ pick (S .words) 0 1 → (drawing : Bool) (f : List ℕ) (base : ℕ) {g : List ℕ} (t : Taken) {r : Step} → OpRead S d k whole c t → Drawn S d drawing f base t g r
-      → Took S d drawing f (whole base) c g k r
+  -- drawn if drawing is set
+  pub op-walked : k ≡ pick (S .words) 0 1 → (drawing : Bool) (f : List ℕ) (base : ℕ) {g : List ℕ} (t : Taken) {r : Step} → OpRead S d k whole c t → Drawn f S d base t drawing g r
+      → Took f S d (whole base) c drawing g k r
   unfolding draw put
   op-walked e drawing f base (Rows line from step n next) w (p, q) =
       rw p

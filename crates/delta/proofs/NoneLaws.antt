@@ -10,7 +10,7 @@ use borrow.Author.Tests.{le-leb, lt-leb}
 use Rattle.laws.specs.Result.{Res.ok, Res.fault, pick, Each, Each.each}
 use Rattle.laws.proofs.ResultLaws.{each-any, each-map, each-need}
 use Rattle.delta.specs.Reading.{Op, Reading, byteAt}
-use Rattle.delta.specs.Column.{noRows, skip, fill, Kind, Kind.same, Kind.skips, Kind.uniq, opAs}
+use Rattle.delta.specs.Column.{noRows, skipRows, fill, OpKind, OpKind.same, OpKind.skips, OpKind.uniq, opAs}
 use Rattle.delta.specs.Delta.{put, draw}
 use Rattle.delta.specs.declared.Shape.{Shape}
 use Rattle.delta.specs.None.{Fills, MovesNothing, Adds}
@@ -50,8 +50,8 @@ module _ (S : Shape) (d : List ℕ) (base : ℕ) (c : Reading) where
     place-after : {p n size : ℕ} {next : Reading} → 0 < p → (w : Fills S c p n size next) → 0 < w .op .from
     place-after h w = rw (w .from, inline) h
 
-    pub has-place : (k : Kind) → Each (λ next. Adds k (c .ops) (next .ops)) (opAs S d base c k)
-    unfolding skip
+    pub has-place : (k : OpKind) → Each (λ next. Adds k (c .ops) (next .ops)) (opAs S d base c k)
+    unfolding skipRows
     has-place same =
         each-any (byteAt d (c .opAt + 1)) λ n.
         each-map (λ next w. record { op = w .op; more = w .counted; place = place-after (omega arith) w }) (fill-reads (c .opAt + 2) n (S .item) 0)

@@ -39,13 +39,13 @@ op-onward S d base c x =
     each-pick (ltb x 32768) (λ _. run-onward S d base c (c .line + moveOf x) (c .opAt + 2) 1 (omega arith))
     (λ _. each-any (pairAt d (c .opAt + 2)) λ n. run-onward S d base c (c .line + moveOf x) (c .opAt + 4) n (omega arith))
 
--- an op that was read, drawn where that is asked for, and where it has come to
+-- an op that was read, drawn if drawing is set, and where it has come to
 module _ {S : Shape} {d : List ℕ} (words : S .words ≡ true) (base x : ℕ) (c : Cursor) where
-  pub word-walked : (drawing : Bool) (f : List ℕ) {g : List ℕ} (t : Taken) {r : Step} → OpRead S d 0 (λ base y. wordOp S d base y x) c t → Drawn S d drawing f base t g r
-      → Took S d drawing f (λ y. wordOp S d base y x) c g 0 r
+  pub word-walked : (drawing : Bool) (f : List ℕ) {g : List ℕ} (t : Taken) {r : Step} → OpRead S d 0 (λ base y. wordOp S d base y x) c t → Drawn f S d base t drawing g r
+      → Took f S d (λ y. wordOp S d base y x) c drawing g 0 r
   word-walked drawing f t w e = op-walked S d 0 (λ base y. wordOp S d base y x) c (rw words) drawing f base t w e
 
-  pub word-further : {drawing : Bool} {f g : List ℕ} {next : Cursor} → Walked S d drawing f (λ y. wordOp S d base y x) c ok g 0 next → (c .op < next .op) × (next .op ≤ length d)
+  pub word-further : {drawing : Bool} {f g : List ℕ} {next : Cursor} → Walked f S d (λ y. wordOp S d base y x) c drawing ok g 0 next → (c .op < next .op) × (next .op ≤ length d)
   word-further w = let o = each-is (w .same []) (op-onward S d base (reading c []) x) in (o .onward, o .inside)
 
 -- a list of words is its first op and the rest

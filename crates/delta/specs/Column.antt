@@ -13,8 +13,8 @@ abbrev pub noRows : Op
 noRows = record { place = 0; count = 0; from = 0; step = 0 }
 
 -- go down n rows
-unfoldable pub skip : Shape → Reading → ℕ → Res Reading
-skip S c n =
+unfoldable pub skipRows : Shape → Reading → ℕ → Res Reading
+skipRows S c n =
     need (leb (c .line + n) (S .height)) 43 >>= λ _.
     ok (record { opAt = c .opAt + 1; itemAt = c .itemAt; line = c .line + n; ops = c .ops ++ (noRows ∷ []) })
 
@@ -32,23 +32,23 @@ fill S d base c p n size step =
     })
 
 -- what an op does, decided by ranges of its first byte
-pub data Kind : Type 0 where
-  same : Kind
-  skips : ℕ → Kind
-  uniq : ℕ → Kind
+pub data OpKind : Type 0 where
+  same : OpKind
+  skips : ℕ → OpKind
+  uniq : ℕ → OpKind
 
-abbrev pub kindOf : ℕ → Kind
-kindOf b = pick (eqb b 0) same (pick (leb b 127) (skips b) (uniq (b - 128)))
+abbrev pub opKindOf : ℕ → OpKind
+opKindOf b = pick (eqb b 0) same (pick (leb b 127) (skips b) (uniq (b - 128)))
 
 -- the op of a kind, in the column that starts at base
-abbrev pub opAs : Shape → List ℕ → ℕ → Reading → Kind → Res Reading
+abbrev pub opAs : Shape → List ℕ → ℕ → Reading → OpKind → Res Reading
 opAs S d base c same = byteAt d (c .opAt + 1) >>= λ n. fill S d base c (c .opAt + 2) n (S .item) 0
-opAs S d base c (skips n) = skip S c n
+opAs S d base c (skips n) = skipRows S c n
 opAs S d base c (uniq n) = fill S d base c (c .opAt + 1) n (n * S .item) (S .item)
 
 -- the next op in the list, in the column that starts at base
 unfoldable pub readOp : Shape → List ℕ → ℕ → Reading → Res Reading
-readOp S d base c = byteAt d (c .opAt) >>= λ b. opAs S d base c (kindOf b)
+readOp S d base c = byteAt d (c .opAt) >>= λ b. opAs S d base c (opKindOf b)
 
 -- the next k ops
 unfoldable pub readOps : Shape → List ℕ → ℕ → ℕ → Reading → Res Reading

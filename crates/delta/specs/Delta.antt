@@ -21,15 +21,15 @@ use Rattle.delta.specs.declared.Applied.{Applied}
 use Rattle.delta.specs.declared.Applied.the-variants.{Drawn, Refused}
 
 -- pointer i, which must lead to a place from the end of the pointers' own bytes to the DLTA's length
-unfoldable pub pointer : List ℕ → ℕ → ℕ → Res ℕ
-pointer d pointers i =
+unfoldable pub listPointer : List ℕ → ℕ → ℕ → Res ℕ
+listPointer d pointers i =
     need (leb pointers (be32 d (4 * i))) 41 >>= λ _.
     need (leb (be32 d (4 * i)) (length d)) 41 >>= λ _.
     ok (be32 d (4 * i))
 
 -- where the items of plane p start: only method 7 has data lists
-abbrev pub dataPointer : List ℕ → Shape → ℕ → Res ℕ
-dataPointer d S p = pick (S .inline) (ok 0) (pointer d (S .pointers) (p + 8))
+abbrev pub dataPointer : Shape → List ℕ → ℕ → Res ℕ
+dataPointer S d p = pick (S .inline) (ok 0) (listPointer d (S .pointers) (p + 8))
 
 -- what a plane's list says: words, or columns from left to right
 abbrev pub planeList : Shape → List ℕ → ℕ → Reading → Res Reading
@@ -39,8 +39,8 @@ planeList S d base c = pick (S .words) (readWords S d base c) (readColumns S d (
 unfoldable pub readPlane : Shape → List ℕ → ℕ → Reading → Res Reading
 readPlane S d p c =
     pick (eqb (be32 d (4 * p)) 0) (ok c)
-    (pointer d (S .pointers) p >>= λ a.
-    dataPointer d S p >>= λ b.
+    (listPointer d (S .pointers) p >>= λ a.
+    dataPointer S d p >>= λ b.
     planeList S d (p * S .plane) (record { opAt = a; itemAt = b; line = 0; ops = c .ops }))
 
 -- k planes from plane p on
@@ -66,23 +66,23 @@ unfoldable pub draw : Shape → List ℕ → List Op → List ℕ → List ℕ
 draw S d [] f = f
 draw S d (o ∷ ops) f = draw S d ops (put (S .item) (S .row) (o .step) d (o .count) (o .from) (o .place) f)
 
--- the ops of a delta for a picture of m bytes and a work buffer of n bytes: 11 for the sizes, 12 for the two buffers, 36 for long
+-- the ops of a delta for a work buffer of n bytes and a picture of m bytes: 11 for the sizes, 12 for the two buffers, 36 for long
 -- data of method 7 where B is not a multiple of 4, then the delta's refusals
-unfoldable pub readFrame : Sizes → Items → List ℕ → ℕ → ℕ → Res (List Op)
-readFrame z i d m n =
+unfoldable pub readFrame : ℕ → ℕ → List ℕ → Sizes → Items → Res (List Op)
+readFrame n m d z i =
     frameLength z >>= λ l.
     need (eqb m l) 12 >>= λ _.
     need (eqb n l) 12 >>= λ _.
     need (columnsOk i (rowBytes (z .width))) 36 >>= λ _.
     readDelta (shapeOf z i) d
 
--- the frame that a delta makes of the picture f
-unfoldable pub newFrame : Sizes → Items → List ℕ → List ℕ → ℕ → Res (List ℕ)
-newFrame z i d f n = readFrame z i d (length f) n >>= λ ops. ok (draw (shapeOf z i) d ops f)
+-- the frame that a delta makes of the picture f in a work buffer of n bytes
+unfoldable pub newFrame : ℕ → List ℕ → List ℕ → Sizes → Items → Res (List ℕ)
+newFrame n f d z i = readFrame n (length f) d z i >>= λ ops. ok (draw (shapeOf z i) d ops f)
 
 -- the number of its ops, as `opsIn` counts them
-unfoldable pub opCount : Sizes → Items → List ℕ → List ℕ → ℕ → Res ℕ
-opCount z i d f n = readFrame z i d (length f) n >>= λ ops. ok (opsIn (shapeOf z i) ops)
+unfoldable pub opCount : ℕ → List ℕ → List ℕ → Sizes → Items → Res ℕ
+opCount n f d z i = readFrame n (length f) d z i >>= λ ops. ok (opsIn (shapeOf z i) ops)
 
 -- what an answer says in the paper's terms
 abbrev pub appliedOf : Applied → Res ℕ
@@ -90,6 +90,6 @@ appliedOf (Drawn n) = ok n
 appliedOf (Refused why) = fault (numberOf why)
 
 -- what a call answers, and what it leaves in the work buffer w: the frame, or what was there before if it is refused
-pub record Applies (z : Sizes) (i : Items) (d f w : List ℕ) (answer : Res ℕ) (g : List ℕ) : Type 0 where
-  pub counts : answer ≡ opCount z i d f (length w)
-  pub leaves : g ≡ orKeep w (newFrame z i d f (length w))
+pub record Applies (w f d : List ℕ) (z : Sizes) (i : Items) (answer : Res ℕ) (g : List ℕ) : Type 0 where
+  pub counts : answer ≡ opCount (length w) f d z i
+  pub leaves : g ≡ orKeep w (newFrame (length w) f d z i)

@@ -4,7 +4,7 @@ use mathlib.Core.List.{List, [], _∷_, _++_}
 use mathlib.Core.Path.{_≡_}
 use Rattle.laws.specs.Result.{pick}
 use Rattle.delta.specs.Reading.{Op, Reading}
-use Rattle.delta.specs.Column.{Kind, Kind.same, Kind.skips, Kind.uniq}
+use Rattle.delta.specs.Column.{OpKind, OpKind.same, OpKind.skips, OpKind.uniq}
 use Rattle.delta.specs.Delta.{draw}
 use Rattle.delta.specs.declared.Shape.{Shape}
 
@@ -29,13 +29,13 @@ abbrev pub HasRows : Op → Type 0
 HasRows o = 0 < o .from → 0 < o .count
 
 -- with method 5 a Uniq and a Same have a place for items; a Skip has none
-abbrev pub PlaceIn : Kind → Op → Type 0
+abbrev pub PlaceIn : OpKind → Op → Type 0
 PlaceIn same o = 0 < o .from
 PlaceIn (skips n) o = o .from ≡ 0
 PlaceIn (uniq n) o = (0 < o .from) × (o .count ≡ n)
 
 -- one op, of a kind, comes after the ops so far
-pub record Adds (k : Kind) (before after : List Op) : Type 0 where
+pub record Adds (k : OpKind) (before after : List Op) : Type 0 where
   pub op : Op
   pub more : after ≡ before ++ (op ∷ [])
   pub place : PlaceIn k op

@@ -67,7 +67,7 @@ pub record Planes (S : Shape) (n : ℕ) : Type 0 where
   pub height-least : S .words ≡ false → 1 ≤ S .height
   pub beside : S .words ≡ true → S .row ≡ S .item
   pub fits : S .height * S .row ≤ S .plane
-  pub plane-most : S .plane ≤ 131072
+  pub plane-most : S .plane ≤ 1024 * 128
   pub planes-most : S .planes ≤ 8
   pub length : n ≡ S .planes * S .plane
 
@@ -78,8 +78,8 @@ pub record Stands (S : Shape) (d : List ℕ) (c : Cursor) (room : ℕ) : Type 0 
   pub ops : c .ops + room < 4294967296
 
 -- where reading stands after n rows got items of size bytes in all; p is the place after the op's own bytes
-abbrev pub filled : Shape → Cursor → ℕ → ℕ → ℕ → Cursor
-filled S c p n size = record { op = pick (S .inline) (p + size) p; item = pick (S .inline) (c .item) (c .item + size); line = c .line + n; ops = c .ops + 1 }
+abbrev pub afterFill : Shape → Cursor → ℕ → ℕ → ℕ → Cursor
+afterFill S c p n size = record { op = pick (S .inline) (p + size) p; item = pick (S .inline) (c .item) (c .item + size); line = c .line + n; ops = c .ops + 1 }
 
 -- the numbers that it comes to fit
 pub record Fits (S : Shape) (c : Cursor) (p n size : ℕ) : Type 0 where
@@ -130,18 +130,18 @@ Lies S d (Rows line from step n next) = (line + n ≤ S .height) × ItemsIn (len
 Lies S d (Passed next) = Unit {0}
 Lies S d (NotTaken why) = Unit {0}
 
--- the frame f, with n rows from a place on drawn into it if that is asked for
+-- the frame f, with n rows from a place on drawn into it if drawing is set
 abbrev pub drawnRows : List ℕ → ℕ → List ℕ → ℕ → ℕ → ℕ → Shape → Bool → List ℕ
 drawnRows f place d from step n S drawing = pick drawing (put (S .item) (S .row) step d n from place f) f
 
 -- what drawing an op in the column that starts at base answers, and leaves in the frame
-abbrev pub Drawn : Shape → List ℕ → Bool → List ℕ → ℕ → Taken → List ℕ → Step → Type 0
-Drawn S d drawing f base (Rows line from step n next) g r = (r ≡ Next next) × (g ≡ drawnRows f (base + line * S .row) d from step n S drawing)
-Drawn S d drawing f base (Passed next) g r = (r ≡ Next next) × (g ≡ f)
-Drawn S d drawing f base (NotTaken why) g r = (r ≡ StepRefused why) × (g ≡ f)
+abbrev pub Drawn : List ℕ → Shape → List ℕ → ℕ → Taken → Bool → List ℕ → Step → Type 0
+Drawn f S d base (Rows line from step n next) drawing g r = (r ≡ Next next) × (g ≡ drawnRows f (base + line * S .row) d from step n S drawing)
+Drawn f S d base (Passed next) drawing g r = (r ≡ Next next) × (g ≡ f)
+Drawn f S d base (NotTaken why) drawing g r = (r ≡ StepRefused why) × (g ≡ f)
 
 -- reading by `whole` from the cursor c₀ on has come to c, and `rest` is left; the frame f has become g
-pub record Walked (S : Shape) (d : List ℕ) (drawing : Bool) (f : List ℕ) (whole : Reading → Res Reading) (c₀ : Cursor) (rest : Reading → Res Reading) (g : List ℕ) (most : ℕ) (c : Cursor) : Type 0 where
+pub record Walked (f : List ℕ) (S : Shape) (d : List ℕ) (whole : Reading → Res Reading) (c₀ : Cursor) (drawing : Bool) (rest : Reading → Res Reading) (g : List ℕ) (most : ℕ) (c : Cursor) : Type 0 where
   pub new : List Op
   pub same : (ops : List Op) → whole (reading c₀ ops) ≡ rest (reading c (ops ++ new))
   pub drawn : g ≡ pick drawing (draw S d new f) f
@@ -151,26 +151,26 @@ pub record Walked (S : Shape) (d : List ℕ) (drawing : Bool) (f : List ℕ) (wh
   pub item : c .item ≤ length d
 
 -- reading is refused; a check draws nothing
-pub record Refused (drawing : Bool) (f : List ℕ) (whole : Reading → Res Reading) (c₀ : Cursor) (g : List ℕ) (n : ℕ) : Type 0 where
+pub record Refused (f : List ℕ) (whole : Reading → Res Reading) (c₀ : Cursor) (drawing : Bool) (g : List ℕ) (n : ℕ) : Type 0 where
   pub same : (ops : List Op) → whole (reading c₀ ops) ≡ fault n
   pub kept : drawing ≡ false → g ≡ f
 
 -- what a step answers and leaves in the frame, where the definition's step is `whole`
-pub data Took (S : Shape) (d : List ℕ) (drawing : Bool) (f : List ℕ) (whole : Reading → Res Reading) (c₀ : Cursor) (g : List ℕ) (most : ℕ) : Step → Type 0 where
-  took : {c : Cursor} → Walked S d drawing f whole c₀ ok g most c → Took S d drawing f whole c₀ g most (Next c)
-  refused : {why : Refusal} → Refused drawing f whole c₀ g (numberOf why) → Took S d drawing f whole c₀ g most (StepRefused why)
+pub data Took (f : List ℕ) (S : Shape) (d : List ℕ) (whole : Reading → Res Reading) (c₀ : Cursor) (drawing : Bool) (g : List ℕ) (most : ℕ) : Step → Type 0 where
+  took : {c : Cursor} → Walked f S d whole c₀ drawing ok g most c → Took f S d whole c₀ drawing g most (Next c)
+  refused : {why : Refusal} → Refused f whole c₀ drawing g (numberOf why) → Took f S d whole c₀ drawing g most (StepRefused why)
 
 -- a delta that passes the check for a picture of m bytes: its ops, and that the work buffer w, which has become g, is fit for them
-pub record Passes (z : Sizes) (i : Items) (d : List ℕ) (m : ℕ) (w g : List ℕ) (c : Cursor) : Type 0 where
+pub record Passes (w : List ℕ) (m : ℕ) (d : List ℕ) (z : Sizes) (i : Items) (g : List ℕ) (c : Cursor) : Type 0 where
   pub ops : List Op
   pub read : readDelta (shapeOf z i) d ≡ ok ops
-  pub frame : readFrame z i d m (length w) ≡ ok ops
+  pub frame : readFrame (length w) m d z i ≡ ok ops
   pub counted : c .ops ≡ opsIn (shapeOf z i) ops
   pub same : m ≡ length w
   pub planes : Planes (shapeOf z i) (length w)
   pub kept : g ≡ w
 
 -- what the check of a whole delta answers and leaves in the work buffer
-pub data Checked (z : Sizes) (i : Items) (d : List ℕ) (m : ℕ) (w g : List ℕ) : Step → Type 0 where
-  passes : {c : Cursor} → Passes z i d m w g c → Checked z i d m w g (Next c)
-  stops : {why : Refusal} → readFrame z i d m (length w) ≡ fault (numberOf why) → g ≡ w → Checked z i d m w g (StepRefused why)
+pub data Checked (w : List ℕ) (m : ℕ) (d : List ℕ) (z : Sizes) (i : Items) (g : List ℕ) : Step → Type 0 where
+  passes : {c : Cursor} → Passes w m d z i g c → Checked w m d z i g (Next c)
+  stops : {why : Refusal} → readFrame (length w) m d z i ≡ fault (numberOf why) → g ≡ w → Checked w m d z i g (StepRefused why)

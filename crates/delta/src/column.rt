@@ -1,10 +1,10 @@
-// One column of a delta: an op count byte and that many ops, read and, where that is asked for, drawn.
+// One column of a delta: an op count byte and that many ops, read and, if drawing is set, drawn.
 ghost use mathlib.Core.Path.{_≡_};
 ghost use Prim.Native.Nat.{_+_, _<_, _≤_};
 ghost use lib.ListN.{length};
 ghost use Rattle.laws.specs.Result.{pick};
-ghost use Rattle.delta.specs.Column.{fill, Kind.same, Kind.uniq, opAs, readOp, readOps, readColumn};
-ghost use Rattle.delta.specs.Walk.{Vertical, Width, Column, Stands, Fits, filled, ItemsIn, Skipped, OpRead, Took};
+ghost use Rattle.delta.specs.Column.{fill, OpKind.same, OpKind.uniq, opAs, readOp, readOps, readColumn};
+ghost use Rattle.delta.specs.Walk.{Vertical, Width, Column, Stands, Fits, afterFill, ItemsIn, Skipped, OpRead, Took};
 use crate::Cursor;
 use crate::Shape;
 use crate::Step;
@@ -12,7 +12,7 @@ use crate::Taken;
 use crate::rows::draw_taken;
 use refusal::Refusal;
 
-fn pick(test: bool, a: usize, b: usize) -> usize
+fn either(test: bool, a: usize, b: usize) -> usize
     ensures { λ r. ⌜ r ≡ pick test a b ⌝ }
 {
     if test { a } else { b }
@@ -21,7 +21,7 @@ fn pick(test: bool, a: usize, b: usize) -> usize
 // Where reading stands after count rows got items of size bytes in all; the op's own bytes end at next.
 fn after_fill(shape: Shape, c: Cursor, next: usize, count: usize, size: usize) -> Cursor
     requires { ⌜ Fits shape c next count size ⌝ }
-    ensures { λ r. ⌜ r ≡ filled shape c next count size ⌝ }
+    ensures { λ r. ⌜ r ≡ afterFill shape c next count size ⌝ }
 {
     let line = c.line + count;
     let ops = c.ops + 1;
@@ -43,8 +43,8 @@ fn after_fill(shape: Shape, c: Cursor, next: usize, count: usize, size: usize) -
 
 // Reads an op that gives count rows from the cursor on items of size bytes in all; its own bytes end at next.
 fn take_fill(
-    d: &[u8],
     shape: Shape,
+    d: &[u8],
     c: Cursor,
     next: usize,
     count: usize,
@@ -57,7 +57,7 @@ fn take_fill(
     if shape.height - c.line < count {
         return Taken::Refused(Refusal::OpPastLastRow);
     }
-    let from = pick(shape.inline, next, c.item);
+    let from = either(shape.inline, next, c.item);
     if d.len() - from < size {
         return Taken::Refused(Refusal::DeltaTooShort);
     }
@@ -88,7 +88,7 @@ fn take_skip(shape: Shape, c: Cursor, rows: usize) -> Taken
 }
 
 // Reads the Same at the cursor: a count byte, then one item.
-fn take_same(d: &[u8], shape: Shape, c: Cursor) -> Taken
+fn take_same(shape: Shape, d: &[u8], c: Cursor) -> Taken
     requires { ⌜ Stands shape (now d) c 1 × (c .op < length (now d)) ⌝ }
     ensures { λ r. ⌜ OpRead shape (now (d .entry)) 1 (λ base x. opAs shape (now (d .entry)) base x same) c r ⌝ }
 {
@@ -97,20 +97,20 @@ fn take_same(d: &[u8], shape: Shape, c: Cursor) -> Taken
         return Taken::Refused(Refusal::DeltaTooShort);
     }
     let count = d[op + 1] as usize;
-    take_fill(d, shape, c, op + 2, count, shape.item, 0)
+    take_fill(shape, d, c, op + 2, count, shape.item, 0)
 }
 
 // Reads the Uniq of count rows at the cursor.
-fn take_uniq(d: &[u8], shape: Shape, c: Cursor, count: usize) -> Taken
+fn take_uniq(shape: Shape, d: &[u8], c: Cursor, count: usize) -> Taken
     requires { ⌜ Width (shape .item) × Stands shape (now d) c 1 × (c .op < length (now d)) × (count ≤ 127) ⌝ }
     ensures { λ r. ⌜ OpRead shape (now (d .entry)) 1 (λ base x. opAs shape (now (d .entry)) base x (uniq count)) c r ⌝ }
 {
     let item = shape.item;
-    take_fill(d, shape, c, c.op + 1, count, count * item, item)
+    take_fill(shape, d, c, c.op + 1, count, count * item, item)
 }
 
 // Reads the op at the cursor.
-fn take_op(d: &[u8], shape: Shape, c: Cursor) -> Taken
+fn take_op(shape: Shape, d: &[u8], c: Cursor) -> Taken
     requires { ⌜ Width (shape .item) × Stands shape (now d) c 1 ⌝ }
     ensures { λ r. ⌜ OpRead shape (now (d .entry)) 1 (readOp shape (now (d .entry))) c r ⌝ }
 {
@@ -120,30 +120,30 @@ fn take_op(d: &[u8], shape: Shape, c: Cursor) -> Taken
     }
     let b = d[op];
     match b {
-        0 => take_same(d, shape, c),
+        0 => take_same(shape, d, c),
         1..=127 => take_skip(shape, c, b as usize),
-        128..=255 => take_uniq(d, shape, c, b as usize - 128),
+        128..=255 => take_uniq(shape, d, c, b as usize - 128),
     }
 }
 
 // Takes count ops of the column that starts at base.
 fn take_ops(
     frame: &mut [u8],
-    d: &[u8],
     shape: Shape,
+    d: &[u8],
     base: usize,
     count: usize,
     c: Cursor,
     drawing: bool,
 ) -> Step
     requires { ⌜ Vertical shape × Column shape (length (now frame)) base × Stands shape (now d) c count ⌝ }
-    ensures { λ r. ⌜ Took shape (now (d .entry)) drawing (now (frame .entry)) (readOps shape (now (d .entry)) base count) c (now (frame .exit)) count r ⌝ }
+    ensures { λ r. ⌜ Took (now (frame .entry)) shape (now (d .entry)) (readOps shape (now (d .entry)) base count) c drawing (now (frame .exit)) count r ⌝ }
 {
     let mut at = c;
     let mut left = count;
     while 0 < left {
-        let op = take_op(d, shape, at);
-        let t = draw_taken(frame, d, shape, base, op, drawing);
+        let op = take_op(shape, d, at);
+        let t = draw_taken(frame, shape, d, base, op, drawing);
         match t {
             Step::Refused(why) => return Step::Refused(why),
             Step::Next(next) => at = next,
@@ -156,14 +156,14 @@ fn take_ops(
 // Takes the column that starts at base: an op count byte and that many ops.
 pub(crate) fn take_column(
     frame: &mut [u8],
-    d: &[u8],
     shape: Shape,
+    d: &[u8],
     base: usize,
     c: Cursor,
     drawing: bool,
 ) -> Step
     requires { ⌜ Vertical shape × Column shape (length (now frame)) base × Stands shape (now d) c 255 ⌝ }
-    ensures { λ r. ⌜ Took shape (now (d .entry)) drawing (now (frame .entry)) (readColumn shape (now (d .entry)) base) c (now (frame .exit)) 255 r ⌝ }
+    ensures { λ r. ⌜ Took (now (frame .entry)) shape (now (d .entry)) (readColumn shape (now (d .entry)) base) c drawing (now (frame .exit)) 255 r ⌝ }
 {
     let op = c.op;
     if d.len() <= op {
@@ -176,5 +176,5 @@ pub(crate) fn take_column(
         line: 0,
         ops: c.ops,
     };
-    take_ops(frame, d, shape, base, count, top, drawing)
+    take_ops(frame, shape, d, base, count, top, drawing)
 }

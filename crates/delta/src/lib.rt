@@ -4,7 +4,7 @@ ghost use Prim.Native.Nat.{_*_, _<_, _≤_};
 ghost use lib.ListN.{length, replicate};
 ghost use Rattle.delta.specs.Reading.{bytesInPlane, columnShape, wordShape, shapeOf};
 ghost use Rattle.delta.specs.Column.{readColumns};
-ghost use Rattle.delta.specs.Delta.{pointer, dataPointer, readPlane, readPicture, Applies, appliedOf};
+ghost use Rattle.delta.specs.Delta.{listPointer, dataPointer, readPlane, readPicture, Applies, appliedOf};
 ghost use Rattle.delta.specs.Walk.{pointerOf, Vertical, Columns, Planes, Stands, top, Took, Checked};
 
 mod column;
@@ -75,7 +75,7 @@ enum Pointer {
 
 // The shape of columns of items.
 fn column_shape(sizes: Sizes, item: usize, inline: bool) -> Shape
-    requires { ⌜ bytesInPlane sizes ≤ 131072 ⌝ }
+    requires { ⌜ bytesInPlane sizes ≤ 1024 * 128 ⌝ }
     ensures { λ r. ⌜ r ≡ columnShape sizes item inline ⌝ }
 {
     let row = sizes.row_bytes();
@@ -94,7 +94,7 @@ fn column_shape(sizes: Sizes, item: usize, inline: bool) -> Shape
 
 // The shape of lists of words.
 fn word_shape(sizes: Sizes, word: usize) -> Shape
-    requires { ⌜ (bytesInPlane sizes ≤ 131072) × (0 < word) ⌝ }
+    requires { ⌜ (bytesInPlane sizes ≤ 1024 * 128) × (0 < word) ⌝ }
     ensures { λ r. ⌜ r ≡ wordShape sizes word ⌝ }
 {
     let plane = sizes.height * sizes.row_bytes();
@@ -112,7 +112,7 @@ fn word_shape(sizes: Sizes, word: usize) -> Shape
 }
 
 fn shape_of(sizes: Sizes, items: Items) -> Shape
-    requires { ⌜ bytesInPlane sizes ≤ 131072 ⌝ }
+    requires { ⌜ bytesInPlane sizes ≤ 1024 * 128 ⌝ }
     ensures { λ r. ⌜ r ≡ shapeOf sizes items ⌝ }
 {
     match items {
@@ -127,15 +127,15 @@ fn shape_of(sizes: Sizes, items: Items) -> Shape
 // Takes count columns, the first of which starts at base.
 fn take_columns(
     frame: &mut [u8],
-    d: &[u8],
     shape: Shape,
+    d: &[u8],
     count: usize,
     base: usize,
     c: Cursor,
     drawing: bool,
 ) -> Step
     requires { ⌜ Vertical shape × (1 ≤ shape .height) × Columns shape (length (now frame)) base count × Stands shape (now d) c (255 * count) ⌝ }
-    ensures { λ r. ⌜ Took shape (now (d .entry)) drawing (now (frame .entry)) (readColumns shape (now (d .entry)) count base) c (now (frame .exit)) (255 * count) r
+    ensures { λ r. ⌜ Took (now (frame .entry)) shape (now (d .entry)) (readColumns shape (now (d .entry)) count base) c drawing (now (frame .exit)) (255 * count) r
         ⌝ }
 {
     let item = shape.item;
@@ -143,7 +143,7 @@ fn take_columns(
     let mut place = base;
     let mut left = count;
     while 0 < left {
-        let t = take_column(frame, d, shape, place, at, drawing);
+        let t = take_column(frame, shape, d, place, at, drawing);
         match t {
             Step::Refused(why) => return Step::Refused(why),
             Step::Next(next) => at = next,
@@ -154,10 +154,10 @@ fn take_columns(
     Step::Next(at)
 }
 
-// The place that pointer i leads to, behind so many bytes of pointers.
+// The place that pointer i leads to, after so many bytes of pointers.
 fn list_pointer(d: &[u8], pointers: usize, i: usize) -> Pointer
     requires { ⌜ i < 16 ⌝ }
-    ensures { λ r. ⌜ pointerOf r ≡ pointer (now (d .entry)) pointers i ⌝ }
+    ensures { λ r. ⌜ pointerOf r ≡ listPointer (now (d .entry)) pointers i ⌝ }
 {
     let at = number32(d, 4 * i);
     if at < pointers {
@@ -170,9 +170,9 @@ fn list_pointer(d: &[u8], pointers: usize, i: usize) -> Pointer
 }
 
 // The place where the items of a plane start.
-fn data_pointer(d: &[u8], shape: Shape, plane: usize) -> Pointer
+fn data_pointer(shape: Shape, d: &[u8], plane: usize) -> Pointer
     requires { ⌜ plane < 8 ⌝ }
-    ensures { λ r. ⌜ pointerOf r ≡ dataPointer (now (d .entry)) shape plane ⌝ }
+    ensures { λ r. ⌜ pointerOf r ≡ dataPointer shape (now (d .entry)) plane ⌝ }
 {
     if shape.inline {
         return Pointer::At(0);
@@ -183,14 +183,14 @@ fn data_pointer(d: &[u8], shape: Shape, plane: usize) -> Pointer
 // Takes a plane: its pointers, then its list of words or its columns.
 fn take_plane(
     frame: &mut [u8],
-    d: &[u8],
     shape: Shape,
+    d: &[u8],
     plane: usize,
     c: Cursor,
     drawing: bool,
 ) -> Step
-    requires { ⌜ Planes shape (length (now frame)) × (plane < shape .planes) × Stands shape (now d) c 32640 ⌝ }
-    ensures { λ r. ⌜ Took shape (now (d .entry)) drawing (now (frame .entry)) (readPlane shape (now (d .entry)) plane) c (now (frame .exit)) 32640 r ⌝ }
+    requires { ⌜ Planes shape (length (now frame)) × (plane < shape .planes) × Stands shape (now d) c (255 * 128) ⌝ }
+    ensures { λ r. ⌜ Took (now (frame .entry)) shape (now (d .entry)) (readPlane shape (now (d .entry)) plane) c drawing (now (frame .exit)) (255 * 128) r ⌝ }
 {
     if number32(d, 4 * plane) == 0 {
         return Step::Next(c);
@@ -199,7 +199,7 @@ fn take_plane(
     match list {
         Pointer::Bad => Step::Refused(Refusal::BadPointer),
         Pointer::At(op) => {
-            let items = data_pointer(d, shape, plane);
+            let items = data_pointer(shape, d, plane);
             match items {
                 Pointer::Bad => Step::Refused(Refusal::BadPointer),
                 Pointer::At(item) => {
@@ -211,9 +211,9 @@ fn take_plane(
                     };
                     let base = plane * shape.plane;
                     if shape.words {
-                        return take_words(frame, d, shape, base, top, drawing);
+                        return take_words(frame, shape, d, base, top, drawing);
                     }
-                    take_columns(frame, d, shape, shape.row / shape.item, base, top, drawing)
+                    take_columns(frame, shape, d, shape.row / shape.item, base, top, drawing)
                 }
             }
         }
@@ -221,9 +221,9 @@ fn take_plane(
 }
 
 // Takes the whole delta.
-fn take_delta(frame: &mut [u8], d: &[u8], shape: Shape, drawing: bool) -> Step
+fn take_delta(frame: &mut [u8], shape: Shape, d: &[u8], drawing: bool) -> Step
     requires { ⌜ Planes shape (length (now frame)) ⌝ }
-    ensures { λ r. ⌜ Took shape (now (d .entry)) drawing (now (frame .entry)) (readPicture shape (now (d .entry))) top (now (frame .exit)) 261120 r ⌝ }
+    ensures { λ r. ⌜ Took (now (frame .entry)) shape (now (d .entry)) (readPicture shape (now (d .entry))) top drawing (now (frame .exit)) (255 * 128 * 8) r ⌝ }
 {
     let mut at = Cursor {
         op: 0,
@@ -236,7 +236,7 @@ fn take_delta(frame: &mut [u8], d: &[u8], shape: Shape, drawing: bool) -> Step
     }
     let mut plane = 0;
     while plane < shape.planes {
-        let t = take_plane(frame, d, shape, plane, at, drawing);
+        let t = take_plane(frame, shape, d, plane, at, drawing);
         match t {
             Step::Refused(why) => return Step::Refused(why),
             Step::Next(next) => at = next,
@@ -248,7 +248,7 @@ fn take_delta(frame: &mut [u8], d: &[u8], shape: Shape, drawing: bool) -> Step
 
 // Checks the whole delta for a picture of so many bytes; nothing is drawn.
 fn check(work: &mut [u8], bytes: usize, dlta: &[u8], sizes: Sizes, items: Items) -> Step
-    ensures { λ r. ⌜ Checked sizes items (now (dlta .entry)) bytes (now (work .entry)) (now (work .exit)) r ⌝ }
+    ensures { λ r. ⌜ Checked (now (work .entry)) bytes (now (dlta .entry)) sizes items (now (work .exit)) r ⌝ }
 {
     let l = sizes.frame_length();
     match l {
@@ -263,21 +263,21 @@ fn check(work: &mut [u8], bytes: usize, dlta: &[u8], sizes: Sizes, items: Items)
             if !anhd::columns_ok(items, sizes.row_bytes()) {
                 return Step::Refused(Refusal::OddLongColumns);
             }
-            take_delta(work, dlta, shape_of(sizes, items), false)
+            take_delta(work, shape_of(sizes, items), dlta, false)
         }
     }
 }
 
 // Builds the frame that a delta makes of a picture, all or nothing.
 pub fn apply(work: &mut [u8], picture: &[u8], dlta: &[u8], sizes: Sizes, items: Items) -> Applied
-    ensures { λ r. ⌜ Applies sizes items (now (dlta .entry)) (now (picture .entry)) (now (work .entry)) (appliedOf r) (now (work .exit)) ⌝ }
+    ensures { λ r. ⌜ Applies (now (work .entry)) (now (picture .entry)) (now (dlta .entry)) sizes items (appliedOf r) (now (work .exit)) ⌝ }
 {
     let checked = check(work, picture.len(), dlta, sizes, items);
     match checked {
         Step::Refused(why) => Applied::Refused(why),
         Step::Next(end) => {
             copy_long(work, picture);
-            take_delta(work, dlta, shape_of(sizes, items), true);
+            take_delta(work, shape_of(sizes, items), dlta, true);
             Applied::Drawn { ops: end.ops }
         }
     }
@@ -285,14 +285,14 @@ pub fn apply(work: &mut [u8], picture: &[u8], dlta: &[u8], sizes: Sizes, items: 
 
 // Builds the frame that a delta makes of zeros, all or nothing.
 pub fn apply_first(work: &mut [u8], dlta: &[u8], sizes: Sizes, items: Items) -> Applied
-    ensures { λ r. ⌜ Applies sizes items (now (dlta .entry)) (replicate (length (now (work .entry))) 0) (now (work .entry)) (appliedOf r) (now (work .exit)) ⌝ }
+    ensures { λ r. ⌜ Applies (now (work .entry)) (replicate (length (now (work .entry))) 0) (now (dlta .entry)) sizes items (appliedOf r) (now (work .exit)) ⌝ }
 {
     let checked = check(work, work.len(), dlta, sizes, items);
     match checked {
         Step::Refused(why) => Applied::Refused(why),
         Step::Next(end) => {
             fill(work, 0);
-            take_delta(work, dlta, shape_of(sizes, items), true);
+            take_delta(work, shape_of(sizes, items), dlta, true);
             Applied::Drawn { ops: end.ops }
         }
     }

@@ -1,4 +1,4 @@
-// The rows of an op, columns' or words': drawn where that is asked for.
+// The rows of an op, columns' or words': drawn if drawing is set.
 ghost use mathlib.Core.Path.{_≡_};
 ghost use Prim.Native.Nat.{_+_, _≤_};
 ghost use lib.ListN.{length, take, drop};
@@ -36,7 +36,7 @@ fn put_item(frame: &mut [u8], at: usize, d: &[u8], from: usize, item: usize)
     put_pair(frame, at + 2, d, from + 2);
 }
 
-// Puts items, step bytes apart in the delta, into count rows from a place of the frame on, where that is asked for. Items that lie one after
+// Puts items, step bytes apart in the delta, into count rows from a place of the frame on, if drawing is set. Items that lie one after
 // the other in both are copied at once.
 fn draw_rows(
     frame: &mut [u8],
@@ -77,17 +77,17 @@ fn draw_rows(
     }
 }
 
-// Draws the rows of an op that was read, in the column that starts at base, where that is asked for.
+// Draws the rows of an op that was read, in the column that starts at base, if drawing is set.
 pub(crate) fn draw_taken(
     frame: &mut [u8],
-    d: &[u8],
     shape: Shape,
+    d: &[u8],
     base: usize,
     op: Taken,
     drawing: bool,
 ) -> Step
     requires { ⌜ Width (shape .item) × Column shape (length (now frame)) base × Lies shape (now d) op ⌝ }
-    ensures { λ r. ⌜ Drawn shape (now (d .entry)) drawing (now (frame .entry)) base op (now (frame .exit)) r ⌝ }
+    ensures { λ r. ⌜ Drawn (now (frame .entry)) shape (now (d .entry)) base op drawing (now (frame .exit)) r ⌝ }
 {
     match op {
         Taken::Refused(why) => Step::Refused(why),

@@ -1,4 +1,4 @@
-// The list of words of one plane, methods 2 and 3: read and, where that is asked for, drawn.
+// The list of words of one plane, methods 2 and 3: read and, if drawing is set, drawn.
 ghost use mathlib.Core.Bool.{true};
 ghost use mathlib.Core.Path.{_≡_};
 ghost use Prim.Native.Nat.{_+_, _<_, _≤_};
@@ -14,7 +14,7 @@ use buffer::number16;
 use refusal::Refusal;
 
 // Reads count words that stand at a place of the delta and go to the plane's word number line and to those after it.
-fn take_run(d: &[u8], shape: Shape, c: Cursor, line: usize, from: usize, count: usize) -> Taken
+fn take_run(shape: Shape, d: &[u8], c: Cursor, line: usize, from: usize, count: usize) -> Taken
     requires { ⌜ Width (shape .item) × (c .item ≤ length (now d)) × (line < shape .height) × (from ≤ length (now d)) × (count < 65536) ⌝ }
     ensures { λ r. ⌜ OpRead shape (now (d .entry)) 0 (λ base x. wordRun shape (now (d .entry)) base x line from count) c r ⌝ }
 {
@@ -55,7 +55,7 @@ fn move_of(offset: usize) -> usize
 }
 
 // Reads the op at the cursor, whose offset isn't −1: the move, the count of a run, and its words.
-fn take_op(d: &[u8], shape: Shape, c: Cursor, offset: usize) -> Taken
+fn take_op(shape: Shape, d: &[u8], c: Cursor, offset: usize) -> Taken
     requires { ⌜ Width (shape .item) × Stands shape (now d) c 0 × (c .op + 2 ≤ length (now d)) × (offset < 65535) ⌝ }
     ensures { λ r. ⌜ OpRead shape (now (d .entry)) 0 (λ base x. wordOp shape (now (d .entry)) base x offset) c r ⌝ }
 {
@@ -74,20 +74,20 @@ fn take_op(d: &[u8], shape: Shape, c: Cursor, offset: usize) -> Taken
         from = op + 4;
         count = number16(d, op + 2);
     }
-    take_run(d, shape, c, line, from, count)
+    take_run(shape, d, c, line, from, count)
 }
 
 // Takes the list of words of the plane that starts at base.
 pub(crate) fn take_words(
     frame: &mut [u8],
-    d: &[u8],
     shape: Shape,
+    d: &[u8],
     base: usize,
     c: Cursor,
     drawing: bool,
 ) -> Step
     requires { ⌜ Width (shape .item) × Column shape (length (now frame)) base × Stands shape (now d) c 0 × (c .op ≤ length (now d)) × (shape .words ≡ true) ⌝ }
-    ensures { λ r. ⌜ Took shape (now (d .entry)) drawing (now (frame .entry)) (readWords shape (now (d .entry)) base) c (now (frame .exit)) 0 r ⌝ }
+    ensures { λ r. ⌜ Took (now (frame .entry)) shape (now (d .entry)) (readWords shape (now (d .entry)) base) c drawing (now (frame .exit)) 0 r ⌝ }
 {
     let mut at = c;
     loop {
@@ -98,8 +98,8 @@ pub(crate) fn take_words(
         if offset == 65535 {
             return Step::Next(at);
         }
-        let op = take_op(d, shape, at, offset);
-        let t = draw_taken(frame, d, shape, base, op, drawing);
+        let op = take_op(shape, d, at, offset);
+        let t = draw_taken(frame, shape, d, base, op, drawing);
         match t {
             Step::Refused(why) => return Step::Refused(why),
             Step::Next(next) => at = next,

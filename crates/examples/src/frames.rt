@@ -11,7 +11,7 @@ use state::Sizes;
 
 // B and the contents of an ANHD: the method, the time, the interleave, and the bytes of an item, 16 more for a word.
 fn header(d: &[u8], first: bool) {
-    let h = anhd::read_header(first, byte(d, 0), part(d, 1, d.len()));
+    let h = anhd::frame_header(first, byte(d, 0), part(d, 1, d.len()));
     match h {
         Anhd::Header(header) => {
             let items = header.items;

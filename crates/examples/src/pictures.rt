@@ -28,7 +28,7 @@ pub(crate) fn length(d: &[u8]) {
 
 // The contents of a BMHD: width, height, planes, the length of a frame, and whether BODY is packed.
 pub(crate) fn bmhd(d: &[u8]) {
-    let h = bmhd::read_header(d);
+    let h = bmhd::bitmap_header(d);
     match h {
         Bmhd::Picture(header) => {
             let sizes = header.sizes;

@@ -15,7 +15,7 @@ use Rattle.laws.specs.Bytes.{be32}
 use Rattle.iff.specs.Ids.{FORM, ANIM, ILBM}
 use Rattle.iff.specs.Chunk.{Chunk, chunkAt, Within}
 use Rattle.iff.proofs.ChunkLaws.{chunk-within}
-use Rattle.form.specs.Form.{animEnd, passOn, frameStep, nextFrame, Closes, Follows}
+use Rattle.form.specs.Form.{animEnd, passOn, formStep, nextForm, Closes, Follows}
 
 pub anim-closes : (s : List ℕ) → Each (Closes s) (animEnd s)
 unfolding animEnd
@@ -39,8 +39,8 @@ module _ (s : List ℕ) (from : ℕ) where
       (λ _. comes-next on)
   pass-follows at l (fault n) h = comes-done no-value
 
-pub frame-follows : (s : List ℕ) (from : ℕ) → Each (All (Follows s from)) (nextFrame s from)
-unfolding nextFrame
-frame-follows s from =
-    iterate-holds (frameStep s) (λ at. length s - at) (fault 21) (λ at. from ≤ at) (Each (All (Follows s from))) no-value
+pub form-follows : (s : List ℕ) (from : ℕ) → Each (All (Follows s from)) (nextForm s from)
+unfolding nextForm
+form-follows s from =
+    iterate-holds (formStep s) (λ at. length s - at) (fault 21) (λ at. from ≤ at) (Each (All (Follows s from))) no-value
     (λ at l. pass-follows s from at l (chunkAt s at) (chunk-within s at)) from (le-refl from)

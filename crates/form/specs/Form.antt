@@ -27,17 +27,17 @@ animEnd s =
     ok (be32 s 4 + 8)
 
 -- a FORM ILBM: where its chunks start, after the type; their length; and the place after the FORM and its pad
-pub record Frame : Type 0 where
+pub record FormIlbm : Type 0 where
   pub start : ℕ
   pub size : ℕ
   pub next : ℕ
 
 -- the chunks of a FORM ILBM
-abbrev pub chunksOf : List ℕ → Frame → List ℕ
+abbrev pub chunksOf : List ℕ → FormIlbm → List ℕ
 chunksOf s f = take (f .size) (drop (f .start) s)
 
 -- a FORM is the next frame if it is an ILBM; one shorter than its type is 21
-abbrev pub formOn : List ℕ → Chunk → Step ℕ (Res (Option Frame))
+abbrev pub formOn : List ℕ → Chunk → Step ℕ (Res (Option FormIlbm))
 formOn s c =
     pick (leb 4 (c .size))
     (pick (eqb (be32 s (c .start)) ILBM)
@@ -46,24 +46,24 @@ formOn s c =
     (done (fault 21))
 
 -- one turn: past a chunk that is no frame, or to the answer
-abbrev pub passOn : List ℕ → Res (Option Chunk) → Step ℕ (Res (Option Frame))
+abbrev pub passOn : List ℕ → Res (Option Chunk) → Step ℕ (Res (Option FormIlbm))
 passOn s (ok (some c)) = pick (eqb (c .id) FORM) (formOn s c) (next (c .next))
 passOn s (ok none) = done (ok none)
 passOn s (fault n) = done (fault n)
 
-abbrev pub frameStep : List ℕ → ℕ → Step ℕ (Res (Option Frame))
-frameStep s at = passOn s (chunkAt s at)
+abbrev pub formStep : List ℕ → ℕ → Step ℕ (Res (Option FormIlbm))
+formStep s at = passOn s (chunkAt s at)
 
 -- the next frame from a place of FORM ANIM on, if there is one, or 21
-unfoldable pub nextFrame : List ℕ → ℕ → Res (Option Frame)
-nextFrame s from = iterate (frameStep s) (λ at. length s - at) (fault 21) from
+unfoldable pub nextForm : List ℕ → ℕ → Res (Option FormIlbm)
+nextForm s from = iterate (formStep s) (λ at. length s - at) (fault 21) from
 
 -- what the answers say in the paper's terms
 abbrev pub outerOf : Outer → Res ℕ
 outerOf (Ends at) = ok at
 outerOf (Refused why) = fault (numberOf why)
 
-abbrev pub formOf : Form → Res (Option Frame)
+abbrev pub formOf : Form → Res (Option FormIlbm)
 formOf (Ilbm start len nx) = ok (some (record { start = start; size = len; next = nx }))
 formOf End = ok none
 formOf (FormRefused why) = fault (numberOf why)
@@ -74,7 +74,7 @@ pub record Closes (s : List ℕ) (end : ℕ) : Type 0 where
   pub most : end ≤ length s
 
 -- a frame from a place on lies within the parent, and the next place is past it
-pub record Follows (s : List ℕ) (from : ℕ) (f : Frame) : Type 0 where
+pub record Follows (s : List ℕ) (from : ℕ) (f : FormIlbm) : Type 0 where
   pub starts : from + 12 ≤ f .start
   pub holds : f .start + f .size ≤ f .next
   pub rises : from < f .next

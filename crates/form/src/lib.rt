@@ -1,6 +1,6 @@
 // FORM ANIM: where it ends, and the frames in it.
 ghost use mathlib.Core.Path.{_≡_};
-ghost use Rattle.form.specs.Form.{animEnd, outerOf, nextFrame, formOf};
+ghost use Rattle.form.specs.Form.{animEnd, outerOf, nextForm, formOf};
 use buffer::number32;
 use iff::Standing;
 use iff::chunk_at;
@@ -52,7 +52,7 @@ pub fn anim_end(file: &[u8]) -> Outer
 
 // The next FORM ILBM from a place on; other chunks are passed over.
 pub fn next_form(s: &[u8], from: usize) -> Form
-    ensures { λ r. ⌜ formOf r ≡ nextFrame (now (s .entry)) from ⌝ }
+    ensures { λ r. ⌜ formOf r ≡ nextForm (now (s .entry)) from ⌝ }
 {
     let mut at = from;
     loop {

@@ -13,51 +13,51 @@ use Rattle.laws.proofs.StoreLaws.{part-of-part}
 use Rattle.iff.specs.Ids.{ANHD, DLTA}
 use Rattle.iff.specs.Chunk.{Part, find, bytesOf, Lies}
 use Rattle.iff.proofs.ChunkLaws.{find-lies, found}
-use Rattle.form.specs.Form.{Frame as Form, chunksOf, nextFrame, Follows}
-use Rattle.form.proofs.FormLaws.{frame-follows}
+use Rattle.form.specs.Form.{FormIlbm, chunksOf, nextForm, Follows}
+use Rattle.form.proofs.FormLaws.{form-follows}
 use Rattle.anhd.specs.Anhd.{columnsOk, frameHeader}
 use Rattle.anhd.proofs.AnhdLaws.{header-read}
 use Rattle.anhd.specs.declared.FrameHeader.{FrameHeader}
 use Rattle.frame.specs.Frame.{Frame, frameIn, frameOr, frameAt, frameWith, Rises}
 
-in-rises : (s : List ℕ) (B at : ℕ) (x : Form) → Follows s at x → Each (Rises s at) (frameIn s B x)
+in-rises : (s : List ℕ) (B at : ℕ) (x : FormIlbm) → Follows s at x → Each (Rises s at) (frameIn s B x)
 unfolding frameIn
 in-rises s B at x k =
-    each-any (find ANHD (chunksOf s x) >>= orRefuse 31) λ h. each-bind (found 31 DLTA (chunksOf s x)) λ d e.
+    each-any (find (chunksOf s x) ANHD >>= orRefuse 31) λ h. each-bind (found 31 DLTA (chunksOf s x)) λ d e.
     each-any (frameHeader false B (bytesOf (chunksOf s x) h)) λ y.
     each (record { rises = k .rises; ends = k .ends; holds = omega (arith, each-some e (find-lies DLTA (chunksOf s x)), k .holds, k .ends, length-take (x .size) (drop (x .start) s)) })
 
-or-rises : (s : List ℕ) (B at : ℕ) (o : Option Form) → All (Follows s at) o → Each (All (Rises s at)) (frameOr s B o)
+or-rises : (s : List ℕ) (B at : ℕ) (o : Option FormIlbm) → All (Follows s at) o → Each (All (Rises s at)) (frameOr s B o)
 or-rises s B at none h = each all-none
 or-rises s B at (some x) h = each-bind (in-rises s B at x (all-value h)) λ f k. each (all-some k)
 
-pub frame-rises : (s : List ℕ) (B at : ℕ) (x : Frame) → frameAt s B at ≡ ok (some x) → Rises s at x
+pub frame-rises : (s : List ℕ) (B at : ℕ) (x : Frame) → frameAt s at B ≡ ok (some x) → Rises s at x
 unfolding frameAt
-frame-rises s B at x e = each-some e (each-bind (frame-follows s at) λ o h. or-rises s B at o h)
+frame-rises s B at x e = each-some e (each-bind (form-follows s at) λ o h. or-rises s B at o h)
 
 -- a frame has whole columns
-or-columns : (s : List ℕ) (B : ℕ) (o : Option Form) → Each (All (λ (x : Frame). columnsOk (x .header .items) B ≡ true)) (frameOr s B o)
+or-columns : (s : List ℕ) (B : ℕ) (o : Option FormIlbm) → Each (All (λ (x : Frame). columnsOk (x .header .items) B ≡ true)) (frameOr s B o)
 unfolding frameIn
 or-columns s B none = each all-none
 or-columns s B (some x) =
     each-bind
-    (each-any (find ANHD (chunksOf s x) >>= orRefuse 31) λ h. each-any (find DLTA (chunksOf s x) >>= orRefuse 31) λ d.
+    (each-any (find (chunksOf s x) ANHD >>= orRefuse 31) λ h. each-any (find (chunksOf s x) DLTA >>= orRefuse 31) λ d.
     each-bind (header-read false B (bytesOf (chunksOf s x) h)) λ y e. each (e .columns))
     λ f e. each (all-some e)
 
-pub frame-columns : (s : List ℕ) (B at : ℕ) (x : Frame) → frameAt s B at ≡ ok (some x) → columnsOk (x .header .items) B ≡ true
+pub frame-columns : (s : List ℕ) (B at : ℕ) (x : Frame) → frameAt s at B ≡ ok (some x) → columnsOk (x .header .items) B ≡ true
 unfolding frameAt
-frame-columns s B at x e = each-some e (each-any (nextFrame s at) λ o. or-columns s B o)
+frame-columns s B at x e = each-some e (each-any (nextForm s at) λ o. or-columns s B o)
 
 -- the contents of a chunk of a FORM are a part of FORM ANIM
-part-in : (s : List ℕ) (x : Form) (d : Part) → Lies (chunksOf s x) d → take (d .size) (drop (x .start + d .start) s) ≡ bytesOf (chunksOf s x) d
+part-in : (s : List ℕ) (x : FormIlbm) (d : Part) → Lies (chunksOf s x) d → take (d .size) (drop (x .start + d .start) s) ≡ bytesOf (chunksOf s x) d
 part-in s x d l =
     rw (← drop-drop (d .start) (x .start) s)
     (sym (part-of-part (d .start) (d .size) (x .size) (drop (x .start) s) (omega (arith, l .ends, length-take (x .size) (drop (x .start) s)))))
 
 -- the frame whose ANHD and DLTA were found
-pub in-with : (s : List ℕ) (B : ℕ) (x : Form) {h d : Part} {q : Res (Option Frame)} → find ANHD (chunksOf s x) ≡ ok (some h) → find DLTA (chunksOf s x) ≡ ok (some d)
-    → q ≡ frameWith s B (bytesOf (chunksOf s x) h) (x .next) (x .start + d .start) (d .size) → q ≡ frameOr s B (some x)
+pub in-with : (s : List ℕ) (B : ℕ) (x : FormIlbm) {h d : Part} {q : Res (Option Frame)} → find (chunksOf s x) ANHD ≡ ok (some h) → find (chunksOf s x) DLTA ≡ ok (some d)
+    → q ≡ frameWith s (bytesOf (chunksOf s x) h) B (x .next) (x .start + d .start) (d .size) → q ≡ frameOr s B (some x)
 unfolding frameIn
 in-with s B x {h} {d} e f k = k ∙ rw (e, f) (rw (part-in s x d (each-some f (find-lies DLTA (chunksOf s x)))) (go (frameHeader false B (bytesOf (chunksOf s x) h))))
   where

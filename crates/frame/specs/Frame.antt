@@ -9,7 +9,7 @@ use Rattle.laws.specs.Result.{Res, Res.ok, Res.fault, _>>=_, orRefuse}
 use Rattle.refusal.specs.Number.{numberOf}
 use Rattle.iff.specs.Ids.{ANHD, DLTA}
 use Rattle.iff.specs.Chunk.{find, bytesOf}
-use Rattle.form.specs.Form.{Frame as Form, chunksOf, nextFrame}
+use Rattle.form.specs.Form.{FormIlbm, chunksOf, nextForm}
 use Rattle.anhd.specs.Anhd.{frameHeader}
 use Rattle.anhd.specs.declared.FrameHeader.{FrameHeader}
 use Rattle.frame.specs.declared.Next.{Next}
@@ -24,20 +24,20 @@ pub record Frame : Type 0 where
   pub dlta : List ℕ
 
 -- the frame in a FORM ILBM, for rows of B bytes
-unfoldable pub frameIn : List ℕ → ℕ → Form → Res Frame
+unfoldable pub frameIn : List ℕ → ℕ → FormIlbm → Res Frame
 frameIn s B x =
-    find ANHD (chunksOf s x) >>= orRefuse 31 >>= λ h.
-    find DLTA (chunksOf s x) >>= orRefuse 31 >>= λ d.
+    find (chunksOf s x) ANHD >>= orRefuse 31 >>= λ h.
+    find (chunksOf s x) DLTA >>= orRefuse 31 >>= λ d.
     frameHeader false B (bytesOf (chunksOf s x) h) >>= λ y.
     ok (record { start = x .start + d .start; size = d .size; next = x .next; header = y; dlta = bytesOf (chunksOf s x) d })
 
-abbrev pub frameOr : List ℕ → ℕ → Option Form → Res (Option Frame)
+abbrev pub frameOr : List ℕ → ℕ → Option FormIlbm → Res (Option Frame)
 frameOr s B none = ok none
 frameOr s B (some x) = frameIn s B x >>= λ f. ok (some f)
 
 -- the next frame from a place of FORM ANIM on, if there is one
 unfoldable pub frameAt : List ℕ → ℕ → ℕ → Res (Option Frame)
-frameAt s B at = nextFrame s at >>= frameOr s B
+frameAt s at B = nextForm s at >>= frameOr s B
 
 -- what an answer says in the paper's terms: the DLTA's contents are a part of FORM ANIM
 abbrev pub nextOf : List ℕ → Next → Res (Option Frame)
@@ -46,8 +46,8 @@ nextOf s End = ok none
 nextOf s (Refused why) = fault (numberOf why)
 
 -- the frame with this ANHD, where the contents of its DLTA are n bytes of FORM ANIM from a on
-abbrev pub frameWith : List ℕ → ℕ → List ℕ → ℕ → ℕ → ℕ → Res (Option Frame)
-frameWith s B anhd nx a n = frameHeader false B anhd >>= λ y. ok (some (record { start = a; size = n; next = nx; header = y; dlta = take n (drop a s) }))
+abbrev pub frameWith : List ℕ → List ℕ → ℕ → ℕ → ℕ → ℕ → Res (Option Frame)
+frameWith s anhd B nx a n = frameHeader false B anhd >>= λ y. ok (some (record { start = a; size = n; next = nx; header = y; dlta = take n (drop a s) }))
 
 -- a frame that follows a place
 pub record Rises (s : List ℕ) (at : ℕ) (x : Frame) : Type 0 where

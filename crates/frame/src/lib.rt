@@ -27,9 +27,9 @@ pub enum Next {
 
 // The frame with this ANHD, where the contents of its DLTA are len bytes from start on.
 fn frame_with(anhd: &[u8], row: usize, next: usize, start: usize, len: usize) -> Next
-    ensures { λ r. ⌜ ((s : List ℕ) → nextOf s r ≡ frameWith s row (now (anhd .entry)) next start len) ⌝ }
+    ensures { λ r. ⌜ ((s : List ℕ) → nextOf s r ≡ frameWith s (now (anhd .entry)) row next start len) ⌝ }
 {
-    let h = anhd::read_header(false, row, anhd);
+    let h = anhd::frame_header(false, row, anhd);
     match h {
         Anhd::Refused(why) => Next::Refused(why),
         Anhd::Header(header) => Next::Later {
@@ -70,7 +70,7 @@ fn frame_in(anim: &[u8], start: usize, len: usize, next: usize, row: usize) -> N
 
 // The next frame from a place of FORM ANIM on, for a picture with row bytes per row.
 pub fn frame_at(anim: &[u8], at: usize, row: usize) -> Next
-    ensures { λ r. ⌜ nextOf (now (anim .entry)) r ≡ frameAt (now (anim .entry)) row at ⌝ }
+    ensures { λ r. ⌜ nextOf (now (anim .entry)) r ≡ frameAt (now (anim .entry)) at row ⌝ }
 {
     let f = form::next_form(anim, at);
     match f {

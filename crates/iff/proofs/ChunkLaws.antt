@@ -52,18 +52,18 @@ chunks-before s =
     iterate-holds (walkStep s) (λ w. length s - w .at) (fault 21) (λ (w : Walk). Before s (w .at) (w .passed)) (Each (Before s (length s))) no-value
     (λ w b. walk-before s w b (chunkAt s (w .at)) (chunk-within s (w .at))) (record { at = 0; passed = [] }) (record { inside = omega arith; lie = every-none; room = omega arith })
 
-first-lies : (id : ℕ) {s : List ℕ} {cs : List Chunk} → Every (λ (c : Chunk). Lies s (partOf c)) cs → All (Lies s) (first id cs)
+first-lies : (id : ℕ) {s : List ℕ} {cs : List Chunk} → Every (λ (c : Chunk). Lies s (partOf c)) cs → All (Lies s) (first cs id)
 first-lies id every-none = all-none
 first-lies id {s} (every-cons {x = c} p ps) = pick-both (All (Lies s)) (eqb (c .id) id) (all-some p) (first-lies id ps)
 
-pub find-lies : (id : ℕ) (s : List ℕ) → Each (All (Lies s)) (find id s)
+pub find-lies : (id : ℕ) (s : List ℕ) → Each (All (Lies s)) (find s id)
 unfolding find
 find-lies id s = each-bind (chunks-before s) λ cs b. each (first-lies id (b .lie))
 
-pub found : (n id : ℕ) (s : List ℕ) → Each (λ (p : Part). find id s ≡ ok (some p)) (find id s >>= orRefuse n)
-found n id s = each-bind (each-self (find id s)) go
+pub found : (n id : ℕ) (s : List ℕ) → Each (λ (p : Part). find s id ≡ ok (some p)) (find s id >>= orRefuse n)
+found n id s = each-bind (each-self (find s id)) go
   where
-    go : (o : Option Part) → find id s ≡ ok o → Each (λ (p : Part). find id s ≡ ok (some p)) (orRefuse n o)
+    go : (o : Option Part) → find s id ≡ ok o → Each (λ (p : Part). find s id ≡ ok (some p)) (orRefuse n o)
     go (some p) e = each e
     go none e = no-value
 
@@ -72,24 +72,24 @@ abbrev bytes : Option Part → ℕ
 bytes (some p) = p .size + 8
 bytes none = 0
 
-one-fits : (id : ℕ) (cs : List Chunk) → bytes (first id cs) ≤ taken cs
+one-fits : (id : ℕ) (cs : List Chunk) → bytes (first cs id) ≤ taken cs
 one-fits id [] = omega arith
 one-fits id (c ∷ cs) = pick-both (λ o. bytes o ≤ c .size + 8 + taken cs) (eqb (c .id) id) (omega arith) (omega (arith, one-fits id cs))
 
 module _ (x y : ℕ) (differ : x ≡ y → ⊥) where
-  both-fit : (cs : List Chunk) → bytes (first x cs) + bytes (first y cs) ≤ taken cs
+  both-fit : (cs : List Chunk) → bytes (first cs x) + bytes (first cs y) ≤ taken cs
   both-fit [] = omega arith
   both-fit (c ∷ cs) = go (eqb (c .id) x) refl (eqb (c .id) y) refl (both-fit cs)
     where
-      go : (t : Bool) → eqb (c .id) x ≡ t → (u : Bool) → eqb (c .id) y ≡ u → bytes (first x cs) + bytes (first y cs) ≤ taken cs
-          → bytes (pick t (some (partOf c)) (first x cs)) + bytes (pick u (some (partOf c)) (first y cs)) ≤ c .size + 8 + taken cs
+      go : (t : Bool) → eqb (c .id) x ≡ t → (u : Bool) → eqb (c .id) y ≡ u → bytes (first cs x) + bytes (first cs y) ≤ taken cs
+          → bytes (pick t (some (partOf c)) (first cs x)) + bytes (pick u (some (partOf c)) (first cs y)) ≤ c .size + 8 + taken cs
       go true p true q h = absurd (differ (sym (eqb-true (c .id) x p) ∙ eqb-true (c .id) y q))
       go true p false q h = omega (arith, one-fits y cs)
       go false p true q h = omega (arith, one-fits x cs)
       go false p false q h = omega arith
 
   -- so two chunks that a parent has leave room for their headers
-  pub parts-room : (s : List ℕ) (p q : Part) → find x s ≡ ok (some p) → find y s ≡ ok (some q) → p .size + 8 + (q .size + 8) ≤ length s
+  pub parts-room : (s : List ℕ) (p q : Part) → find s x ≡ ok (some p) → find s y ≡ ok (some q) → p .size + 8 + (q .size + 8) ≤ length s
   unfolding find
   parts-room s p q e f =
       let k = made-of (chunks s) e in
@@ -97,7 +97,7 @@ module _ (x y : ℕ) (differ : x ≡ y → ⊥) where
       omega (arith, each-is (k .1) (chunks-before s) .room, rw (k .2, g) at (both-fit (k .0)))
 
 -- the first chunk of an id in a list with one chunk more
-first-more : (id : ℕ) (cs : List Chunk) (c : Chunk) → ok (first id (cs ++ (c ∷ []))) ≡ pick (eqb (c .id) id) (orPart (ok (first id cs)) (partOf c)) (ok (first id cs))
+first-more : (id : ℕ) (cs : List Chunk) (c : Chunk) → ok (first (cs ++ (c ∷ [])) id) ≡ pick (eqb (c .id) id) (orPart (ok (first cs id)) (partOf c)) (ok (first cs id))
 first-more id [] c = go (eqb (c .id) id)
   where
     go : (t : Bool) → ok (pick t (some (partOf c)) none) ≡ pick t (ok (some (partOf c))) (ok none)
@@ -105,8 +105,8 @@ first-more id [] c = go (eqb (c .id) id)
     go false = refl
 first-more id (d ∷ cs) c = go (eqb (d .id) id) (eqb (c .id) id) (first-more id cs c)
   where
-    go : (u t : Bool) → ok (first id (cs ++ (c ∷ []))) ≡ pick t (orPart (ok (first id cs)) (partOf c)) (ok (first id cs))
-        → ok (pick u (some (partOf d)) (first id (cs ++ (c ∷ [])))) ≡ pick t (orPart (ok (pick u (some (partOf d)) (first id cs))) (partOf c)) (ok (pick u (some (partOf d)) (first id cs)))
+    go : (u t : Bool) → ok (first (cs ++ (c ∷ [])) id) ≡ pick t (orPart (ok (first cs id)) (partOf c)) (ok (first cs id))
+        → ok (pick u (some (partOf d)) (first (cs ++ (c ∷ [])) id)) ≡ pick t (orPart (ok (pick u (some (partOf d)) (first cs id))) (partOf c)) (ok (pick u (some (partOf d)) (first cs id)))
     go true true h = refl
     go true false h = refl
     go false t h = h
@@ -115,8 +115,8 @@ first-more id (d ∷ cs) c = go (eqb (d .id) id) (eqb (c .id) id) (first-more id
 pub record Searches (s : List ℕ) (x y at : ℕ) (p q : Res (Option Part)) : Type 0 where
   pub before : List Chunk
   pub going : Going (walkStep s) (λ w. length s - w .at) (fault 21) (chunks s) (record { at = at; passed = before })
-  pub one : p ≡ ok (first x before)
-  pub other : q ≡ ok (first y before)
+  pub one : p ≡ ok (first before x)
+  pub other : q ≡ ok (first before y)
 
 pub search-starts : (s : List ℕ) (x y : ℕ) → Searches s x y 0 (ok none) (ok none)
 unfolding chunks
@@ -134,10 +134,10 @@ module _ {s : List ℕ} {x y at : ℕ} {p q : Res (Option Part)} (h : Searches s
         other = rw (h .other) (sym (first-more y (h .before) c));
       }
 
-  pub search-ends : chunkAt s at ≡ ok none → (p ≡ find x s) × (q ≡ find y s)
+  pub search-ends : chunkAt s at ≡ ok none → (p ≡ find s x) × (q ≡ find s y)
   unfolding find
   search-ends e = let d : ok (h .before) ≡ chunks s = stops (h .going) (ap (walkOn _) e) in (rw (← d) (h .one), rw (← d) (h .other))
 
-  pub search-breaks : {n : ℕ} → chunkAt s at ≡ fault n → (fault n ≡ find x s) × (fault n ≡ find y s)
+  pub search-breaks : {n : ℕ} → chunkAt s at ≡ fault n → (fault n ≡ find s x) × (fault n ≡ find s y)
   unfolding find
   search-breaks {n} e = let d : fault n ≡ chunks s = stops (h .going) (ap (walkOn _) e) in (rw (← d) refl, rw (← d) refl)

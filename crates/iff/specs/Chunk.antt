@@ -61,21 +61,21 @@ abbrev pub partOf : Chunk → Part
 partOf c = record { start = c .start; size = c .size }
 
 -- the first chunk of an id, if there is one
-abbrev pub first : ℕ → List Chunk → Option Part
-first id [] = none
-first id (c ∷ cs) = pick (eqb (c .id) id) (some (partOf c)) (first id cs)
+abbrev pub first : List Chunk → ℕ → Option Part
+first [] id = none
+first (c ∷ cs) id = pick (eqb (c .id) id) (some (partOf c)) (first cs id)
 
 -- the same in a parent
-unfoldable pub find : ℕ → List ℕ → Res (Option Part)
-find id s = chunks s >>= λ cs. ok (first id cs)
+unfoldable pub find : List ℕ → ℕ → Res (Option Part)
+find s id = chunks s >>= λ cs. ok (first cs id)
 
 -- whether a parent has a chunk of an id
 abbrev pub isThere : Option Part → Bool
 isThere (some p) = true
 isThere none = false
 
-abbrev pub has : ℕ → List ℕ → Res Bool
-has id s = find id s >>= λ o. ok (isThere o)
+abbrev pub has : List ℕ → ℕ → Res Bool
+has s id = find s id >>= λ o. ok (isThere o)
 
 -- the bytes of a part
 abbrev pub bytesOf : List ℕ → Part → List ℕ
@@ -87,8 +87,8 @@ foundIn s (ok (some p)) = bytesOf s p
 foundIn s (ok none) = []
 foundIn s (fault n) = []
 
-unfoldable pub contents : ℕ → List ℕ → List ℕ
-contents id s = foundIn s (find id s)
+unfoldable pub contents : List ℕ → ℕ → List ℕ
+contents s id = foundIn s (find s id)
 
 -- what the answers say in the paper's terms
 abbrev pub standingOf : Standing → Res (Option Chunk)

@@ -74,7 +74,7 @@ fn or_part(found: Found, wanted: usize, id: usize, start: usize, len: usize) -> 
 
 // The first chunks of two ids, in one walk. The parent is walked to its end, so that a chunk that passes it is found too.
 pub fn find_pair(s: &[u8], first: usize, second: usize) -> Pair
-    ensures { λ r. ⌜ (foundOf (r .first) ≡ find first (now (s .entry))) × (foundOf (r .second) ≡ find second (now (s .entry))) ⌝ }
+    ensures { λ r. ⌜ (foundOf (r .first) ≡ find (now (s .entry)) first) × (foundOf (r .second) ≡ find (now (s .entry)) second) ⌝ }
 {
     let mut at = 0;
     let mut p = Found::Missing;
@@ -110,7 +110,7 @@ pub fn find_pair(s: &[u8], first: usize, second: usize) -> Pair
 
 // The first chunk of an id.
 pub fn find(s: &[u8], wanted: usize) -> Found
-    ensures { λ r. ⌜ foundOf r ≡ find wanted (now (s .entry)) ⌝ }
+    ensures { λ r. ⌜ foundOf r ≡ find (now (s .entry)) wanted ⌝ }
 {
     let p = find_pair(s, wanted, wanted);
     p.first
@@ -118,7 +118,7 @@ pub fn find(s: &[u8], wanted: usize) -> Found
 
 // The contents of the first chunk of an id, as a part of the parent; an empty part where there is none.
 pub fn contents(s: &[u8], wanted: usize) -> &[u8]
-    ensures { λ r. ⌜ now r ≡ contents wanted (now (s .entry)) ⌝ }
+    ensures { λ r. ⌜ now r ≡ contents (now (s .entry)) wanted ⌝ }
 {
     let f = find(s, wanted);
     match f {

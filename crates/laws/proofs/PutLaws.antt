@@ -23,7 +23,7 @@ put-then {out} {at} {xs} {ys} v w =
     put-is (omega (arith, v .place, w .place, length-append xs ys)) (w .left ∙ rw (v .left, v .place) (sets-append out at xs ys))
 
 -- bytes copied into the part of a buffer that was lent for them
-pub put-copy : (out : List ℕ) (at end : ℕ) (bytes y : List ℕ) → end ≡ at + length bytes → end ≤ length out → y ≡ over bytes (take (end - at) (drop at out))
+pub put-copy : (out : List ℕ) (at end : ℕ) (bytes y : List ℕ) → end ≡ at + length bytes → end ≤ length out → y ≡ over (take (end - at) (drop at out)) bytes
     → Put out at bytes (take at out ++ (y ++ drop (end - at) (drop at out))) end
 put-copy out at end bytes y e h f =
     let l : length (take (end - at) (drop at out)) ≡ end - at = length-part out at (end - at) (omega arith) in

@@ -19,7 +19,7 @@ use Rattle.laws.proofs.ResultLaws.{pick-both}
 pub length-part : (s : List ℕ) (from count : ℕ) → from + count ≤ length s → length (take count (drop from s)) ≡ count
 length-part s from count h = length-take-le count (drop from s) (simp length-drop (omega arith))
 
-pub copied-none : {s d : List ℕ} → Copied s d 0 d
+pub copied-none : {s d : List ℕ} → Copied d s 0 d
 copied-none = record { is = refl }
 
 copy-suc : (n : ℕ) (s d : List ℕ) → n < length s → n < length d → set (take n s ++ drop n d) n (getD s n 0) ≡ take (suc n) s ++ drop (suc n) d
@@ -28,13 +28,13 @@ copy-suc n (x ∷ s) [] h k = absurd (not-suc-le-zero k)
 copy-suc zero (x ∷ s) (y ∷ d) h k = refl
 copy-suc (suc n) (x ∷ s) (y ∷ d) h k = ap (λ (t : List ℕ). x ∷ t) (copy-suc n s d (le-of-suc-le-suc h) (le-of-suc-le-suc k))
 
-pub copied-more : {s d x : List ℕ} {n : ℕ} → Copied s d n x → n < length s → n < length d → Copied s d (n + 1) (set x n (getD s n 0))
+pub copied-more : {s d x : List ℕ} {n : ℕ} → Copied d s n x → n < length s → n < length d → Copied d s (n + 1) (set x n (getD s n 0))
 copied-more {s} {d} {x} {n} w h k = record { is = rw (add-one, w .is) (copy-suc n s d h k) }
 
-pub copied-to : {s d x : List ℕ} {m n : ℕ} → Copied s d m x → m ≡ n → Copied s d n x
+pub copied-to : {s d x : List ℕ} {m n : ℕ} → Copied d s m x → m ≡ n → Copied d s n x
 copied-to w e = rw e at w
 
-pub copied-all : {s d x : List ℕ} {n : ℕ} → Copied s d n x → n ≡ min (length d) (length s) → x ≡ over s d
+pub copied-all : {s d x : List ℕ} {n : ℕ} → Copied d s n x → n ≡ min (length d) (length s) → x ≡ over d s
 unfolding over
 copied-all {s} {d} {x} {n} w e = w .is ∙ go (decLe (length d) (length s))
   where
@@ -43,7 +43,7 @@ copied-all {s} {d} {x} {n} w e = w .is ∙ go (decLe (length d) (length s))
     go (no h) = let k : n ≡ length s = omega arith in simp (k, take-all (length s) s (omega arith), take-all (length d) s (omega arith))
 
 -- the bytes that a copy has passed are those of s
-pub copied-front : {s d x : List ℕ} {n : ℕ} → Copied s d n x → n ≤ length s → (m : ℕ) → m ≤ n → take m x ≡ take m s
+pub copied-front : {s d x : List ℕ} {n : ℕ} → Copied d s n x → n ≤ length s → (m : ℕ) → m ≤ n → take m x ≡ take m s
 copied-front {s} {d} {x} {n} w h m k =
     rw (w .is) (take-append-le m (take n s) (drop n d) (simp (length-take-le n s h) k) ∙ take-take m n s k)
 
@@ -54,7 +54,7 @@ past-front m n p x l h =
     rw i at (sym (drop-drop (n - m) m (p ++ drop m x)) ∙ ap (drop (n - m)) (drop-at p (drop m x) m l) ∙ drop-drop (n - m) m x)
 
 -- a copy that goes on from another
-pub copied-then : {s d x y : List ℕ} {m n : ℕ} → Copied s d m x → m ≤ length s → m ≤ n → Copied s x n y → Copied s d n y
+pub copied-then : {s d x y : List ℕ} {m n : ℕ} → Copied d s m x → m ≤ length s → m ≤ n → Copied x s n y → Copied d s n y
 copied-then {s} {d} {x} {y} {m} {n} w h k v =
     record { is = v .is ∙ ap (λ (t : List ℕ). take n s ++ t) (rw (w .is) (past-front m n (take m s) d (length-take-le m s h) k)) }
 
@@ -76,13 +76,13 @@ going-block {s} {d} {x} {n} {j} w k h a b =
     let m : length (take (j + k) s) ≡ j + k = length-take-le (j + k) s (omega arith) in
     record { front = rw e (take-at (take (j + k) s) (drop (j + k) x) (j + k) m); rest = rw e (past-front (j + k) n (take (j + k) s) x m h ∙ w .rest); long = length-sets x j (take k (drop j s)) ∙ c }
 
-pub going-done : {s d x : List ℕ} {n : ℕ} → Going s d n n x → Copied s d n x
+pub going-done : {s d x : List ℕ} {n : ℕ} → Going s d n n x → Copied d s n x
 going-done {s} {d} {x} {n} w = record { is = sym (take-append-drop n x) ∙ rw (w .front, w .rest) refl }
 
 -- the last 32 of n bytes, eight at a time
 pub copied-last : {s d x y z v : List ℕ} {n : ℕ} → 32 ≤ n → n ≤ length s → n ≤ length d → take (n - 32) d ≡ take (n - 32) s
     → x ≡ sets d (n - 32) (take 8 (drop (n - 32) s)) → y ≡ sets x (n - 24) (take 8 (drop (n - 24) s)) → z ≡ sets y (n - 16) (take 8 (drop (n - 16) s)) → v ≡ sets z (n - 8) (take 8 (drop (n - 8) s))
-    → Copied s d n v
+    → Copied d s n v
 copied-last {s} {d} {x} {y} {z} {v} {n} h k l e ex ey ez ev = going-done (step (n - 8) n (omega arith, omega arith) ev (step (n - 16) (n - 8) (omega arith, omega arith) ez (step (n - 24) (n - 16) (omega arith, omega arith) ey (step (n - 32) (n - 24) (omega arith, omega arith) ex (going-from e)))))
   where
     step : (i j : ℕ) → (i + 8 ≡ j) × (j ≤ n) → {f g : List ℕ} → g ≡ sets f i (take 8 (drop i s)) → Going s d n i f → Going s d n j g
@@ -115,7 +115,7 @@ stored-eight s d at h =
     rw (add-one at, e2, e3, e4, e5, e6, e7, drop-cons s at 0 (omega arith), drop-cons s (suc at) 0 (omega arith), drop-cons s (suc (suc at)) 0 (omega arith), drop-cons s (suc (suc (suc at))) 0 (omega arith), drop-cons s (suc (suc (suc (suc at)))) 0 (omega arith), drop-cons s (suc (suc (suc (suc (suc at))))) 0 (omega arith), drop-cons s (suc (suc (suc (suc (suc (suc at)))))) 0 (omega arith), drop-cons s (suc (suc (suc (suc (suc (suc (suc at))))))) 0 (omega arith)) refl
 
 -- as long as d, s takes its place whole
-pub over-whole : (s d : List ℕ) → length d ≡ length s → over s d ≡ s
+pub over-whole : (s d : List ℕ) → length d ≡ length s → over d s ≡ s
 unfolding over
 over-whole s d h = simp (take-all (length d) s (omega arith), drop-of-length-le d {i = length s} (omega arith), append-nil)
 
@@ -166,7 +166,7 @@ sets-agree f g at (v ∷ vs) j l h w =
     go (no n) (inr b) = inr (omega (arith, b .0, b .1), omega (arith, b .0, b .1))
 
 -- n bytes of s, copied into the part of f that was lent for them
-pub lent-copy : (f s : List ℕ) (a b n : ℕ) (y : List ℕ) → a + n ≤ length f → b + n ≤ length s → y ≡ over (take (b + n - b) (drop b s)) (take (a + n - a) (drop a f))
+pub lent-copy : (f s : List ℕ) (a b n : ℕ) (y : List ℕ) → a + n ≤ length f → b + n ≤ length s → y ≡ over (take (a + n - a) (drop a f)) (take (b + n - b) (drop b s))
     → take a f ++ (y ++ drop (a + n - a) (drop a f)) ≡ sets f a (take n (drop b s))
 lent-copy f s a b n y h k e =
     let i : a + n - a ≡ n = omega arith in

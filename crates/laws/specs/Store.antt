@@ -4,10 +4,10 @@ use mathlib.Core.Path.{_≡_}
 use mathlib.Core.List.{List, _++_}
 use lib.ListN.{length, take, drop}
 
--- s laid over the front of d, as far as both go
+-- d with s laid over its front, as far as both go
 unfoldable pub over : List ℕ → List ℕ → List ℕ
-over s d = take (length d) s ++ drop (length s) d
+over d s = take (length d) s ++ drop (length s) d
 
 -- a copy that has gone n bytes far
-pub record Copied (s d : List ℕ) (n : ℕ) (x : List ℕ) : Type 0 where
+pub record Copied (d s : List ℕ) (n : ℕ) (x : List ℕ) : Type 0 where
   pub is : x ≡ take n s ++ drop n d

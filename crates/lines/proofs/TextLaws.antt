@@ -11,7 +11,7 @@ use borrow.Author.Tests.{lt-ltb, le-ltb, ltb-false}
 use Rattle.laws.specs.Store.{over}
 use Rattle.lines.specs.Lines.{digits, decimal, Adds}
 
-pub length-over : (s d : List ℕ) → length (over s d) ≡ length d
+pub length-over : (s d : List ℕ) → length (over d s) ≡ length d
 unfolding over
 length-over s d = simp (length-append, length-take, length-drop) (omega arith)
 
@@ -21,7 +21,7 @@ take-append (suc n) [] ys = let e : suc n - 0 ≡ suc n = omega arith in rw e re
 take-append (suc n) (x ∷ xs) ys = let e : n - length xs ≡ suc n - length (x ∷ xs) = omega arith in ap (λ (t : List ℕ). x ∷ t) (take-append n xs ys ∙ ap (λ (k : ℕ). take n xs ++ take k ys) e)
 
 -- two texts, one after the other
-over-append : (xs ys d : List ℕ) → over (xs ++ ys) d ≡ take (length d) xs ++ over ys (drop (length xs) d)
+over-append : (xs ys d : List ℕ) → over d (xs ++ ys) ≡ take (length d) xs ++ over (drop (length xs) d) ys
 unfolding over
 over-append xs ys d = simp (take-append (length d) xs ys, length-append xs ys, length-drop (length xs) d, drop-drop (length ys) (length xs) d, append-assoc)
 
@@ -33,13 +33,13 @@ seam-drop : (p q : List ℕ) (n m : ℕ) → length p ≡ n → drop (n + m) (p 
 seam-drop p q n m e = rw (sym e) (drop-append-add p q m)
 
 -- where the first one ends
-take-over : (q : ℕ) (xs d : List ℕ) → q ≡ min (length xs) (length d) → take q (over xs d) ≡ take (length d) xs
+take-over : (q : ℕ) (xs d : List ℕ) → q ≡ min (length xs) (length d) → take q (over d xs) ≡ take (length d) xs
 unfolding over
 take-over q xs d e =
     let l : length (take (length d) xs) ≡ q = length-take (length d) xs ∙ omega arith in
     take-at (take (length d) xs) (drop (length xs) d) q l
 
-drop-over : (q : ℕ) (xs d : List ℕ) → q ≡ min (length xs) (length d) → drop q (over xs d) ≡ drop (length xs) d
+drop-over : (q : ℕ) (xs d : List ℕ) → q ≡ min (length xs) (length d) → drop q (over d xs) ≡ drop (length xs) d
 unfolding over
 drop-over q xs d e =
     let l : length (take (length d) xs) ≡ q = length-take (length d) xs ∙ omega arith in
@@ -50,7 +50,7 @@ module _ {out : List ℕ} {at : ℕ} {bytes out′ : List ℕ} {next : ℕ} (v :
   head = length-take-le at out (v .from)
 
   pub adds-size : length out′ ≡ length out
-  adds-size = ap length (v .left) ∙ length-append (take at out) (over bytes (drop at out)) ∙ omega (arith, head, length-over bytes (drop at out), length-drop at out, v .from)
+  adds-size = ap length (v .left) ∙ length-append (take at out) (over (drop at out) bytes) ∙ omega (arith, head, length-over bytes (drop at out), length-drop at out, v .from)
 
   pub adds-room : next ≤ length out′
   adds-room = omega (arith, v .place, adds-size)
@@ -60,12 +60,12 @@ adds-then {out} {at} {xs} {ys} {out′} {out″} {p} {q} v w =
     let d : List ℕ = drop at out in
     let m : p - at ≡ min (length xs) (length d) = omega (arith, v .place, v .from, length-drop at out) in
     let k : p ≡ at + (p - at) = omega (arith, v .place, v .from) in
-    let f : take p out′ ≡ take at out ++ take (length d) xs = rw (v .left, k) (seam-take (take at out) (over xs d) at (p - at) (head v) ∙ ap (λ (t : List ℕ). take at out ++ t) (take-over (p - at) xs d m)) in
-    let g : drop p out′ ≡ drop (length xs) d = rw (v .left, k) (seam-drop (take at out) (over xs d) at (p - at) (head v) ∙ drop-over (p - at) xs d m) in
+    let f : take p out′ ≡ take at out ++ take (length d) xs = rw (v .left, k) (seam-take (take at out) (over d xs) at (p - at) (head v) ∙ ap (λ (t : List ℕ). take at out ++ t) (take-over (p - at) xs d m)) in
+    let g : drop p out′ ≡ drop (length xs) d = rw (v .left, k) (seam-drop (take at out) (over d xs) at (p - at) (head v) ∙ drop-over (p - at) xs d m) in
     record {
       from = v .from;
       place = omega (arith, w .place, v .place, adds-size v, length-append xs ys, v .from);
-      left = w .left ∙ rw (f, g) (append-assoc (take at out) (take (length d) xs) (over ys (drop (length xs) d)) ∙ ap (λ (t : List ℕ). take at out ++ t) (sym (over-append xs ys d)));
+      left = w .left ∙ rw (f, g) (append-assoc (take at out) (take (length d) xs) (over (drop (length xs) d) ys) ∙ ap (λ (t : List ℕ). take at out ++ t) (sym (over-append xs ys d)));
     }
 
 -- the same bytes by another name
@@ -87,11 +87,11 @@ adds-nothing {out} {at} b h k =
     record { from = h; place = omega arith; left = rw d (sym (append-nil (take at out) ∙ take-all at out k)) }
 
 -- a text that was copied to the rest of the buffer
-pub adds-text : (out : List ℕ) (at size : ℕ) (bytes : List ℕ) {y : List ℕ} {next : ℕ} → at ≤ length out → size ≡ length out → y ≡ over bytes (take (size - at) (drop at out))
+pub adds-text : (out : List ℕ) (at size : ℕ) (bytes : List ℕ) {y : List ℕ} {next : ℕ} → at ≤ length out → size ≡ length out → y ≡ over (take (size - at) (drop at out)) bytes
     → next ≡ min (at + length bytes) (length out) → Adds out at bytes (take at out ++ (y ++ drop (size - at) (drop at out))) next
 adds-text out at size bytes {y} h l e p =
     let k : length (drop at out) ≤ size - at = simp length-drop (omega arith) in
-    let f : y ++ drop (size - at) (drop at out) ≡ over bytes (drop at out) = rw (drop-of-length-le (drop at out) {i = size - at} k) (append-nil y ∙ e ∙ rw (take-all (size - at) (drop at out) k) refl) in
+    let f : y ++ drop (size - at) (drop at out) ≡ over (drop at out) bytes = rw (drop-of-length-le (drop at out) {i = size - at} k) (append-nil y ∙ e ∙ rw (take-all (size - at) (drop at out) k) refl) in
     record { from = h; place = p; left = ap (λ (t : List ℕ). take at out ++ t) f }
 
 -- at a place within the buffer, and past its end
@@ -109,7 +109,7 @@ pub adds-at : {out : List ℕ} {at : ℕ} {bytes out′ : List ℕ} {next : ℕ}
 adds-at {out} {at} h v = let e : min at (length out) ≡ at = omega arith in rw e at v
 
 -- at the front of a buffer
-pub adds-front : {out bytes out′ : List ℕ} {next : ℕ} → Adds out 0 bytes out′ next → (out′ ≡ over bytes out) × (next ≡ min (length bytes) (length out))
+pub adds-front : {out bytes out′ : List ℕ} {next : ℕ} → Adds out 0 bytes out′ next → (out′ ≡ over out bytes) × (next ≡ min (length bytes) (length out))
 adds-front {out} {bytes} v = (v .left, v .place ∙ omega arith)
 
 -- decimal numbers, digit by digit

@@ -67,4 +67,4 @@ lineOf (Refused why) = refusedLine (numberOf why)
 pub record Adds (out : List ℕ) (at : ℕ) (bytes out′ : List ℕ) (next : ℕ) : Type 0 where
   pub from : at ≤ length out
   pub place : next ≡ min (at + length bytes) (length out)
-  pub left : out′ ≡ take at out ++ over bytes (drop at out)
+  pub left : out′ ≡ take at out ++ over (drop at out) bytes

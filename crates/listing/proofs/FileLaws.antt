@@ -14,7 +14,7 @@ use Rattle.laws.specs.Loop.{Step.next, Step.done, run, iterate}
 use Rattle.laws.specs.Store.{over}
 use Rattle.opening.specs.declared.OpenedFile.{OpenedFile}
 use Rattle.state.specs.Film.{Film}
-use Rattle.opening.specs.Open.{MeetsOpen, openingOf, worldOpened, opening, firstSize}
+use Rattle.opening.specs.Open.{MeetsOpen, openingOf, worldOpened, opening, frameSize}
 use Rattle.state.specs.World.{World}
 use Rattle.state.specs.After.{Answer, Answer.refused, Answer.ended, Answer.tookOn, Answer.tookBack, lent, lentAfter}
 use Rattle.step_on.specs.Step.{stepOn}
@@ -99,11 +99,11 @@ module _ (file : List ℕ) where
   file-large h = rw (lt-leb (length file) 65_536 h) refl
 
   module _ (h : length file ≤ 65_536) where
-    pub size-refused : {n : ℕ} → firstSize file ≡ fault n → single (refusedLine n) ≡ planFor file
+    pub size-refused : {n : ℕ} → frameSize file ≡ fault n → single (refusedLine n) ≡ planFor file
     unfolding planFor
     size-refused e = rw (le-leb (length file) 65_536 h, e) refl
 
-    module _ {n : ℕ} (e : firstSize file ≡ ok n) where
+    module _ {n : ℕ} (e : frameSize file ≡ ok n) where
       pub frame-large : 16_384 < n → single tooLarge ≡ planFor file
       unfolding planFor
       frame-large k = rw (le-leb (length file) 65_536 h, e) (rw (lt-leb n 16_384 k) refl)
@@ -124,7 +124,7 @@ lists-pictures file l e v = rw e v
 -- such frames are short enough
 pub pictures-fit : (file : List ℕ) {n : ℕ} → planFor file ≡ pictures n → n ≤ 16_384
 unfolding planFor
-pictures-fit file {n} = go (leb (length file) 65_536) (firstSize file)
+pictures-fit file {n} = go (leb (length file) 65_536) (frameSize file)
   where
     fits : (m : ℕ) (t : Bool) → leb m 16_384 ≡ t → pick t (pictures m) (single tooLarge) ≡ pictures n → n ≤ 16_384
     fits m true e d = let f : m ≡ n = cc in rw f at (leb-true m 16_384 e)
@@ -164,7 +164,7 @@ module _ (file : List ℕ) (l : Buffers) (out : List ℕ) where
     unfolding lentText
     text-is = rw e refl
 
-  over-nothing : out ≡ over [] out
+  over-nothing : out ≡ over out []
   unfolding over
   over-nothing = ap (λ (t : List ℕ). t ++ out) (sym (take-nil (length out)))
 

@@ -29,7 +29,7 @@ record Raises (file : ℕ) (s : State) (x : Built) : Type 0 where
   rises : s .next < x .next
   ends : x .next ≤ file
 
-build-raises : (file : List ℕ) (s : State) (shown hidden : List ℕ) → s .end ≤ length file → (o : Option Frame) → frameAt (take (s .end) file) (rowBytes (s .sizes .width)) (s .next) ≡ ok o
+build-raises : (file : List ℕ) (s : State) (shown hidden : List ℕ) → s .end ≤ length file → (o : Option Frame) → frameAt (take (s .end) file) (s .next) (rowBytes (s .sizes .width)) ≡ ok o
     → Each (All (Raises (length file) s)) (build (s .sizes) shown hidden o)
 build-raises file s shown hidden h none e = each all-none
 build-raises file s shown hidden h (some x) e =
@@ -42,7 +42,7 @@ ahead-raises : (file : List ℕ) (w : World) (work : ℕ) → Each (All (Raises 
 unfolding lookAhead look
 ahead-raises file w work =
     each-bind (ready-passed (length file) (w .state) (length (w .a)) (length (w .b)) work) λ _ h.
-    each-bind (each-self (frameAt (take (w .state .end) file) (rowBytes (w .state .sizes .width)) (w .state .next))) λ o e.
+    each-bind (each-self (frameAt (take (w .state .end) file) (w .state .next) (rowBytes (w .state .sizes .width)))) λ o e.
     build-raises file (w .state) (shownIn w) (hiddenIn w) (h .inFile) o e
 
 -- a step that is taken raises the place, and stays within the file

@@ -13,7 +13,7 @@ use Rattle.laws.specs.Store.{over}
 use Rattle.state.specs.State.{opened, zeros}
 use Rattle.state.specs.Film.{Film}
 use Rattle.state.specs.After.{Answer, Answer.refused, Answer.ended, Answer.tookOn, Answer.tookBack, Lent, lent, lentAfter}
-use Rattle.opening.specs.Open.{opening, firstSize}
+use Rattle.opening.specs.Open.{opening, frameSize}
 use Rattle.step_on.specs.Step.{stepOn}
 use Rattle.lines.specs.Lines.{refusedLine, endLine, pictureLine, frameLine, tooLarge, lineOf}
 use Rattle.listing.specs.declared.Plan.{Plan}
@@ -108,7 +108,7 @@ sized (ok n) = pick (leb n 16_384) (pictures n) (single tooLarge)
 sized (fault n) = single (refusedLine n)
 
 unfoldable pub planFor : List ℕ → Planned
-planFor file = pick (leb (length file) 65_536) (sized (firstSize file)) (single tooLarge)
+planFor file = pick (leb (length file) 65_536) (sized (frameSize file)) (single tooLarge)
 
 abbrev pub planOf : Plan → Planned
 planOf (Single line) = single (lineOf line)
@@ -137,13 +137,13 @@ lentText file l = pick (longEnough l) (listing file) []
 
 -- what a listing leaves in the lent buffers: the text stands at the front of `out`, as far as that goes
 pub record Lists (c : Listing) (out : List ℕ) (r : ℕ) (l : Buffers) (out′ : List ℕ) : Type 0 where
-  pub text : out′ ≡ over (c .text) out
+  pub text : out′ ≡ over out (c .text)
   pub count : r ≡ min (length (c .text)) (length out)
   pub left : l ≡ buffersOf (c .lent)
 
 -- the contract of listing: the file's text stands at the front of `out`, as far as that goes, and the other buffers are as its steps left them
 pub record MeetsList (file : List ℕ) (l : Buffers) (out : List ℕ) (r : ℕ) (l′ : Buffers) (out′ : List ℕ) : Type 0 where
-  pub text : out′ ≡ over (lentText file l) out
+  pub text : out′ ≡ over out (lentText file l)
   pub count : r ≡ min (length (lentText file l)) (length out)
   pub most : r ≤ length out′
   pub left : l′ ≡ buffersOf (listLent file l .lent)

@@ -21,8 +21,8 @@ use Rattle.state.specs.State.{Sound}
 use Rattle.iff.specs.Ids.{ANHD, DLTA}
 use Rattle.iff.specs.Chunk.{bytesOf}
 use Rattle.iff.proofs.ChunkLaws.{found, parts-room}
-use Rattle.form.specs.Form.{Frame as Form, chunksOf, Follows}
-use Rattle.form.proofs.FormLaws.{frame-follows}
+use Rattle.form.specs.Form.{FormIlbm, chunksOf, Follows}
+use Rattle.form.proofs.FormLaws.{form-follows}
 use Rattle.anhd.specs.Anhd.{frameHeader}
 use Rattle.anhd.proofs.AnhdLaws.{header-read}
 use Rattle.anhd.specs.declared.FrameHeader.{FrameHeader}
@@ -73,11 +73,11 @@ pub record Holds (at : ℕ) (x : Frame) : Type 0 where
 header-holds : (B : ℕ) (s : List ℕ) → Bytes s → Each (λ (h : FrameHeader). (h .method < 256) × (h .time < 4_294_967_296) × (40 ≤ length s)) (frameHeader false B s)
 header-holds B s h = each-map (λ y r. (rw (r .method) (h 0), rw (r .time) (be32-bound s 14 h), r .long)) (header-read false B s)
 
-pub frame-holds : (s : List ℕ) (B at : ℕ) → Bytes s → Each (All (Holds at)) (frameAt s B at)
+pub frame-holds : (s : List ℕ) (B at : ℕ) → Bytes s → Each (All (Holds at)) (frameAt s at B)
 unfolding frameAt frameIn
-frame-holds s B at h = each-bind (frame-follows s at) form
+frame-holds s B at h = each-bind (form-follows s at) form
   where
-    there : (x : Form) → Follows s at x → Each (Holds at) (frameIn s B x)
+    there : (x : FormIlbm) → Follows s at x → Each (Holds at) (frameIn s B x)
     there x f =
         let c = chunksOf s x in
         each-bind (found 31 ANHD c) λ p e. each-bind (found 31 DLTA c) λ q g.
@@ -85,7 +85,7 @@ frame-holds s B at h = each-bind (frame-follows s at) form
         let t : at + 68 + length (bytesOf c q) ≤ x .next = omega (arith, k .2, parts-room ANHD DLTA (λ k. omega arith) c p q e g, length-take (p .size) (drop (p .start) c), length-take (q .size) (drop (q .start) c), length-take (x .size) (drop (x .start) s), f .starts, f .holds) in
         each (record { method = k .0; time = k .1; takes = t })
 
-    form : (o : Option Form) → All (Follows s at) o → Each (All (Holds at)) (frameOr s B o)
+    form : (o : Option FormIlbm) → All (Follows s at) o → Each (All (Holds at)) (frameOr s B o)
     form none l = each all-none
     form (some x) l = each-bind (there x (all-value l)) λ y k. each (all-some k)
 

@@ -67,7 +67,7 @@ change-holds z x shown hidden p q =
     })
 
 module _ (file : List ℕ) (s : State) (shown hidden : List ℕ) (bytes : Bytes file) (shown-small : Small shown) (hidden-small : Small hidden) (few : s .frame < 1_000_000) (inside : s .end ≤ length file) where
-  build-holds : (o : Option Frame) → frameAt (take (s .end) file) (rowBytes (s .sizes .width)) (s .next) ≡ ok o → All (Holds (s .next)) o → Each (All (Steps (length file) s hidden)) (build (s .sizes) shown hidden o)
+  build-holds : (o : Option Frame) → frameAt (take (s .end) file) (s .next) (rowBytes (s .sizes .width)) ≡ ok o → All (Holds (s .next)) o → Each (All (Steps (length file) s hidden)) (build (s .sizes) shown hidden o)
   build-holds none e h = each all-none
   build-holds (some x) e h =
       let t = all-value h in
@@ -86,7 +86,7 @@ module _ (file : List ℕ) (s : State) (shown hidden : List ℕ) (bytes : Bytes 
   look-holds : Each (All (Steps (length file) s hidden)) (look (take (s .end) file) s shown hidden)
   unfolding look
   look-holds =
-      each-bind (each-both (each-self (frameAt (take (s .end) file) (rowBytes (s .sizes .width)) (s .next))) (frame-holds (take (s .end) file) (rowBytes (s .sizes .width)) (s .next) (bytes-take (s .end) file bytes))) λ o h.
+      each-bind (each-both (each-self (frameAt (take (s .end) file) (s .next) (rowBytes (s .sizes .width)))) (frame-holds (take (s .end) file) (rowBytes (s .sizes .width)) (s .next) (bytes-take (s .end) file bytes))) λ o h.
       build-holds o (h .0) (h .1)
     where
       each-both : {A : Type 0} {P Q : A → Type 0} {r : Res A} → Each P r → Each Q r → Each (λ (a : A). P a × Q a) r

@@ -29,7 +29,7 @@ demand-1 (steps-back w bytes r a b m) n e =
     let u = not-taken-back w bytes λ q. none-some (sym (ap refusalOf (m .answer ∙ q)) ∙ e) in
     record { world = m .left ∙ u .world; written = refl; drawn = λ h. refl }
 demand-1 (writes w z old new out d out′ m) n e =
-    record { world = refl; written = m .leaves ∙ refused-write n (deltaBytes z old new) out (written z old new (length out)) (ap refusalIn (sym (m .answers)) ∙ e); drawn = λ h. refl }
+    record { world = refl; written = m .leaves ∙ refused-write n (deltaBytes old new z) out (written (length out) old new z) (ap refusalIn (sym (m .answers)) ∙ e); drawn = λ h. refl }
 
 pub end-keeps : (file : List ℕ) (l : Lent) (r : SteppedOn) (a b work rec : List ℕ) → MeetsOn file l r (lent a b (r .state) work rec) → onOf (r .answer) ≡ ended → lent a b (r .state) work rec ≡ l
 end-keeps file l r a b work rec m e =

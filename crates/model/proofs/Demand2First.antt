@@ -34,7 +34,7 @@ module _ (file a b : List ℕ) (r : OpenedFile) (a′ b′ : List ℕ) (m : Meet
       record { answer = o .answer; state = ap (λ (w : World). w .state) (o .left); left = ap (λ (w : World). w .a) (o .left); right = ap (λ (w : World). w .b) (o .left) }
 
   -- a delta that `writer::write` wrote for an all-zero picture and a new one opens as the new one
-  pub demand-2-first-written : (new out out′ : List ℕ) (n : ℕ) → Writes (z .sizes) (replicate (frameBytes (z .sizes)) 0) new out (ok n) out′ → h .items ≡ Bytes → firstDlta file p ≡ take n out′
+  pub demand-2-first-written : (new out out′ : List ℕ) (n : ℕ) → Writes out (replicate (frameBytes (z .sizes)) 0) new (z .sizes) (ok n) out′ → h .items ≡ Bytes → firstDlta file p ≡ take n out′
       → OpensAt p (z .sizes) new (openingOf (r .answer)) (r .state) a′ b′
   demand-2-first-written new out out′ n g i d =
       let t = delta-makes (z .sizes) (replicate (frameBytes (z .sizes)) 0) new out n out′ g in

@@ -11,8 +11,8 @@ use Rattle.delta.specs.Reading.{Op}
 use Rattle.frame.specs.Frame.{Frame}
 use Rattle.state.specs.World.{World, isOdd, shownIn, hiddenIn, withHidden}
 use Rattle.state.specs.After.{Answer.refused, Answer.tookOn, After}
-use Rattle.step_on.specs.Step.{change, build, look, lookAhead, reportOf, commit, settle, stepOn, recordOf as stepRecord}
-use Rattle.model.specs.Demands.{Free, deltaOps, newOf, recordOf}
+use Rattle.step_on.specs.Step.{change, build, look, lookAhead, reportOf, commit, settle, stepOn, recordOf}
+use Rattle.model.specs.Demands.{Free, deltaOps, newOf, recordTo}
 use Rattle.model.proofs.Laws.{odd-suc}
 
 -- what lies ahead then
@@ -31,7 +31,7 @@ unfoldable pub takenAs : World → Frame → List ℕ → After
 takenAs w x f = record {
   answer = tookOn (reportOf (w .state) (hiddenIn w) (x .header) f);
   world = withHidden w f (record { sizes = w .state .sizes; frame = suc (w .state .frame); next = x .next; end = w .state .end });
-  bytes = recordOf w f;
+  bytes = recordTo w f;
   work = some f;
 }
 
@@ -41,20 +41,20 @@ unfolding change
 change-new w x ops e = rw e refl
 
 -- its record is the one that the step writes
-record-same : (w : World) (f : List ℕ) → stepRecord (w .state) (hiddenIn w) f ≡ recordOf w f
+record-same : (w : World) (f : List ℕ) → recordOf (w .state) (hiddenIn w) f ≡ recordTo w f
 record-same w f = refl
 
 -- it is taken, if its record fits
-pub taken : (file : List ℕ) (w : World) (work room : ℕ) (x : Frame) (f : List ℕ) → Free file w work x → change (w .state .sizes) x (shownIn w) (hiddenIn w) ≡ ok f → length (recordOf w f) ≤ room
+pub taken : (file : List ℕ) (w : World) (work room : ℕ) (x : Frame) (f : List ℕ) → Free file w work x → change (w .state .sizes) x (shownIn w) (hiddenIn w) ≡ ok f → length (recordTo w f) ≤ room
     → stepOn file w work room ≡ takenAs w x f
 unfolding stepOn settle commit takenAs
-taken file w work room x f k e h = rw (free-ahead file w work x k, e) (rw (record-same w f) (rw (le-leb (length (recordOf w f)) room h) refl))
+taken file w work room x f k e h = rw (free-ahead file w work x k, e) (rw (record-same w f) (rw (le-leb (length (recordTo w f)) room h) refl))
 
 -- else it is 51
-pub unfit : (file : List ℕ) (w : World) (work room : ℕ) (x : Frame) (f : List ℕ) → Free file w work x → change (w .state .sizes) x (shownIn w) (hiddenIn w) ≡ ok f → room < length (recordOf w f)
+pub unfit : (file : List ℕ) (w : World) (work room : ℕ) (x : Frame) (f : List ℕ) → Free file w work x → change (w .state .sizes) x (shownIn w) (hiddenIn w) ≡ ok f → room < length (recordTo w f)
     → stepOn file w work room ≡ record { answer = refused 51; world = w; bytes = []; work = some f }
 unfolding stepOn settle commit
-unfit file w work room x f k e h = rw (free-ahead file w work x k, e) (rw (record-same w f) (rw (lt-leb (length (recordOf w f)) room h) refl))
+unfit file w work room x f k e h = rw (free-ahead file w work x k, e) (rw (record-same w f) (rw (lt-leb (length (recordTo w f)) room h) refl))
 
 -- after a taken step the hidden picture is the new one and is shown, and the one that was shown is hidden as it was
 pub shown-new : (w : World) (x : Frame) (f : List ℕ) → shownIn (takenAs w x f .world) ≡ f

@@ -18,7 +18,7 @@ use Rattle.state.specs.After.{lent, Answer, Answer.refused, Answer.ended, Answe
 use Rattle.step_on.specs.Step.{onOf, MeetsOn, stepOn}
 use Rattle.step_back.specs.Back.{MeetsBack, stepBack}
 use Rattle.state.specs.Film.{Film}
-use Rattle.model.specs.Model.{Call, Seen, here, builtAt, placeAt, picture, recordAt, stands, reportAt, answerFor, answerAt, answerOn, answerFirst, moved, leaves, model}
+use Rattle.model.specs.Model.{Call, Seen, here, builtAt, placeAt, picture, recordAt, stands, reportAt, answerFor, answerAt, answerOn, answerFirst, numberAfter, recordAfter, model}
 use Rattle.model.specs.Trace.{Handed, Handed.latest, recordIn, untaken, seenOn, seenBack, Trace, Trace.none-left, Trace.stepped-on, Trace.stepped-back}
 use Rattle.model.proofs.Laws.{on-world, on-rec}
 use Rattle.model.proofs.Opened.{Opened, size}
@@ -44,17 +44,17 @@ module _ (P : Answer → Type 0) (F : Film) (m room : ℕ) (off : (n : ℕ) → 
 
 -- a taken step on reports its record's length
 record Reports (F : Film) (m : ℕ) (x : Answer) : Type 0 where
-  bytes : (rec rest : List ℕ) → rec ≡ leaves F m x ++ rest → recordIn x rec ≡ leaves F m x
+  bytes : (rec rest : List ℕ) → rec ≡ recordAfter F m x ++ rest → recordIn x rec ≡ recordAfter F m x
 
 reports : (F : Film) (m work room : ℕ) → Reports F m (answerOn F m work room)
-unfolding recordIn leaves reportAt
+unfolding recordIn recordAfter reportAt
 reports F m work room =
     answer-case (Reports F m) F m room (λ n. record { bytes = λ rec rest q. refl }) (record { bytes = λ rec rest q. refl })
     (λ x. record { bytes = λ rec rest q. rw q (take-append-seam (recordAt F m) rest) }) work
 
 -- the records after a call
-untaken-on : (F : Film) (m : ℕ) (x : Answer) → (x ≡ tookBack → ⊥) → untaken x (leaves F m x) (records F m) ≡ records F (moved m x)
-unfolding untaken leaves moved records
+untaken-on : (F : Film) (m : ℕ) (x : Answer) → (x ≡ tookBack → ⊥) → untaken x (recordAfter F m x) (records F m) ≡ records F (numberAfter m x)
+unfolding untaken recordAfter numberAfter records
 untaken-on F m (refused n) h = refl
 untaken-on F m ended h = refl
 untaken-on F m (tookOn r) h = refl
@@ -67,12 +67,12 @@ on-forward F m work room = answer-case (λ (x : Answer). x ≡ tookBack → ⊥)
 -- a call that met its contract is seen as the model says
 module _ (F : Film) (op : Opened F) {m : ℕ} (p : Reached F m) {w : World} (ew : w ≡ stands F m) where
   on-seen : (work rec : List ℕ) (r : SteppedOn) (a b work′ rec′ : List ℕ) → MeetsOn (F .file) (record { world = w; work = work; rec = rec }) r (lent a b (r .state) work′ rec′)
-      → seenOn r a b rec′ ≡ record { answer = answerOn F m (length work) (length rec); world = stands F (moved m (answerOn F m (length work) (length rec))); bytes = leaves F m (answerOn F m (length work) (length rec)) }
+      → seenOn r a b rec′ ≡ record { answer = answerOn F m (length work) (length rec); world = stands F (numberAfter m (answerOn F m (length work) (length rec))); bytes = recordAfter F m (answerOn F m (length work) (length rec)) }
   on-seen work rec r a b work′ rec′ h =
       let k : MeetsOn (F .file) (record { world = stands F m; work = work; rec = rec }) r (lent a b (r .state) work′ rec′) = rw ew at h in
       let c = on-comes F op m p (length rec) (length work) in
       let x : onOf (r .answer) ≡ answerOn F m (length work) (length rec) = k .answer ∙ c .answer in
-      let y : recordIn (onOf (r .answer)) rec′ ≡ leaves F m (answerOn F m (length work) (length rec)) =
+      let y : recordIn (onOf (r .answer)) rec′ ≡ recordAfter F m (answerOn F m (length work) (length rec)) =
       rw x (reports F m (length work) (length rec) .bytes rec′ (drop (length (stepOn (F .file) (stands F m) (length work) (length rec) .bytes)) rec) (on-rec k ∙ rw (c .bytes))) in
       λ i. record { answer = x i; world = (on-world k ∙ c .world) i; bytes = y i }
 
@@ -105,7 +105,7 @@ from-there F o (stepped-on {rs = rs} work rec r a b work′ rec′ h t) m p ew e
     let y : Answer = answerOn F m (length work) (length rec) in
     let e = on-seen F o p ew work rec r a b work′ rec′ h in
     let c = on-comes F o m p (length rec) (length work) in
-    let ih = from-there F o t (moved m y) (c .there) (ap (λ (s : Seen). s .world) e) (ap (λ (s : Seen). untaken (s .answer) (s .bytes) rs) e ∙ rw er (untaken-on F m y (on-forward F m (length work) (length rec)))) in
+    let ih = from-there F o t (numberAfter m y) (c .there) (ap (λ (s : Seen). s .world) e) (ap (λ (s : Seen). untaken (s .answer) (s .bytes) rs) e ∙ rw er (untaken-on F m y (on-forward F m (length work) (length rec)))) in
     rw (e, ih)
 from-there F o (stepped-back {rs = rs} bytes r a b g h t) m first ew er =
     let c = back-first F o bytes in

@@ -14,10 +14,10 @@ use Rattle.laws.proofs.ResultLaws.{each-self, each-any, each-bind, each-need, e
 use Rattle.laws.proofs.StoreLaws.{part-of-part}
 use Rattle.iff.specs.Ids.{BMHD, BODY, DLTA}
 use Rattle.iff.specs.Chunk.{has, contents}
-use Rattle.form.specs.Form.{Frame, chunksOf, animEnd, nextFrame}
+use Rattle.form.specs.Form.{FormIlbm, chunksOf, animEnd, nextForm}
 use Rattle.form.proofs.FormLaws.{anim-closes}
 use Rattle.bmhd.specs.declared.Header.{Header}
-use Rattle.bmhd.specs.Header.{header}
+use Rattle.bmhd.specs.Header.{bitmapHeader}
 use Rattle.state.specs.State.{frameBytes, frameLength, opened, Sound}
 use Rattle.state.proofs.StateLaws.{sizes-sound}
 use Rattle.opening.specs.Open.{Places, bodyIn, placesIn, firstPlaces, firstDelta, firstPicture, First, firstOf, filmOf, opening}
@@ -45,25 +45,25 @@ pub record OpenedAs (file : List ℕ) (F : Film) : Type 0 where
   pub opened : Opened F
 
 -- whether there is a BODY
-body-has : (s : List ℕ) → Each (λ (t : Bool). has BODY s ≡ ok t) (bodyIn s)
+body-has : (s : List ℕ) → Each (λ (t : Bool). has s BODY ≡ ok t) (bodyIn s)
 unfolding bodyIn
-body-has s = each-any (has BMHD s) λ h. each-any (need h 23) λ _. each-bind (each-self (has BODY s)) go
+body-has s = each-any (has s BMHD) λ h. each-any (need h 23) λ _. each-bind (each-self (has s BODY)) go
   where
-    go : (t : Bool) → has BODY s ≡ ok t → Each (λ (t : Bool). has BODY s ≡ ok t) (pick t (ok true) (has DLTA s >>= λ d. need d 23 >>= λ _. ok false))
+    go : (t : Bool) → has s BODY ≡ ok t → Each (λ (t : Bool). has s BODY ≡ ok t) (pick t (ok true) (has s DLTA >>= λ d. need d 23 >>= λ _. ok false))
     go true e = each e
-    go false e = each-any (has DLTA s) λ d. each-any (need d 23) λ _. each e
+    go false e = each-any (has s DLTA) λ d. each-any (need d 23) λ _. each e
 
 -- where the first picture was found
 record Found (file : List ℕ) (p : Places) : Type 0 where
   ends : animEnd file ≡ ok (p .end)
-  form : nextFrame (take (p .end) file) 12 ≡ ok (some (p .form))
-  body : has BODY (chunksOf (take (p .end) file) (p .form)) ≡ ok (p .body)
+  form : nextForm (take (p .end) file) 12 ≡ ok (some (p .form))
+  body : has (chunksOf (take (p .end) file) (p .form)) BODY ≡ ok (p .body)
 
 places-found : (file : List ℕ) → Each (Found file) (firstPlaces file)
 unfolding firstPlaces placesIn
-places-found file = each-need (leb (length file) 2_147_483_647) 13 _ λ _. each-bind (each-self (animEnd file)) λ end e. each-bind (each-self (nextFrame (take end file) 12)) (form end e (length-take-le end file (each-is e (anim-closes file) .most)))
+places-found file = each-need (leb (length file) 2_147_483_647) 13 _ λ _. each-bind (each-self (animEnd file)) λ end e. each-bind (each-self (nextForm (take end file) 12)) (form end e (length-take-le end file (each-is e (anim-closes file) .most)))
   where
-    form : (end : ℕ) → animEnd file ≡ ok end → length (take end file) ≡ end → (o : Option Frame) → nextFrame (take end file) 12 ≡ ok o
+    form : (end : ℕ) → animEnd file ≡ ok end → length (take end file) ≡ end → (o : Option FormIlbm) → nextForm (take end file) 12 ≡ ok o
         → Each (Found file) (orRefuse 23 o >>= λ x. bodyIn (chunksOf (take end file) x) >>= λ t. ok (record { end = length (take end file); form = x; body = t }))
     form end e n none h = no-value
     form end e n (some x) h =
@@ -72,13 +72,13 @@ places-found file = each-need (leb (length file) 2_147_483_647) 13 _ λ _. each-
         each c
 
 -- the model's first picture is opening's
-picture-same : (s : List ℕ) (z : Header) (t : Bool) → has BODY s ≡ ok t → pictureOne s z ≡ firstPicture s t z
+picture-same : (s : List ℕ) (z : Header) (t : Bool) → has s BODY ≡ ok t → pictureOne s z ≡ firstPicture s t z
 unfolding pictureOne onZeros firstPicture firstDelta
 picture-same s z true e = rw e refl
 picture-same s z false e = rw e refl
 
-film-in : (file s : List ℕ) (t : Bool) (end start a b : ℕ) → has BODY s ≡ ok t
-    → Each (λ (f : First). _≡_ {A = Res Film} (header (contents BMHD s) >>= λ z. pictureOne s z >>= λ p. ok (record { file = file; end = end; sizes = z .sizes; start = start; first = p })) (ok (filmOf file end start f)))
+film-in : (file s : List ℕ) (t : Bool) (end start a b : ℕ) → has s BODY ≡ ok t
+    → Each (λ (f : First). _≡_ {A = Res Film} (bitmapHeader (contents s BMHD) >>= λ z. pictureOne s z >>= λ p. ok (record { file = file; end = end; sizes = z .sizes; start = start; first = p })) (ok (filmOf file end start f)))
     (firstOf s t a b)
 unfolding firstOf
 film-in file s t end start a b k =

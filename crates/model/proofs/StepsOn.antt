@@ -15,7 +15,7 @@ use Rattle.state.specs.After.{Answer, Answer.refused, Answer.ended, Answer.took
 use Rattle.step_on.specs.Step.{ready, change, Built, build, look, lookAhead, recordOf, settle, stepOn}
 use Rattle.step_on.proofs.CaseLaws.{commit-case}
 use Rattle.state.specs.Film.{Film}
-use Rattle.model.specs.Model.{here, built, builtAt, placeAt, picture, recordAt, stands, reportAt, answerAt, answerOn, moved as movedTo, leaves}
+use Rattle.model.specs.Model.{here, built, builtAt, placeAt, picture, recordAt, stands, reportAt, answerAt, answerOn, numberAfter, recordAfter}
 use Rattle.model.proofs.Laws.{odd-suc}
 use Rattle.model.proofs.Opened.{Opened, size}
 use Rattle.model.proofs.Reached.{Reached, place-next, picture-next, Good, good, state-good, hidden-is, shown-is, left-long, right-long, Comes, Reached.next, pick-left, pick-right}
@@ -36,7 +36,7 @@ pub ahead-is : (F : Film) → Opened F → (m : ℕ) → Good F m → (work : �
     → lookAhead (F .file) (stands F m) work ≡ (need (eqb work (size F)) 12 >>= λ _. need (ltb (suc m) 1_000_000) 53 >>= λ _. here F (placeAt F m) >>= λ o. builtThere F m o)
 unfolding lookAhead look builtThere
 ahead-is F o m k work =
-    let h : frameAt (take (stands F m .state .end) (F .file)) (rowBytes (stands F m .state .sizes .width)) (stands F m .state .next) ≡ here F (placeAt F m) = unfold stands in refl in
+    let h : frameAt (take (stands F m .state .end) (F .file)) (stands F m .state .next) (rowBytes (stands F m .state .sizes .width)) ≡ here F (placeAt F m) = unfold stands in refl in
     let z : stands F m .state .sizes ≡ F .sizes = unfold stands in refl in
     rw (ready-is F o m k work, shown-is F m, hidden-is F m, h, z) (go (eqb work (size F)) (ltb (suc m) 1_000_000))
   where
@@ -77,22 +77,22 @@ took-stands F m =
 -- stepping on
 module _ (F : Film) (op : Opened F) (m : ℕ) (p : Reached F m) (room : ℕ) where
   Step : Res (Option Built) → Answer → Type 0
-  Step r y = Comes F m (movedTo m y) y (leaves F m y) (settle (stands F m) room r)
+  Step r y = Comes F m (numberAfter m y) y (recordAfter F m y) (settle (stands F m) room r)
 
   step-refused : (n : ℕ) → Step (fault n) (refused n)
-  unfolding Step movedTo leaves settle
+  unfolding Step numberAfter recordAfter settle
   step-refused n = record { answer = refl; world = refl; bytes = refl; there = p }
 
   step-ended : Step (ok none) ended
-  unfolding Step movedTo leaves settle
+  unfolding Step numberAfter recordAfter settle
   step-ended = record { answer = refl; world = refl; bytes = refl; there = p }
 
   step-fits : (x : Frame) (g : List ℕ) → here F (placeAt F m) ≡ ok (some x) → builtAt F m x ≡ ok g → suc m < 1_000_000
       → Step (ok (some (nextBuilt F m x))) (pick (leb (length (recordAt F m)) room) (tookOn (reportAt F m x)) (refused 51))
-  unfolding Step movedTo leaves settle nextBuilt reportAt
+  unfolding Step numberAfter recordAfter settle nextBuilt reportAt
   step-fits x g e c h =
       let y : Answer = pick (leb (length (recordAt F m)) room) (tookOn (reportAt F m x)) (refused 51) in
-      commit-case (λ (o : After). Comes F m (movedTo m y) y (leaves F m y) o) (stands F m) room (nextBuilt F m x)
+      commit-case (λ (o : After). Comes F m (numberAfter m y) y (recordAfter F m y) o) (stands F m) room (nextBuilt F m x)
       (λ q. rw (rw (record-is F m) at q, record-is F m, hidden-is F m) (record { answer = refl; world = took-stands F m; bytes = refl; there = next x g p e c h }))
       (λ q. rw (rw (record-is F m) at q) (record { answer = refl; world = refl; bytes = refl; there = p }))
 
@@ -113,6 +113,6 @@ module _ (F : Film) (op : Opened F) (m : ℕ) (p : Reached F m) (room : ℕ) whe
   step-tests true false e = step-refused 53
   step-tests false t e = step-refused 12
 
-  pub on-comes : (work : ℕ) → let y : Answer = answerOn F m work room in Comes F m (movedTo m y) y (leaves F m y) (stepOn (F .file) (stands F m) work room)
+  pub on-comes : (work : ℕ) → let y : Answer = answerOn F m work room in Comes F m (numberAfter m y) y (recordAfter F m y) (stepOn (F .file) (stands F m) work room)
   unfolding stepOn answerOn Step
   on-comes work = rw (ahead-is F op m (good F op p) work) (step-tests (eqb work (size F)) (ltb (suc m) 1_000_000) refl)

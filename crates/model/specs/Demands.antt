@@ -54,7 +54,7 @@ pub data Met : Lent → Option ℕ → Lent → Type 0 where
       → Met l (refusalOf (onOf (r .answer))) (lent a b (r .state) work rec)
   steps-back : (w : World) (bytes : List ℕ) (r : SteppedBack) (a b : List ℕ) → MeetsBack w bytes r (record { a = a; b = b; state = r .state })
       → Met (record { world = w; work = []; rec = [] }) (refusalOf (backOf (r .answer))) (lent a b (r .state) [] [])
-  writes : (w : World) (z : Sizes) (old new out : List ℕ) (d : Delta) (out′ : List ℕ) → Writes z old new out (deltaOf d) out′
+  writes : (w : World) (z : Sizes) (old new out : List ℕ) (d : Delta) (out′ : List ℕ) → Writes out old new z (deltaOf d) out′
       → Met (record { world = w; work = []; rec = out }) (refusalIn (deltaOf d)) (record { world = w; work = []; rec = out′ })
 
 -- what a call refused with n leaves: neither picture, nor the state, nor the record buffer is changed, nor the work buffer unless n is 51
@@ -67,7 +67,7 @@ pub record Unchanged (n : ℕ) (l l′ : Lent) : Type 0 where
 -- x, the next frame from the next place on, is whole and has a good header (21, 31 to 36)
 pub record Free (file : List ℕ) (w : World) (work : ℕ) (x : Frame) : Type 0 where
   pub tests : ready (length file) (w .state) (length (w .a)) (length (w .b)) work ≡ ok tt
-  pub there : frameAt (take (w .state .end) file) (rowBytes (w .state .sizes .width)) (w .state .next) ≡ ok (some x)
+  pub there : frameAt (take (w .state .end) file) (w .state .next) (rowBytes (w .state .sizes .width)) ≡ ok (some x)
 
 -- the ops of its delta, or its first fault
 abbrev pub deltaOps : World → Frame → Res (List Op)
@@ -82,18 +82,18 @@ abbrev pub newOf : World → Frame → List Op → List ℕ
 newOf w x ops = draw (shapeOf (w .state .sizes) (x .header .items)) (x .dlta) ops (basisOf w x)
 
 -- the record of a step to a frame whose picture is f
-abbrev pub recordOf : World → List ℕ → List ℕ
-recordOf w f = recordBytes (suc (w .state .frame)) (w .state .next) (hiddenIn w) f
+abbrev pub recordTo : World → List ℕ → List ℕ
+recordTo w f = recordBytes (suc (w .state .frame)) (w .state .next) (hiddenIn w) f
 
 -- what a taken step to frame x, whose picture is f, answers and leaves: f is in the hidden buffer, which is now the shown one, and in the
 -- work buffer; the shown picture doesn't change; the record stands at the front of its buffer, and the bytes past it stay
 pub record Takes (w : World) (rec : List ℕ) (x : Frame) (f : List ℕ) (y : Answer) (l : Lent) : Type 0 where
-  pub answer : y ≡ tookOn (record { method = x .header .method; time = x .header .time; changed = differing (hiddenIn w) f; record_length = length (recordOf w f) })
+  pub answer : y ≡ tookOn (record { method = x .header .method; time = x .header .time; changed = differing (hiddenIn w) f; record_length = length (recordTo w f) })
   pub state : l .world .state ≡ record { sizes = w .state .sizes; frame = suc (w .state .frame); next = x .next; end = w .state .end }
   pub shown : shownIn (l .world) ≡ f
   pub hidden : hiddenIn (l .world) ≡ shownIn w
   pub drawn : l .work ≡ f
-  pub written : l .rec ≡ recordOf w f ++ drop (length (recordOf w f)) rec
+  pub written : l .rec ≡ recordTo w f ++ drop (length (recordTo w f)) rec
 
 -- an opening that only its delta (41 to 43, 45) can refuse: the walk found a first frame at p (13, 21 to 23), without a BODY but with an
 -- ANHD (31) and a good BMHD z (24), A and B have a frame's length (12), and h is a good header (32, 33, 35, 36)
@@ -103,11 +103,11 @@ pub record FreeFirst (file : List ℕ) (a b : ℕ) (p : Places) (z : Header) (h 
   pub sizes : firstHeader (chunksOf file (p .form)) false ≡ ok z
   pub left : a ≡ z .length
   pub right : b ≡ z .length
-  pub header : frameHeader true (rowBytes (z .sizes .width)) (contents ANHD (chunksOf file (p .form))) ≡ ok h
+  pub header : frameHeader true (rowBytes (z .sizes .width)) (contents (chunksOf file (p .form)) ANHD) ≡ ok h
 
 -- its DLTA, and the ops of that, or its first fault
 abbrev pub firstDlta : List ℕ → Places → List ℕ
-firstDlta file p = contents DLTA (chunksOf file (p .form))
+firstDlta file p = contents (chunksOf file (p .form)) DLTA
 
 abbrev pub firstOps : List ℕ → Places → Header → FrameHeader → Res (List Op)
 firstOps file p z h = readDelta (shapeOf (z .sizes) (h .items)) (firstDlta file p)

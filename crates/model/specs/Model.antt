@@ -15,8 +15,8 @@ use Rattle.state.specs.declared.Sizes.{Sizes}
 use Rattle.state.specs.Film.{Film}
 use Rattle.iff.specs.Ids.{BMHD, BODY, ANHD, DLTA}
 use Rattle.iff.specs.Chunk.{has, contents}
-use Rattle.form.specs.Form.{chunksOf, animEnd, nextFrame}
-use Rattle.bmhd.specs.Header.{header}
+use Rattle.form.specs.Form.{chunksOf, animEnd, nextForm}
+use Rattle.bmhd.specs.Header.{bitmapHeader}
 use Rattle.bmhd.specs.declared.Header.{Header}
 use Rattle.body.specs.Body.{body}
 use Rattle.anhd.specs.Anhd.{frameHeader}
@@ -50,23 +50,23 @@ onZeros z anhd dlta =
 -- picture 1, by the chunks of frame 1 and its BMHD: the BODY unpacked if there is one, or else what the delta makes
 unfoldable pub pictureOne : List ℕ → Header → Res (List ℕ)
 pictureOne s z =
-    has BODY s >>= λ t.
-    pick t (body (z .packed) (z .sizes) (contents BODY s)) (onZeros (z .sizes) (contents ANHD s) (contents DLTA s))
+    has s BODY >>= λ t.
+    pick t (body (contents s BODY) (z .sizes) (z .packed)) (onZeros (z .sizes) (contents s ANHD) (contents s DLTA))
 
 -- what a file fixes; frame 1 is the first FORM ILBM of FORM ANIM. Which files are refused, and with which number, is opening's to say: demand 3
 -- speaks of files that were opened
 unfoldable pub film : List ℕ → Res Film
 film file =
     animEnd file >>= λ end.
-    nextFrame (take end file) 12 >>= λ o.
+    nextForm (take end file) 12 >>= λ o.
     orRefuse 23 o >>= λ x.
-    header (contents BMHD (chunksOf (take end file) x)) >>= λ z.
+    bitmapHeader (contents (chunksOf (take end file) x) BMHD) >>= λ z.
     pictureOne (chunksOf (take end file) x) z >>= λ f.
     ok (record { file = file; end = end; sizes = z .sizes; start = x .next; first = f })
 
 -- the next frame from a place on, if there is one
 abbrev pub here : Film → ℕ → Res (Option Frame)
-here F at = frameAt (take (F .end) (F .file)) (rowBytes (F .sizes .width)) at
+here F at = frameAt (take (F .end) (F .file)) at (rowBytes (F .sizes .width))
 
 -- the place past that frame, or the place itself where there is none
 unfoldable pub past : ℕ → Res (Option Frame) → ℕ
@@ -150,24 +150,24 @@ answerFirst none = refused 61
 answerFirst (some p) = refused 62
 
 -- where a step on's answer leads, and the record that it leaves
-unfoldable pub moved : ℕ → Answer → ℕ
-moved m (refused n) = m
-moved m ended = m
-moved m (tookOn r) = suc m
-moved m tookBack = m
+unfoldable pub numberAfter : ℕ → Answer → ℕ
+numberAfter m (refused n) = m
+numberAfter m ended = m
+numberAfter m (tookOn r) = suc m
+numberAfter m tookBack = m
 
-unfoldable pub leaves : Film → ℕ → Answer → List ℕ
-leaves F m (refused n) = []
-leaves F m ended = []
-leaves F m (tookOn r) = recordAt F m
-leaves F m tookBack = []
+unfoldable pub recordAfter : Film → ℕ → Answer → List ℕ
+recordAfter F m (refused n) = []
+recordAfter F m ended = []
+recordAfter F m (tookOn r) = recordAt F m
+recordAfter F m tookBack = []
 
 -- what is seen after each call, from frame m + 1 on
 unfoldable pub model : Film → ℕ → List Call → List Seen
 model F m [] = []
 model F m (on work room ∷ cs) =
     let x = answerOn F m work room in
-    record { answer = x; world = stands F (moved m x); bytes = leaves F m x } ∷ model F (moved m x) cs
+    record { answer = x; world = stands F (numberAfter m x); bytes = recordAfter F m x } ∷ model F (numberAfter m x) cs
 model F zero (back bytes ∷ cs) = record { answer = answerFirst (pastOf bytes (F .first)); world = stands F zero; bytes = [] } ∷ model F zero cs
 model F (suc m) (back bytes ∷ cs) = record { answer = tookBack; world = stands F m; bytes = [] } ∷ model F m cs
 

@@ -68,7 +68,7 @@ pub fn read(s: &[u8], at: usize) -> Parsed
 }
 
 // How many bytes a number takes.
-pub fn length(n: u32) -> usize
+pub fn written_length(n: u32) -> usize
     ensures { λ r. ⌜ r ≡ length (writeNumber n) ⌝ }
 {
     if n < 128 {
@@ -109,7 +109,7 @@ pub fn write(out: &mut [u8], at: usize, n: u32) -> Written
     if out.len() < at {
         return Written::NoRoom;
     }
-    if out.len() - at < length(n) {
+    if out.len() - at < written_length(n) {
         return Written::NoRoom;
     }
     Written::Next(write_groups(out, at, n))

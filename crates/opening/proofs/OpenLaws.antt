@@ -21,12 +21,12 @@ use Rattle.state.proofs.StateLaws.{sizes-sound}
 use Rattle.state.specs.Film.{Film}
 use Rattle.iff.specs.Ids.{BMHD, BODY, ANHD, DLTA}
 use Rattle.iff.specs.Chunk.{has, contents}
-use Rattle.form.specs.Form.{Frame, chunksOf, animEnd, nextFrame, Closes, Follows}
-use Rattle.form.proofs.FormLaws.{anim-closes, frame-follows}
+use Rattle.form.specs.Form.{FormIlbm, chunksOf, animEnd, nextForm, Closes, Follows}
+use Rattle.form.proofs.FormLaws.{anim-closes, form-follows}
 use Rattle.bmhd.specs.declared.Header.{Header}
-use Rattle.bmhd.specs.Header.{header}
+use Rattle.bmhd.specs.Header.{bitmapHeader}
 use Rattle.bmhd.proofs.HeaderLaws.{header-sizes}
-use Rattle.body.specs.Body.{body, picture}
+use Rattle.body.specs.Body.{body, unpack}
 use Rattle.anhd.specs.declared.FrameHeader.{FrameHeader}
 use Rattle.anhd.specs.Anhd.{frameHeader}
 use Rattle.anhd.proofs.AnhdLaws.{header-read}
@@ -40,20 +40,20 @@ use Rattle.opening.specs.declared.Opening.the-variants.{Opened, Refused}
 use Rattle.opening.specs.declared.OpenedFile.{OpenedFile}
 use Rattle.opening.specs.declared.Filled.{Filled}
 use Rattle.opening.specs.declared.Filled.the-variants.{Done, Refused as NotFilled}
-use Rattle.opening.specs.Open.{Places, bodyIn, placesIn, firstPlaces, firstHeader, firstSize, firstDelta, firstPicture, First, firstOf, opening, Opens}
+use Rattle.opening.specs.Open.{Places, bodyIn, placesIn, firstPlaces, firstHeader, frameSize, firstDelta, firstPicture, First, firstOf, opening, Opens}
 use Rattle.opening.specs.Parts.{OpensFirst, filledOf, Fills}
 
 -- the walk through FORM ANIM
 module _ (s : List ℕ) where
-  pub anim-broken : {n : ℕ} → nextFrame s 12 ≡ fault n → placesIn s ≡ fault n
+  pub anim-broken : {n : ℕ} → nextForm s 12 ≡ fault n → placesIn s ≡ fault n
   unfolding placesIn
   anim-broken e = rw e
 
-  pub anim-empty : nextFrame s 12 ≡ ok none → placesIn s ≡ fault 23
+  pub anim-empty : nextForm s 12 ≡ ok none → placesIn s ≡ fault 23
   unfolding placesIn
   anim-empty e = rw e
 
-  module _ (start size nx : ℕ) (e : nextFrame s 12 ≡ ok (some (record { start = start; size = size; next = nx }))) where
+  module _ (start size nx : ℕ) (e : nextForm s 12 ≡ ok (some (record { start = start; size = size; next = nx }))) where
     pub form-broken : {n : ℕ} → bodyIn (take (start + size - start) (drop start s)) ≡ fault n → placesIn s ≡ fault n
     unfolding placesIn
     form-broken h = rw e (rw (rw (add-sub-cancel-left start size) at h))
@@ -92,9 +92,9 @@ places-lie file =
     each-need (leb (length file) 2_147_483_647) 13 _ λ l.
     each-bind (anim-closes file) λ end c.
     let n : length (take end file) ≡ end = length-take-le end file (c .most) in
-    each-bind (frame-follows (take end file) 12) (form end c (leb-true (length file) 2_147_483_647 l) n)
+    each-bind (form-follows (take end file) 12) (form end c (leb-true (length file) 2_147_483_647 l) n)
   where
-    form : (end : ℕ) (c : Closes file end) (l : length file ≤ 2_147_483_647) (n : length (take end file) ≡ end) (o : Option Frame) → All (Follows (take end file) 12) o
+    form : (end : ℕ) (c : Closes file end) (l : length file ≤ 2_147_483_647) (n : length (take end file) ≡ end) (o : Option FormIlbm) → All (Follows (take end file) 12) o
         → Each (Lies file) (orRefuse 23 o >>= λ x. bodyIn (chunksOf (take end file) x) >>= λ t. ok (record { end = length (take end file); form = x; body = t }))
     form end c l n none b = no-value
     form end c l n (some x) b =
@@ -108,12 +108,12 @@ chunks-inside file e = let k : Lies file _ = each-is e (places-lie file) in omeg
 
 -- the length of the frame
 module _ (file : List ℕ) where
-  pub size-nowhere : {n : ℕ} → firstPlaces file ≡ fault n → firstSize file ≡ fault n
-  unfolding firstSize
+  pub size-nowhere : {n : ℕ} → firstPlaces file ≡ fault n → frameSize file ≡ fault n
+  unfolding frameSize
   size-nowhere e = rw e
 
-  pub size-header : {p : Places} {s : List ℕ} {q : Res Header} → firstPlaces file ≡ ok p → s ≡ chunksOf file (p .form) → firstHeader s (p .body) ≡ q → firstSize file ≡ (q >>= λ z. ok (z .length))
-  unfolding firstSize
+  pub size-header : {p : Places} {s : List ℕ} {q : Res Header} → firstPlaces file ≡ ok p → s ≡ chunksOf file (p .form) → firstHeader s (p .body) ≡ q → frameSize file ≡ (q >>= λ z. ok (z .length))
+  unfolding frameSize
   size-header e i k = rw e (rw (rw i at k))
 
 -- a refused opening
@@ -121,12 +121,12 @@ opens-refused : {q : Res Film} {why : Refusal} {r : OpenedFile} {a b : List ℕ}
 opens-refused e h = rw (e, h) (record { answer = refl; left = refl })
 
 pub first-refused : {end start : ℕ} {q : Res First} {why : Refusal} {r : OpenedFile} {a b a′ : List ℕ} → q ≡ fault (numberOf why) → r ≡ record { answer = Refused why; state = zeros } → a′ ≡ a
-    → OpensFirst end start q a b r (record { a = a′; b = b; state = r .state })
+    → OpensFirst q start end a b r (record { a = a′; b = b; state = r .state })
 first-refused e h l = rw l (record { opens = λ file. opens-refused (rw e) h })
 
 -- an opening that is taken
 pub first-opened : {end start : ℕ} {q : Res First} {p : First} {s : State} {a b a′ b′ : List ℕ} → q ≡ ok p → s ≡ opened (p .sizes) start end → a′ ≡ p .picture → b′ ≡ p .picture
-    → OpensFirst end start q a b (record { answer = Opened; state = s }) (record { a = a′; b = b′; state = s })
+    → OpensFirst q start end a b (record { answer = Opened; state = s }) (record { a = a′; b = b′; state = s })
 first-opened e h l m = rw (e, h, l, m) (record { opens = λ file. record { answer = refl; left = refl } })
 
 -- a file that is opened
@@ -136,17 +136,17 @@ unfolding opening
 opens-nowhere file a b e h = opens-refused (rw e) h
 
 pub opens-at : (file a b : List ℕ) {p : Places} (s : List ℕ) {r : OpenedFile} {w : World} → firstPlaces file ≡ ok p → s ≡ chunksOf file (p .form)
-    → OpensFirst (p .end) (p .form .next) (firstOf s (p .body) (length a) (length b)) a b r w → Opens (opening file (length a) (length b)) a b r w
+    → OpensFirst (firstOf s (p .body) (length a) (length b)) (p .form .next) (p .end) a b r w → Opens (opening file (length a) (length b)) a b r w
 unfolding opening
 opens-at file a b s e i o = rw e (rw i at (o .opens file))
 
 -- a first picture's header is what its BMHD says, and so is of a frame within the limits
-pub header-same : (s : List ℕ) (t : Bool) → Each (λ (z : Header). header (contents BMHD s) ≡ ok z) (firstHeader s t)
+pub header-same : (s : List ℕ) (t : Bool) → Each (λ (z : Header). bitmapHeader (contents s BMHD) ≡ ok z) (firstHeader s t)
 unfolding firstHeader
-header-same s t = each-any (pick t (ok true) (has ANHD s)) λ h. each-any (need h 31) λ _. each-self (header (contents BMHD s))
+header-same s t = each-any (pick t (ok true) (has s ANHD)) λ h. each-any (need h 31) λ _. each-self (bitmapHeader (contents s BMHD))
 
 first-sizes : (s : List ℕ) (t : Bool) → Each (λ (z : Header). frameLength (z .sizes) ≡ ok (z .length)) (firstHeader s t)
-first-sizes s t = each-map (λ z e. each-is e (header-sizes (contents BMHD s))) (header-same s t)
+first-sizes s t = each-map (λ z e. each-is e (header-sizes (contents s BMHD))) (header-same s t)
 
 pub first-fits : (s : List ℕ) (t : Bool) {z : Header} {a : ℕ} → firstHeader s t ≡ ok z → a ≡ z .length → frameLength (z .sizes) ≡ ok a
 first-fits s t e l = rw l (each-is e (first-sizes s t))
@@ -185,10 +185,10 @@ pub record FrameLong (n : ℕ) (f : First) : Type 0 where
 
 picture-length : (s : List ℕ) (t : Bool) (z : Header) → Each (λ (p : List ℕ). length p ≡ frameBytes (z .sizes)) (firstPicture s t z)
 unfolding firstPicture firstDelta
-picture-length s true z = body-length (z .packed) (z .sizes) (contents BODY s)
+picture-length s true z = body-length (z .packed) (z .sizes) (contents s BODY)
 picture-length s false z =
-    each-any (frameHeader true (rowBytes (z .sizes .width)) (contents ANHD s)) λ h. each-any (readDelta (shapeOf (z .sizes) (h .items)) (contents DLTA s)) λ ops.
-    each (draw-length (shapeOf (z .sizes) (h .items)) (contents DLTA s) ops (replicate (frameBytes (z .sizes)) 0) ∙ length-replicate {A = ℕ} (frameBytes (z .sizes)) 0)
+    each-any (frameHeader true (rowBytes (z .sizes .width)) (contents s ANHD)) λ h. each-any (readDelta (shapeOf (z .sizes) (h .items)) (contents s DLTA)) λ ops.
+    each (draw-length (shapeOf (z .sizes) (h .items)) (contents s DLTA) ops (replicate (frameBytes (z .sizes)) 0) ∙ length-replicate {A = ℕ} (frameBytes (z .sizes)) 0)
 
 pub first-long : (s : List ℕ) (t : Bool) (a b : ℕ) → Each (FrameLong a) (firstOf s t a b)
 unfolding firstOf
@@ -210,17 +210,17 @@ fills-done e = rw e (record { answer = refl; left = refl })
 
 -- a BODY that is unpacked
 module _ (packed : Bool) (z : Sizes) (d a : List ℕ) (e : frameLength z ≡ ok (length a)) where
-  body-is : picture packed z d (length a) ≡ body packed z d
+  body-is : unpack (length a) d z packed ≡ body d z packed
   body-is = picture-body packed z d (length a) e refl
 
-  pub body-bad : {why : Refusal} {g : List ℕ} → answer (picture packed z d (length a)) ≡ fault (numberOf why) → g ≡ orKeep a (picture packed z d (length a)) → Fills (body packed z d) a (NotFilled why) g
+  pub body-bad : {why : Refusal} {g : List ℕ} → answer (unpack (length a) d z packed) ≡ fault (numberOf why) → g ≡ orKeep a (unpack (length a) d z packed) → Fills (body d z packed) a (NotFilled why) g
   body-bad q l =
-      let k : picture packed z d (length a) ≡ fault _ = answer-refused (picture packed z d (length a)) q in
+      let k : unpack (length a) d z packed ≡ fault _ = answer-refused (unpack (length a) d z packed) q in
       fills-refused (sym body-is ∙ k) (rw k at l)
 
-  pub body-done : {g : List ℕ} → answer (picture packed z d (length a)) ≡ ok tt → g ≡ orKeep a (picture packed z d (length a)) → Fills (body packed z d) a Done g
+  pub body-done : {g : List ℕ} → answer (unpack (length a) d z packed) ≡ ok tt → g ≡ orKeep a (unpack (length a) d z packed) → Fills (body d z packed) a Done g
   body-done q l =
-      let k = answered (picture packed z d (length a)) (sym q) in
+      let k = answered (unpack (length a) d z packed) (sym q) in
       fills-done (sym body-is ∙ rw (l, k .1) refl)
 
 -- a delta that is drawn into zeros
@@ -230,15 +230,15 @@ module _ (h d : List ℕ) (z : Sizes) (a : List ℕ) (e : frameLength z ≡ ok (
   delta-unread q = fills-refused (rw q) refl
 
   module _ {x : FrameHeader} (q : frameHeader true (rowBytes (z .width)) h ≡ ok x) where
-    delta-is : firstDelta h d z ≡ newFrame z (x .items) d (replicate (length a) 0) (length a)
+    delta-is : firstDelta h d z ≡ newFrame (length a) (replicate (length a) 0) d z (x .items)
     unfolding firstDelta newFrame
     delta-is =
         let n : length a ≡ frameBytes z = each-is e (sizes-sound z) .length in
         let k = frame-delta z (x .items) d (length (replicate {A = ℕ} (length a) 0)) (length a) e (length-replicate {A = ℕ} (length a) 0) refl (each-is q (header-read true (rowBytes (z .width)) h) .columns) in
         rw q (rw (k, n) refl)
 
-    pub delta-bad : {why : Refusal} {g : List ℕ} → Applies z (x .items) d (replicate (length a) 0) a (fault (numberOf why)) g → Fills (firstDelta h d z) a (NotFilled why) g
+    pub delta-bad : {why : Refusal} {g : List ℕ} → Applies a (replicate (length a) 0) d z (x .items) (fault (numberOf why)) g → Fills (firstDelta h d z) a (NotFilled why) g
     delta-bad p = let k = new-refused p in fills-refused (delta-is ∙ k) (rw k at (p .leaves))
 
-    pub delta-done : {n : ℕ} {g : List ℕ} → Applies z (x .items) d (replicate (length a) 0) a (ok n) g → Fills (firstDelta h d z) a Done g
+    pub delta-done : {n : ℕ} {g : List ℕ} → Applies a (replicate (length a) 0) d z (x .items) (ok n) g → Fills (firstDelta h d z) a Done g
     delta-done p = fills-done (delta-is ∙ new-drawn p)

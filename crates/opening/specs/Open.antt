@@ -15,8 +15,8 @@ use Rattle.state.specs.Film.{Film}
 use Rattle.state.specs.declared.Sizes.{Sizes}
 use Rattle.iff.specs.Ids.{BMHD, BODY, ANHD, DLTA}
 use Rattle.iff.specs.Chunk.{has, contents}
-use Rattle.form.specs.Form.{Frame, chunksOf, animEnd, nextFrame}
-use Rattle.bmhd.specs.Header.{header}
+use Rattle.form.specs.Form.{FormIlbm, chunksOf, animEnd, nextForm}
+use Rattle.bmhd.specs.Header.{bitmapHeader}
 use Rattle.bmhd.specs.declared.Header.{Header}
 use Rattle.body.specs.Body.{body}
 use Rattle.anhd.specs.Anhd.{frameHeader}
@@ -31,24 +31,24 @@ use Rattle.opening.specs.declared.Size.the-variants.{Bytes, Refused as S
 -- where the first picture stands: the end place of FORM ANIM, the first FORM ILBM in it, and whether that has a BODY
 pub record Places : Type 0 where
   pub end : ℕ
-  pub form : Frame
+  pub form : FormIlbm
   pub body : Bool
 
 -- whether the first frame's chunks have a BODY: 23 without a BMHD, and with neither a BODY nor a DLTA
 unfoldable pub bodyIn : List ℕ → Res Bool
 bodyIn s =
-    has BMHD s >>= λ h.
+    has s BMHD >>= λ h.
     need h 23 >>= λ _.
-    has BODY s >>= λ b.
+    has s BODY >>= λ b.
     pick b (ok true)
-    (has DLTA s >>= λ d.
+    (has s DLTA >>= λ d.
     need d 23 >>= λ _.
     ok false)
 
 -- 21 or 23 as the chunks of FORM ANIM are walked
 unfoldable pub placesIn : List ℕ → Res Places
 placesIn s =
-    nextFrame s 12 >>= λ o.
+    nextForm s 12 >>= λ o.
     orRefuse 23 o >>= λ x.
     bodyIn (chunksOf s x) >>= λ b.
     ok (record { end = length s; form = x; body = b })
@@ -63,13 +63,13 @@ firstPlaces file =
 -- what the first picture's BMHD says, where t tells whether there is a BODY: 31 with neither a BODY nor an ANHD, then 24
 unfoldable pub firstHeader : List ℕ → Bool → Res Header
 firstHeader s t =
-    pick t (ok true) (has ANHD s) >>= λ h.
+    pick t (ok true) (has s ANHD) >>= λ h.
     need h 31 >>= λ _.
-    header (contents BMHD s)
+    bitmapHeader (contents s BMHD)
 
 -- the length of the first picture's frame, or what refuses it up to and including 24
-unfoldable pub firstSize : List ℕ → Res ℕ
-firstSize file = firstPlaces file >>= λ p. firstHeader (chunksOf file (p .form)) (p .body) >>= λ z. ok (z .length)
+unfoldable pub frameSize : List ℕ → Res ℕ
+frameSize file = firstPlaces file >>= λ p. firstHeader (chunksOf file (p .form)) (p .body) >>= λ z. ok (z .length)
 
 -- what an ANHD and a DLTA make of an all-zero picture: 32, 33, 35, 36, then the delta's refusals
 unfoldable pub firstDelta : List ℕ → List ℕ → Sizes → Res (List ℕ)
@@ -80,8 +80,8 @@ firstDelta h d z =
 
 -- the bytes of the first picture, by whether there is a BODY: that, or else what the delta makes
 unfoldable pub firstPicture : List ℕ → Bool → Header → Res (List ℕ)
-firstPicture s true z = body (z .packed) (z .sizes) (contents BODY s)
-firstPicture s false z = firstDelta (contents ANHD s) (contents DLTA s) (z .sizes)
+firstPicture s true z = body (contents s BODY) (z .sizes) (z .packed)
+firstPicture s false z = firstDelta (contents s ANHD) (contents s DLTA) (z .sizes)
 
 -- the first picture: its sizes and its bytes
 pub record First : Type 0 where

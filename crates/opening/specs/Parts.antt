@@ -9,27 +9,27 @@ use Rattle.state.specs.World.{World}
 use Rattle.opening.specs.declared.OpenedFile.{OpenedFile}
 use Rattle.opening.specs.declared.Filled.{Filled}
 use Rattle.opening.specs.declared.Filled.the-variants.{Done, Refused as NotFilled}
-use Rattle.opening.specs.declared.Given.{Given}
-use Rattle.opening.specs.declared.Given.the-variants.{Picture, Refused as NotGiven}
-use Rattle.opening.specs.declared.Places.{Places as Found}
-use Rattle.opening.specs.declared.Places.the-variants.{At, Refused}
+use Rattle.opening.specs.declared.HasBody.{HasBody}
+use Rattle.opening.specs.declared.HasBody.the-variants.{Picture, Refused as NotThere}
+use Rattle.opening.specs.declared.Located.{Located}
+use Rattle.opening.specs.declared.Located.the-variants.{At, Refused}
 use Rattle.opening.specs.Open.{Places, First, filmOf, Opens}
 
 -- what the answers say in the paper's terms
-abbrev pub givenOf : Given → Res Bool
-givenOf (Picture there) = ok there
-givenOf (NotGiven why) = fault (numberOf why)
+abbrev pub hasBodyOf : HasBody → Res Bool
+hasBodyOf (Picture there) = ok there
+hasBodyOf (NotThere why) = fault (numberOf why)
 
 abbrev pub filledOf : Filled → Res (Unit {0})
 filledOf Done = ok tt
 filledOf (NotFilled why) = fault (numberOf why)
 
-abbrev pub placesOf : Found → Res Places
+abbrev pub placesOf : Located → Res Places
 placesOf (At end nx start len there) = ok (record { end = end; form = record { start = start; size = len; next = nx }; body = there })
 placesOf (Refused why) = fault (numberOf why)
 
 -- a first picture in whatever file, with its end place and the place after its FORM
-pub record OpensFirst (end start : ℕ) (q : Res First) (a b : List ℕ) (r : OpenedFile) (w : World) : Type 0 where
+pub record OpensFirst (q : Res First) (start end : ℕ) (a b : List ℕ) (r : OpenedFile) (w : World) : Type 0 where
   pub opens : (file : List ℕ) → Opens (q >>= λ p. ok (filmOf file end start p)) a b r w
 
 -- what a call that fills a buffer a with a picture answers and leaves: all or nothing

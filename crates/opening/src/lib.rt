@@ -5,9 +5,9 @@ ghost use Rattle.opening.specs.declared.Opening.the-variants.{Refused};
 ghost use Rattle.laws.specs.Result.{Res.ok};
 ghost use Rattle.body.specs.Body.{body as bodyOf};
 ghost use Rattle.state.specs.State.{frameLength, zeros};
-ghost use Rattle.bmhd.specs.Header.{headerOf};
-ghost use Rattle.opening.specs.Open.{bodyIn, placesIn, firstPlaces, firstHeader, firstSize, firstDelta, firstPicture, firstOf, sizeOf, MeetsOpen};
-ghost use Rattle.opening.specs.Parts.{givenOf, placesOf, Fills, OpensFirst};
+ghost use Rattle.bmhd.specs.Header.{bmhdOf};
+ghost use Rattle.opening.specs.Open.{bodyIn, placesIn, firstPlaces, firstHeader, frameSize, firstDelta, firstPicture, firstOf, sizeOf, MeetsOpen};
+ghost use Rattle.opening.specs.Parts.{hasBodyOf, placesOf, Fills, OpensFirst};
 use anhd::Anhd;
 use bmhd::Bmhd;
 use bmhd::Header;
@@ -43,15 +43,15 @@ pub enum Size {
     Refused(Refusal),
 }
 
-// Whether the first picture is given as a BODY, or else as a delta; or why there is none.
-enum Given {
+// Whether the first picture stands in a BODY, or else in a delta; or why there is none.
+enum HasBody {
     Picture { body: bool },
     Refused(Refusal),
 }
 
 // Where the first picture stands: the end of FORM ANIM, the place past its FORM, the chunks of that, len bytes from start on, and
 // whether they have a BODY.
-enum Places {
+enum Located {
     At {
         end: usize,
         next: usize,
@@ -78,24 +78,24 @@ fn refused(why: Refusal) -> OpenedFile
 }
 
 // Looks for a BMHD, and a BODY or else a DLTA.
-fn body_in(chunks: &[u8]) -> Given
-    ensures { λ r. ⌜ givenOf r ≡ bodyIn (now (chunks .entry)) ⌝ }
+fn body_in(chunks: &[u8]) -> HasBody
+    ensures { λ r. ⌜ hasBodyOf r ≡ bodyIn (now (chunks .entry)) ⌝ }
 {
     let p = iff::find_pair(chunks, BMHD, BODY);
     let h = p.first;
     let b = p.second;
     match h {
-        Found::Refused(why) => Given::Refused(why),
-        Found::Missing => Given::Refused(Refusal::NoPicture),
+        Found::Refused(why) => HasBody::Refused(why),
+        Found::Missing => HasBody::Refused(Refusal::NoPicture),
         Found::At { start: _, len: _ } => match b {
-            Found::At { start: _, len: _ } => Given::Picture { body: true },
-            Found::Refused(why) => Given::Refused(why),
+            Found::At { start: _, len: _ } => HasBody::Picture { body: true },
+            Found::Refused(why) => HasBody::Refused(why),
             Found::Missing => {
                 let d = iff::find(chunks, DLTA);
                 match d {
-                    Found::Refused(why) => Given::Refused(why),
-                    Found::Missing => Given::Refused(Refusal::NoPicture),
-                    Found::At { start: _, len: _ } => Given::Picture { body: false },
+                    Found::Refused(why) => HasBody::Refused(why),
+                    Found::Missing => HasBody::Refused(Refusal::NoPicture),
+                    Found::At { start: _, len: _ } => HasBody::Picture { body: false },
                 }
             }
         },
@@ -103,19 +103,19 @@ fn body_in(chunks: &[u8]) -> Given
 }
 
 // Finds the first picture in FORM ANIM.
-fn places_in(anim: &[u8]) -> Places
+fn places_in(anim: &[u8]) -> Located
     ensures { λ r. ⌜ placesOf r ≡ placesIn (now (anim .entry)) ⌝ }
 {
     let f = form::next_form(anim, 12);
     match f {
-        Form::Refused(why) => Places::Refused(why),
-        Form::End => Places::Refused(Refusal::NoPicture),
+        Form::Refused(why) => Located::Refused(why),
+        Form::End => Located::Refused(Refusal::NoPicture),
         Form::Ilbm { start, len, next } => {
             let stop = start + len;
             let g = body_in(&anim[start..stop]);
             match g {
-                Given::Refused(why) => Places::Refused(why),
-                Given::Picture { body } => Places::At {
+                HasBody::Refused(why) => Located::Refused(why),
+                HasBody::Picture { body } => Located::At {
                     end: anim.len(),
                     next,
                     start,
@@ -128,22 +128,22 @@ fn places_in(anim: &[u8]) -> Places
 }
 
 // Finds the first picture of a file.
-fn first_places(file: &[u8]) -> Places
+fn first_places(file: &[u8]) -> Located
     ensures { λ r. ⌜ placesOf r ≡ firstPlaces (now (file .entry)) ⌝ }
 {
     if State::MAX_PLACE < file.len() {
-        return Places::Refused(Refusal::FileTooLong);
+        return Located::Refused(Refusal::FileTooLong);
     }
     let o = form::anim_end(file);
     match o {
-        Outer::Refused(why) => Places::Refused(why),
+        Outer::Refused(why) => Located::Refused(why),
         Outer::Ends(end) => places_in(&file[..end]),
     }
 }
 
-// What the first picture's BMHD says; without a BODY, ANHD is asked for before it.
+// What the first picture's BMHD says; without a BODY, ANHD must be there too, and is looked for first.
 fn first_header(chunks: &[u8], body: bool) -> Bmhd
-    ensures { λ r. ⌜ headerOf r ≡ firstHeader (now (chunks .entry)) body ⌝ }
+    ensures { λ r. ⌜ bmhdOf r ≡ firstHeader (now (chunks .entry)) body ⌝ }
 {
     if !body {
         let h = iff::find(chunks, ANHD);
@@ -153,17 +153,17 @@ fn first_header(chunks: &[u8], body: bool) -> Bmhd
             Found::At { start: _, len: _ } => {}
         }
     }
-    bmhd::read_header(iff::contents(chunks, BMHD))
+    bmhd::bitmap_header(iff::contents(chunks, BMHD))
 }
 
 // The length of the first picture's frame, or what refuses it up to and including its BMHD.
 pub fn frame_size(file: &[u8]) -> Size
-    ensures { λ r. ⌜ sizeOf r ≡ firstSize (now (file .entry)) ⌝ }
+    ensures { λ r. ⌜ sizeOf r ≡ frameSize (now (file .entry)) ⌝ }
 {
     let p = first_places(file);
     match p {
-        Places::Refused(why) => Size::Refused(why),
-        Places::At {
+        Located::Refused(why) => Size::Refused(why),
+        Located::At {
             end: _,
             next: _,
             start,
@@ -185,7 +185,7 @@ fn first_delta(a: &mut [u8], anhd: &[u8], dlta: &[u8], sizes: Sizes) -> Filled
     requires { ⌜ frameLength sizes ≡ ok (length (now a)) ⌝ }
     ensures { λ r. ⌜ Fills (firstDelta (now (anhd .entry)) (now (dlta .entry)) sizes) (now (a .entry)) r (now (a .exit)) ⌝ }
 {
-    let h = anhd::read_header(true, sizes.row_bytes(), anhd);
+    let h = anhd::frame_header(true, sizes.row_bytes(), anhd);
     match h {
         Anhd::Refused(why) => Filled::Refused(why),
         Anhd::Header(header) => {
@@ -202,7 +202,7 @@ fn first_delta(a: &mut [u8], anhd: &[u8], dlta: &[u8], sizes: Sizes) -> Filled
 // Fills A with the picture in a BODY, all or nothing.
 fn first_body(a: &mut [u8], body: &[u8], sizes: Sizes, packed: bool) -> Filled
     requires { ⌜ frameLength sizes ≡ ok (length (now a)) ⌝ }
-    ensures { λ r. ⌜ Fills (bodyOf packed sizes (now (body .entry))) (now (a .entry)) r (now (a .exit)) ⌝ }
+    ensures { λ r. ⌜ Fills (bodyOf (now (body .entry)) sizes packed) (now (a .entry)) r (now (a .exit)) ⌝ }
 {
     let u = body::unpack(a, body, sizes, packed);
     match u {
@@ -236,7 +236,7 @@ fn open_picture(
     a: &mut [u8],
     b: &mut [u8],
 ) -> OpenedFile
-    ensures { λ r. ⌜ OpensFirst end next (firstOf (now (chunks .entry)) body (length (now (a .entry))) (length (now (b .entry))))
+    ensures { λ r. ⌜ OpensFirst (firstOf (now (chunks .entry)) body (length (now (a .entry))) (length (now (b .entry)))) next end
         (now (a .entry)) (now (b .entry)) r (record { a = now (a .exit); b = now (b .exit); state = r .state }) ⌝ }
 {
     let h = first_header(chunks, body);
@@ -270,8 +270,8 @@ pub fn open(file: &[u8], a: &mut [u8], b: &mut [u8]) -> OpenedFile
 {
     let p = first_places(file);
     match p {
-        Places::Refused(why) => refused(why),
-        Places::At {
+        Located::Refused(why) => refused(why),
+        Located::At {
             end,
             next,
             start,

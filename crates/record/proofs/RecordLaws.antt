@@ -14,7 +14,7 @@ use Rattle.laws.proofs.PutLaws.{put-then}
 use Rattle.number.specs.Number.{writeNumber}
 use Rattle.runs.specs.Runs.{runsOf, differing}
 use Rattle.runs.proofs.PatchLaws.{count-runs}
-use Rattle.changes.specs.Count.{countOf}
+use Rattle.changes.specs.Count.{count}
 use Rattle.changes.proofs.CountLaws.{runs-counted}
 use Rattle.changes.specs.declared.Counts.{Counts}
 use Rattle.record.specs.RunList.{runsBytes, listBytes}
@@ -31,7 +31,7 @@ module _ {old new : List ℕ} {runs : ℕ} (c : Counted old new runs) where
   unfolding listBytes
   list-put v w = rw (← (c .is)) (put-then v w)
 
-pub counted : (old new : List ℕ) {c : Counts} → length old ≡ length new → length old ≤ 1_048_576 → c ≡ countOf old new → Counted old new (c .runs)
+pub counted : (old new : List ℕ) {c : Counts} → length old ≡ length new → length old ≤ 1_048_576 → c ≡ count old new → Counted old new (c .runs)
 counted old new l s e = let n = runs-counted old new l e in record { one-length = l; short = s; is = n; few = omega (arith, n, count-runs old new) }
 
 module _ (frame place : ℕ) (old new : List ℕ) where
@@ -55,25 +55,25 @@ module _ (frame place : ℕ) (old new : List ℕ) where
 
   -- what recording answers, and what it leaves in the two buffers
   module _ (out : List ℕ) where
-    refused : {n : ℕ} → written frame place old new (length out) ≡ fault n → Commits frame place old new out (fault n) out old
+    refused : {n : ℕ} → written (length out) frame place old new ≡ fault n → Commits out frame place old new (fault n) out old
     refused e = record { answer = sym e; bytes = refl; picture = refl }
 
-    pub two-lengths : length old ≢ length new → Commits frame place old new out (fault 12) out old
+    pub two-lengths : length old ≢ length new → Commits out frame place old new (fault 12) out old
     unfolding written
     two-lengths h = refused (simp (ne-eqb _ _ h))
 
     module _ (l : length old ≡ length new) where
-      pub too-long : 1_048_576 < length old → Commits frame place old new out (fault 12) out old
+      pub too-long : 1_048_576 < length old → Commits out frame place old new (fault 12) out old
       unfolding written
       too-long h = refused (simp (eq-eqb _ _ l, lt-leb _ _ h))
 
       module _ (s : length old ≤ 1_048_576) where
-        pub no-room : length out < length (recordBytes frame place old new) → Commits frame place old new out (fault 51) out old
+        pub no-room : length out < length (recordBytes frame place old new) → Commits out frame place old new (fault 51) out old
         unfolding written
         no-room h = refused (simp (eq-eqb _ _ l, le-leb _ _ s, lt-leb _ _ h))
 
         pub is-written : (left picture : List ℕ) (size changed : ℕ) → length (recordBytes frame place old new) ≤ length out → changed ≡ differing old new
-            → Put out 0 (recordBytes frame place old new) left size → picture ≡ new → Commits frame place old new out (ok (record { length = size; changed = changed })) left picture
+            → Put out 0 (recordBytes frame place old new) left size → picture ≡ new → Commits out frame place old new (ok (record { length = size; changed = changed })) left picture
         unfolding written measure
         is-written left picture size changed h f p q =
             let e : size ≡ length (recordBytes frame place old new) = p .place ∙ zero-add (length (recordBytes frame place old new)) in

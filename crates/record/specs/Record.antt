@@ -1,6 +1,6 @@
 -- The step record (document 01, "Opening, stepping on, stepping back"): the frame number reached, the next place before the step,
 -- and the run list of the hidden picture before and after. It depends on the two pictures and the two numbers only.
-use Prim.Native.Nat.{ℕ}
+use Prim.Native.Nat.{ℕ, _*_}
 use mathlib.Core.List.{List, _++_}
 use mathlib.Core.Option.{Option, some}
 use mathlib.Core.Path.{_≡_}
@@ -31,16 +31,16 @@ unfoldable pub measure : ℕ → ℕ → List ℕ → List ℕ → Measure
 measure frame place old new = record { length = length (recordBytes frame place old new); changed = differing old new }
 
 -- a record written into a buffer of room bytes: 12 for pictures of two lengths or longer than a frame can be, then 51
-unfoldable pub written : ℕ → ℕ → List ℕ → List ℕ → ℕ → Res Measure
-written frame place old new room =
+unfoldable pub written : ℕ → ℕ → ℕ → List ℕ → List ℕ → Res Measure
+written room frame place old new =
     need (eqb (length old) (length new)) 12 >>= λ _.
-    need (leb (length old) 1_048_576) 12 >>= λ _.
+    need (leb (length old) (8 * 1024 * 128)) 12 >>= λ _.
     need (leb (length (recordBytes frame place old new)) room) 51 >>= λ _.
     ok (measure frame place old new)
 
 -- what recording a step answers, and what it leaves in the record buffer, whose bytes past the record stay, and in the hidden one
-pub record Commits (frame place : ℕ) (old new out : List ℕ) (r : Res Measure) (out′ old′ : List ℕ) : Type 0 where
-  pub answer : r ≡ written frame place old new (length out)
+pub record Commits (out : List ℕ) (frame place : ℕ) (old new : List ℕ) (r : Res Measure) (out′ old′ : List ℕ) : Type 0 where
+  pub answer : r ≡ written (length out) frame place old new
   pub bytes : out′ ≡ leaves out (λ m. recordBytes frame place old new ++ drop (length (recordBytes frame place old new)) out) r
   pub picture : old′ ≡ leaves old (λ m. new) r
 

@@ -1,6 +1,6 @@
 // Step records: what a step on changed in the hidden picture, written so that a step back can put it back.
 ghost use mathlib.Core.Path.{_≡_};
-ghost use Prim.Native.Nat.{_+_, _<_, _≤_, _^_};
+ghost use Prim.Native.Nat.{_+_, _*_, _<_, _≤_, _^_};
 ghost use lib.ListN.{length, take, drop};
 ghost use lib.Seq.{sets};
 ghost use Rattle.laws.specs.Result.{pick};
@@ -8,7 +8,7 @@ ghost use Rattle.laws.specs.Put.{Put};
 ghost use Rattle.number.specs.Number.{writeNumber};
 ghost use lib.Dec.{leb};
 ghost use Rattle.runs.specs.Runs.{runsOf};
-ghost use Rattle.changes.specs.Count.{countOf};
+ghost use Rattle.changes.specs.Count.{count};
 ghost use Rattle.record.specs.RunList.{runBytes, runsBytes, listBytes};
 ghost use Rattle.record.specs.Record.{pictureBytes, Commits, recordedOf};
 ghost use Rattle.record.specs.Walk.{Counted};
@@ -28,15 +28,15 @@ pub enum Recorded {
 
 // How many bytes a run is written in.
 fn run_length(gap: usize, count: usize) -> usize
-    requires { ⌜ gap + count ≤ 1048576 ⌝ }
+    requires { ⌜ gap + count ≤ 8 * 1024 * 128 ⌝ }
     ensures { λ r. ⌜ (r ≡ length (writeNumber gap) + length (writeNumber count) + count) × (r ≤ 10 + count) ⌝ }
 {
-    number::length(gap as u32) + number::length(count as u32) + count
+    number::written_length(gap as u32) + number::written_length(count as u32) + count
 }
 
 // How many bytes the runs of two pictures of one length are written in.
 fn measure(old: &[u8], new: &[u8]) -> usize
-    requires { ⌜ (length (now old) ≡ length (now new)) × (length (now old) ≤ 1048576) ⌝ }
+    requires { ⌜ (length (now old) ≡ length (now new)) × (length (now old) ≤ 8 * 1024 * 128) ⌝ }
     ensures { λ r. ⌜ r ≡ length (runsBytes (runsOf (now (old .entry)) (now (new .entry)))) ⌝ }
 {
     let mut at = 0;
@@ -56,7 +56,7 @@ fn measure(old: &[u8], new: &[u8]) -> usize
 // Whether the runs of two pictures, which were counted, are written in at most room bytes. They are measured only if that is in doubt:
 // a number takes at most one byte, and one more for each 128 that it says.
 fn runs_fit(counts: Counts, old: &[u8], new: &[u8], room: usize) -> bool
-    requires { ⌜ (length (now old) ≡ length (now new)) × (length (now old) ≤ 1048576) × (counts ≡ countOf (now old) (now new)) ⌝ }
+    requires { ⌜ (length (now old) ≡ length (now new)) × (length (now old) ≤ 8 * 1024 * 128) × (counts ≡ count (now old) (now new)) ⌝ }
     ensures { λ r. ⌜ r ≡ leb (length (runsBytes (runsOf (now (old .entry)) (now (new .entry))))) room ⌝ }
 {
     if 2 * counts.runs + counts.changed + old.len() / 128 <= room {
@@ -77,8 +77,8 @@ fn put_number(out: &mut [u8], at: usize, n: u32) -> usize
     }
 }
 
-// Copies count bytes from a place of src to a place of dst, if they are wanted. Unlike `copies::copy_part` it asks no lengths: a light step
-// would take longer.
+// Copies count bytes from a place of src to a place of dst, if they are wanted. Unlike `copies::copy_part` it
+// compares no lengths: a step with few changes would take longer.
 fn replace(dst: &mut [u8], to: usize, src: &[u8], from: usize, count: usize, wanted: bool)
     requires { ⌜ (to + count ≤ length (now dst)) × (from + count ≤ length (now src)) ⌝ }
     ensures { λ _. ⌜ now (dst .exit) ≡ pick wanted (sets (now (dst .entry)) to (take count (drop from (now (src .entry))))) (now (dst .entry)) ⌝ }
@@ -110,7 +110,7 @@ fn put_run(out: &mut [u8], at: usize, gap: usize, old: &[u8], start: usize, coun
 // Writes the runs of two pictures at a place of out where they fit, and answers the place after them. If commit is true, each run's new
 // bytes are put into the old picture.
 fn put_runs(out: &mut [u8], from: usize, old: &mut [u8], new: &[u8], commit: bool) -> usize
-    requires { ⌜ (length (now old) ≡ length (now new)) × (length (now old) ≤ 1048576)
+    requires { ⌜ (length (now old) ≡ length (now new)) × (length (now old) ≤ 8 * 1024 * 128)
         × (from + length (runsBytes (runsOf (now old) (now new))) ≤ length (now out)) ⌝ }
     ensures { λ r. ⌜ Put (now (out .entry)) from (runsBytes (runsOf (now (old .entry)) (now (new .entry)))) (now (out .exit)) r
         × (now (old .exit) ≡ pick commit (now (new .entry)) (now (old .entry))) ⌝ }
@@ -171,7 +171,7 @@ fn put_picture(
 // Records a step: writes the frame number reached, the next place before it and the runs of the hidden picture before and after,
 // and makes the hidden picture the new one. A refusal leaves both as they are.
 pub fn commit(out: &mut [u8], frame: u32, place: u32, old: &mut [u8], new: &[u8]) -> Recorded
-    ensures { λ r. ⌜ Commits frame place (now (old .entry)) (now (new .entry)) (now (out .entry)) (recordedOf r) (now (out .exit)) (now (old .exit)) ⌝ }
+    ensures { λ r. ⌜ Commits (now (out .entry)) frame place (now (old .entry)) (now (new .entry)) (recordedOf r) (now (out .exit)) (now (old .exit)) ⌝ }
 {
     if old.len() != new.len() {
         return Recorded::Refused(Refusal::BufferLength);
@@ -181,7 +181,9 @@ pub fn commit(out: &mut [u8], frame: u32, place: u32, old: &mut [u8], new: &[u8]
     }
     let counts = count(old, new);
     let runs = counts.runs;
-    let head = number::length(frame) + number::length(place) + number::length(runs as u32);
+    let head = number::written_length(frame)
+        + number::written_length(place)
+        + number::written_length(runs as u32);
     if out.len() < head {
         return Recorded::Refused(Refusal::NoRoom);
     }

@@ -16,7 +16,7 @@ use Rattle.runs.specs.Runs.{patch}
 use Rattle.record.specs.RunList.{Runs, readList, runsBack, beforeOf}
 use Rattle.record.specs.Record.{Past, pastOf, restored}
 use Rattle.restore.specs.Restored.{Restores}
-use Rattle.restore.specs.Walk.{Walked, Stopped, Took, pastFrom, belonging, LeadsTo}
+use Rattle.restore.specs.Walk.{Walked, Stopped, Took, pastFrom, belongs, LeadsTo}
 use Rattle.restore.specs.declared.Taken.{Taken}
 use Rattle.restore.specs.declared.Taken.the-variants.{Ends, Bad}
 
@@ -36,11 +36,11 @@ module _ {bytes : List ℕ} {frame next : ℕ} (f : Found bytes 0 frame next) wh
 
 -- a run list that was checked
 module _ (s : List ℕ) {shown shown′ : List ℕ} where
-  list-bad : Stopped false shown (readList (length shown) s) shown′ → beforeOf s shown ≡ none
+  list-bad : Stopped shown (readList (length shown) s) false shown′ → beforeOf s shown ≡ none
   unfolding beforeOf
   list-bad w = w .bad refl
 
-  list-good : {rest : List ℕ} (w : Walked false shown (readList (length shown) s) rest shown′) → beforeOf s shown ≡ some (record { buffer = patch (w .runs) shown; rest = rest })
+  list-good : {rest : List ℕ} (w : Walked shown (readList (length shown) s) false rest shown′) → beforeOf s shown ≡ some (record { buffer = patch (w .runs) shown; rest = rest })
   unfolding beforeOf runsBack
   list-good w = rw (w .read, w .good refl)
 
@@ -51,20 +51,20 @@ module _ (bytes shown : List ℕ) (frame next : ℕ) where
   bad-record e = simp e
 
   -- 62
-  belongs : (p : Past) (a b c d : Bool)
+  belongs-is : (p : Past) (a b c d : Bool)
       → (need a 62 >>= λ _. need b 62 >>= λ _. need c 62 >>= λ _. need d 62 >>= λ _. ok p) ≡ pick (pick a (pick b (pick c d false) false) false) (ok p) (fault 62)
-  belongs p true true true true = refl
-  belongs p true true true false = refl
-  belongs p true true false d = refl
-  belongs p true false c d = refl
-  belongs p false b c d = refl
+  belongs-is p true true true true = refl
+  belongs-is p true true true false = refl
+  belongs-is p true true false d = refl
+  belongs-is p true false c d = refl
+  belongs-is p false b c d = refl
 
   module _ (reached place list : ℕ) (h : pastOf bytes shown ≡ pastFrom reached place (beforeOf (drop list bytes) shown)) {shown′ : List ℕ} where
-    pub bad-runs : Stopped false shown (readList (length shown) (drop list bytes)) shown′ → restored bytes shown frame next ≡ fault 61
+    pub bad-runs : Stopped shown (readList (length shown) (drop list bytes)) false shown′ → restored bytes shown frame next ≡ fault 61
     unfolding pastFrom
     bad-runs w = bad-record (h ∙ rw (list-bad (drop list bytes) w))
 
-    module _ {end : ℕ} (w : Walked false shown (readList (length shown) (drop list bytes)) (drop end bytes) shown′) where
+    module _ {end : ℕ} (w : Walked shown (readList (length shown) (drop list bytes)) false (drop end bytes) shown′) where
       pub left-over : end < length bytes → restored bytes shown frame next ≡ fault 61
       unfolding pastFrom
       left-over l = bad-record (h ∙ rw (list-good (drop list bytes) w, ne-eqb (length (drop end bytes)) 0 (λ z. absurd (omega (arith, length-drop end bytes)))))
@@ -74,18 +74,18 @@ module _ (bytes shown : List ℕ) (frame next : ℕ) where
         unfolding pastFrom
         whole = h ∙ rw (list-good (drop list bytes) w, eq-eqb (length (drop end bytes)) 0 (omega (arith, length-drop end bytes)))
 
-        pub not-its-own : belonging reached place frame next ≡ false → restored bytes shown frame next ≡ fault 62
+        pub not-its-own : belongs reached place frame next ≡ false → restored bytes shown frame next ≡ fault 62
         unfolding restored
-        not-its-own b = simp whole (belongs _ (leb 2 reached) (eqb reached frame) (leb 12 place) (ltb place next) ∙ rw b)
+        not-its-own b = simp whole (belongs-is _ (leb 2 reached) (eqb reached frame) (leb 12 place) (ltb place next) ∙ rw b)
 
-        pub leads-to : belonging reached place frame next ≡ true → LeadsTo bytes shown frame next place list
+        pub leads-to : belongs reached place frame next ≡ true → LeadsTo bytes shown frame next place list
         unfolding restored
         leads-to b = record {
           reached = reached;
           runs = w .runs;
           rest = drop end bytes;
           read = w .read;
-          is = simp whole (belongs _ (leb 2 reached) (eqb reached frame) (leb 12 place) (ltb place next) ∙ rw b);
+          is = simp whole (belongs-is _ (leb 2 reached) (eqb reached frame) (leb 12 place) (ltb place next) ∙ rw b);
         }
 
   -- what restoring answers, and the picture that it leaves
@@ -93,11 +93,11 @@ module _ (bytes shown : List ℕ) (frame next : ℕ) where
   is-kept e k = record { answer = rw e; picture = k ∙ rw e }
 
   pub is-back : {place list : ℕ} {shown₁ : List ℕ} → LeadsTo bytes shown frame next place list → shown₁ ≡ shown → (shown′ : List ℕ) (r : Taken)
-      → Took true bytes shown₁ (readList (length shown₁) (drop list bytes)) shown′ r → Restores bytes shown frame next (ok place) shown′
+      → Took shown₁ bytes (readList (length shown₁) (drop list bytes)) true shown′ r → Restores bytes shown frame next (ok place) shown′
   is-back {list = list} l k shown′ (Ends end) t =
-      let w : Walked true shown (readList (length shown) (drop list bytes)) (drop end bytes) shown′ = rw k at t in
+      let w : Walked shown (readList (length shown) (drop list bytes)) true (drop end bytes) shown′ = rw k at t in
       let e : w .runs ≡ l .runs = ap (λ (m : Runs). m .runs) (some-same (sym (w .read) ∙ l .read)) in
       record { answer = rw (l .is); picture = w .left ∙ rw (l .is, e) }
   is-back {list = list} l k shown′ Bad t =
-      let w : Stopped true shown (readList (length shown) (drop list bytes)) shown′ = rw k at t in
+      let w : Stopped shown (readList (length shown) (drop list bytes)) true shown′ = rw k at t in
       none-some (sym (w .unread refl) ∙ l .read)

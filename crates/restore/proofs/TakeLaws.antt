@@ -18,7 +18,7 @@ use Rattle.record.specs.RunList.{Runs, readRun, readRuns, readList, runsBack}
 use Rattle.restore.specs.Walk.{RunFound, RunTaken, Walked, Stopped}
 
 -- what can't be read isn't taken
-pub none-taken : {putting : Bool} {f f′ : List ℕ} {whole : Option Runs} → whole ≡ none → (putting ≡ false → f′ ≡ f) → Stopped putting f whole f′
+pub none-taken : {putting : Bool} {f f′ : List ℕ} {whole : Option Runs} → whole ≡ none → (putting ≡ false → f′ ≡ f) → Stopped f whole putting f′
 none-taken e k = record { unread = λ p. e; bad = λ p. rw e; kept = k }
 
 -- the number of runs at a place, and what follows from it
@@ -71,7 +71,7 @@ take-starts putting {f = f} =
     record { runs = []; reached = refl; size = refl; inside = omega arith; same = rw z (front-none _); good = λ e. refl; buffer = pick-both (λ (g : List ℕ). f ≡ g) putting (unfold patch in refl) refl }
 
 module _ {putting : Bool} {bytes f₀ f : List ℕ} {whole : Option Runs} {at place least left : ℕ} (w : Taking putting bytes f₀ whole f at place least left) where
-  pub take-ends : left ≡ 0 → Walked putting f₀ whole (drop at bytes) f
+  pub take-ends : left ≡ 0 → Walked f₀ whole putting (drop at bytes) f
   unfolding readRuns
   take-ends e = record { runs = w .runs; read = w .same ∙ rw (e, append-nil (w .runs)); good = w .good; left = w .buffer }
 
@@ -82,7 +82,7 @@ module _ {putting : Bool} {bytes f₀ f : List ℕ} {whole : Option Runs} {at pl
     more-left : left ≡ suc (left - 1)
     more-left = omega arith
 
-    pub take-faulty : readRun least (length f - place) (drop at bytes) ≡ none → Stopped putting f₀ whole f
+    pub take-faulty : readRun least (length f - place) (drop at bytes) ≡ none → Stopped f₀ whole putting f
     unfolding readRuns
     take-faulty e = none-taken (w .same ∙ rw (more-left, ← (w .size), e)) kept-so-far
 
@@ -115,11 +115,11 @@ module _ {putting : Bool} {bytes f₀ f : List ℕ} {whole : Option Runs} {at pl
       unfolding allDiffer old next
       next-differ p = differ-append (w .runs) (next ∷ []) f₀ ∙ rw (w .good p, ← (w .reached), drop-drop gap place f₀) (and-true _)
 
-      module _ {r : Bool} {f′ : List ℕ} (t : RunTaken putting (take n (drop start bytes)) (place + gap) f f′ r) where
+      module _ {r : Bool} {f′ : List ℕ} (t : RunTaken f (place + gap) (take n (drop start bytes)) putting f′ r) where
         differs-so : putting ≡ false → r ≡ differ (take n (drop start bytes)) (drop (place + gap) f₀)
         differs-so p = t .is ∙ rw (p, kept-so-far p)
 
-        pub take-equal : r ≡ false → Stopped putting f₀ whole f′
+        pub take-equal : r ≡ false → Stopped f₀ whole putting f′
         unfolding old
         take-equal e = record {
           unread = λ p. false-true (sym e ∙ t .is ∙ rw p);

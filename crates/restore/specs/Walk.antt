@@ -33,27 +33,27 @@ RunAt bytes at least room (Whole gap count start) = RunFound bytes at least room
 RunAt bytes at least room Faulty = readRun least room (drop at bytes) ≡ none
 
 -- the bytes of a run at a place: put back, or compared with those that they replace
-pub record RunTaken (putting : Bool) (old : List ℕ) (to : ℕ) (f f′ : List ℕ) (r : Bool) : Type 0 where
+pub record RunTaken (f : List ℕ) (to : ℕ) (old : List ℕ) (putting : Bool) (f′ : List ℕ) (r : Bool) : Type 0 where
   pub is : r ≡ pick putting true (differ old (drop to f))
   pub left : f′ ≡ pick putting (sets f to old) f
 
 -- runs were taken whole
-pub record Walked (putting : Bool) (f : List ℕ) (whole : Option Runs) (rest f′ : List ℕ) : Type 0 where
+pub record Walked (f : List ℕ) (whole : Option Runs) (putting : Bool) (rest f′ : List ℕ) : Type 0 where
   pub runs : List Run
   pub read : whole ≡ some (record { runs = runs; rest = rest })
   pub good : putting ≡ false → allDiffer runs f ≡ true
   pub left : f′ ≡ pick putting (patch runs f) f
 
 -- they were not
-pub record Stopped (putting : Bool) (f : List ℕ) (whole : Option Runs) (f′ : List ℕ) : Type 0 where
+pub record Stopped (f : List ℕ) (whole : Option Runs) (putting : Bool) (f′ : List ℕ) : Type 0 where
   pub unread : putting ≡ true → whole ≡ none
   pub bad : putting ≡ false → whole >>? runsBack f ≡ none
   pub kept : putting ≡ false → f′ ≡ f
 
 -- what taking runs answers and leaves in a buffer, where the definition reads `whole`
-abbrev pub Took : Bool → List ℕ → List ℕ → Option Runs → List ℕ → Taken → Type 0
-Took putting bytes f whole f′ (Ends next) = Walked putting f whole (drop next bytes) f′
-Took putting bytes f whole f′ Bad = Stopped putting f whole f′
+abbrev pub Took : List ℕ → List ℕ → Option Runs → Bool → List ℕ → Taken → Type 0
+Took f bytes whole putting f′ (Ends next) = Walked f whole putting (drop next bytes) f′
+Took f bytes whole putting f′ Bad = Stopped f whole putting f′
 
 -- what a record leads back to, by its two numbers and what its run list restores
 unfoldable pub pastFrom : ℕ → ℕ → Option Before → Option Past
@@ -68,8 +68,8 @@ HeaderAt bytes (Numbers frame place list) = (shown : List ℕ) → pastOf bytes 
 HeaderAt bytes Short = (shown : List ℕ) → pastOf bytes shown ≡ none
 
 -- a record's frame is the state's and not the first, and its place is from 12 on and before the state's next place
-abbrev pub belonging : ℕ → ℕ → ℕ → ℕ → Bool
-belonging reached place frame next = pick (leb 2 reached) (pick (eqb reached frame) (pick (leb 12 place) (ltb place next) false) false) false
+abbrev pub belongs : ℕ → ℕ → ℕ → ℕ → Bool
+belongs reached place frame next = pick (leb 2 reached) (pick (eqb reached frame) (pick (leb 12 place) (ltb place next) false) false) false
 
 -- a record leads back to a place by its run list, or is refused
 pub record LeadsTo (bytes shown : List ℕ) (frame next place list : ℕ) : Type 0 where

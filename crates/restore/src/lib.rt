@@ -5,7 +5,7 @@ ghost use lib.ListN.{length, take, drop};
 ghost use Rattle.runs.specs.Runs.{differ};
 ghost use Rattle.record.specs.RunList.{readRuns, readList};
 ghost use Rattle.restore.specs.Restored.{Restores, restoredOf};
-ghost use Rattle.restore.specs.Walk.{RunAt, RunTaken, Took, HeaderAt, belonging, LeadsBack};
+ghost use Rattle.restore.specs.Walk.{RunAt, RunTaken, Took, HeaderAt, belongs, LeadsBack};
 use copies::copy_part;
 use number::Parsed;
 use refusal::Refusal;
@@ -86,7 +86,7 @@ fn take_run(
     putting: bool,
 ) -> bool
     requires { ⌜ (start + count ≤ length (now bytes)) × (to + count ≤ length (now shown)) ⌝ }
-    ensures { λ r. ⌜ RunTaken putting (take count (drop start (now (bytes .entry)))) to (now (shown .entry)) (now (shown .exit)) r ⌝ }
+    ensures { λ r. ⌜ RunTaken (now (shown .entry)) to (take count (drop start (now (bytes .entry)))) putting (now (shown .exit)) r ⌝ }
 {
     if putting {
         copy_part(shown, to, bytes, start, count, true);
@@ -103,7 +103,7 @@ enum Taken {
 
 // Takes so many runs from a place of a record on: puts them back into a buffer, or only checks them against it.
 fn take_runs(shown: &mut [u8], bytes: &[u8], from: usize, count: usize, putting: bool) -> Taken
-    ensures { λ r. ⌜ Took putting (now (bytes .entry)) (now (shown .entry)) (readRuns count 0 (length (now (shown .entry))) (drop from (now (bytes .entry))))
+    ensures { λ r. ⌜ Took (now (shown .entry)) (now (bytes .entry)) (readRuns count 0 (length (now (shown .entry))) (drop from (now (bytes .entry)))) putting
         (now (shown .exit)) r ⌝ }
 {
     let mut at = from;
@@ -131,7 +131,7 @@ fn take_runs(shown: &mut [u8], bytes: &[u8], from: usize, count: usize, putting:
 
 // Takes the run list at a place of a record.
 fn take_list(shown: &mut [u8], bytes: &[u8], at: usize, putting: bool) -> Taken
-    ensures { λ r. ⌜ Took putting (now (bytes .entry)) (now (shown .entry)) (readList (length (now (shown .entry))) (drop at (now (bytes .entry))))
+    ensures { λ r. ⌜ Took (now (shown .entry)) (now (bytes .entry)) (readList (length (now (shown .entry))) (drop at (now (bytes .entry)))) putting
         (now (shown .exit)) r ⌝ }
 {
     let n = number::read(bytes, at);
@@ -173,7 +173,7 @@ fn read_header(bytes: &[u8]) -> Header
 
 // Whether a record belongs to a state: its frame is the state's and not the first, its place is from 12 on and before the next place.
 fn belongs(reached: usize, place: usize, frame: usize, next: usize) -> bool
-    ensures { λ r. ⌜ r ≡ belonging reached place frame next ⌝ }
+    ensures { λ r. ⌜ r ≡ belongs reached place frame next ⌝ }
 {
     if reached < 2 {
         return false;

@@ -22,23 +22,23 @@ use Rattle.roundtrip.proofs.NeverNone.{never-none}
 use Rattle.roundtrip.proofs.CallLaws.{delta-written, delta-stands, new-made}
 
 -- where there is room it is written
-pub written-fits : (z : Sizes) (old new out : List ℕ) (x : Res ℕ) (out′ : List ℕ) → Writes z old new out x out′ → frameLength z ≡ ok (length old) → length new ≡ length old
-    → length (deltaBytes z old new) ≤ length out → x ≡ ok (length (deltaBytes z old new))
+pub written-fits : (z : Sizes) (old new out : List ℕ) (x : Res ℕ) (out′ : List ℕ) → Writes out old new z x out′ → frameLength z ≡ ok (length old) → length new ≡ length old
+    → length (deltaBytes old new z) ≤ length out → x ≡ ok (length (deltaBytes old new z))
 unfolding written
 written-fits z old new out x out′ m e w h =
-    m .answers ∙ simp (e, eq-eqb (length old) (length old) refl, eq-eqb (length new) (length old) w, le-leb (length (deltaBytes z old new)) (length out) h)
+    m .answers ∙ simp (e, eq-eqb (length old) (length old) refl, eq-eqb (length new) (length old) w, le-leb (length (deltaBytes old new z)) (length out) h)
 
-module _ (z : Sizes) (old new out : List ℕ) (n : ℕ) (out′ : List ℕ) (m : Writes z old new out (ok n) out′) where
+module _ (z : Sizes) (old new out : List ℕ) (n : ℕ) (out′ : List ℕ) (m : Writes out old new z (ok n) out′) where
   -- the ops of the first n bytes of the output buffer make the new picture of the old one
   pub delta-makes : (ops : List Op) × (readDelta (shapeOf z Bytes) (take n out′) ≡ ok ops) × (draw (shapeOf z Bytes) (take n out′) ops old ≡ new)
   delta-makes =
       rw (delta-stands z old new out n out′ m)
-      (made-of (readDelta (shapeOf z Bytes) (deltaBytes z old new)) (delta-turns z (length old) old new (each-is (delta-written z old new out n out′ m .sizes) (sizes-sound z)) refl (delta-written z old new out n out′ m .same)))
+      (made-of (readDelta (shapeOf z Bytes) (deltaBytes old new z)) (delta-turns z (length old) old new (each-is (delta-written z old new out n out′ m .sizes) (sizes-sound z)) refl (delta-written z old new out n out′ m .same)))
 
   -- and so does a call that applies them to the old one
-  pub applied-new : (work : List ℕ) (x : Res ℕ) (work′ : List ℕ) → length work ≡ length old → Applies z Bytes (take n out′) old work x work′ → (answer x ≡ ok tt) × (work′ ≡ new)
+  pub applied-new : (work : List ℕ) (x : Res ℕ) (work′ : List ℕ) → length work ≡ length old → Applies work old (take n out′) z Bytes x work′ → (answer x ≡ ok tt) × (work′ ≡ new)
   applied-new work x work′ l p =
-      let e : newFrame z Bytes (take n out′) old (length work) ≡ ok new = rw l (new-made z old new out n out′ m) in
+      let e : newFrame (length work) old (take n out′) z Bytes ≡ ok new = rw l (new-made z old new out n out′ m) in
       (ap answer (p .counts) ∙ same-answer z Bytes (take n out′) old (length work) ∙ ap answer e, p .leaves ∙ ap (orKeep work) e)
 
   -- no Uniq and no Same of none is among the ops of the delta

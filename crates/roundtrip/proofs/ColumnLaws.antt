@@ -12,11 +12,11 @@ use borrow.Author.Tests.{le-leb}
 use Rattle.laws.specs.Result.{Res, Res.ok}
 use Rattle.laws.specs.Every.{Every}
 use Rattle.laws.proofs.EveryLaws.{every-head, every-tail, every-more}
-use Rattle.column_writer.specs.Column.{Op, Op.skip, Op.uniq, Op.same, opBytes, opsBytes, Valid}
+use Rattle.column_writer.specs.Column.{WrittenOp, WrittenOp.skip, WrittenOp.uniq, WrittenOp.same, opBytes, opsBytes, Valid}
 use Rattle.writer.specs.Write.{columnAt}
 use Rattle.writer.proofs.ColumnLaws.{length-column, column-ext}
-use Rattle.delta.specs.Reading.{Op as Stroke, Reading}
-use Rattle.delta.specs.Column.{noRows, skip as skipRows, fill, Kind, kindOf, opAs, readOp, readOps}
+use Rattle.delta.specs.Reading.{Op, Reading}
+use Rattle.delta.specs.Column.{noRows, skipRows, fill, OpKind, opKindOf, opAs, readOp, readOps}
 use Rattle.delta.specs.Delta.{put, draw}
 use Rattle.delta.proofs.DeltaLaws.{draw-append, kind-skip, kind-uniq, op-kind, same-fill}
 use Rattle.delta.specs.None.{HasRows}
@@ -111,12 +111,12 @@ head d p x t e = go (omega (arith, length-drop p d, ap length e))
         let z : getD d p 0 ∷ drop (suc p) d ≡ x ∷ t = sym (drop-cons d p 0 h) ∙ e in
         record { within = h; is = cc; after = cc }
 
-length-passed : (o : Op) (c : List ℕ) → reach o ≤ length c → length (passed o c) ≡ reach o
+length-passed : (o : WrittenOp) (c : List ℕ) → reach o ≤ length c → length (passed o c) ≡ reach o
 length-passed (skip n) c h = omega (arith, length-take n c)
 length-passed (uniq vs) c h = refl
 length-passed (same n x) c h = length-replicate n x
 
-pub length-passedAll : (os : List Op) (c : List ℕ) → reachAll os ≤ length c → length (passedAll os c) ≡ reachAll os
+pub length-passedAll : (os : List WrittenOp) (c : List ℕ) → reachAll os ≤ length c → length (passedAll os c) ≡ reachAll os
 unfolding passedAll reachAll
 length-passedAll [] c h = refl
 length-passedAll (o ∷ os) c h =
@@ -129,18 +129,18 @@ bytewise row height planes = record { item = 1; inline = true; words = false; ro
 
 module _ (row height planes : ℕ) (d first : List ℕ) where
   -- ops that make the frame f of the first one, with no Uniq or Same of none among them
-  pub record Makes (ops : List Stroke) (f : List ℕ) : Type 0 where
+  pub record Makes (ops : List Op) (f : List ℕ) : Type 0 where
     pub drawn : draw (bytewise row height planes) d ops first ≡ f
     pub rows : Every HasRows ops
 
-  makes-skip : {ops : List Stroke} {f : List ℕ} → Makes ops f → Makes (ops ++ (noRows ∷ [])) f
+  makes-skip : {ops : List Op} {f : List ℕ} → Makes ops f → Makes (ops ++ (noRows ∷ [])) f
   unfolding draw put
   makes-skip {ops} {f} m = record {
     drawn = draw-append (bytewise row height planes) d ops (noRows ∷ []) first ∙ m .drawn;
     rows = every-more (m .rows) (λ h. absurd (omega arith));
   }
 
-  makes-more : {ops : List Stroke} {f g : List ℕ} (o : Stroke) → Makes ops f → 0 < o .count → put 1 row (o .step) d (o .count) (o .from) (o .place) f ≡ g → Makes (ops ++ (o ∷ [])) g
+  makes-more : {ops : List Op} {f g : List ℕ} (o : Op) → Makes ops f → 0 < o .count → put 1 row (o .step) d (o .count) (o .from) (o .place) f ≡ g → Makes (ops ++ (o ∷ [])) g
   unfolding draw
   makes-more {ops} {f} o m h e = record {
     drawn = draw-append (bytewise row height planes) d ops (o ∷ []) first ∙ rw (m .drawn) e;
@@ -171,10 +171,10 @@ module _ (row height planes : ℕ) (s1 : 1 ≤ row) (d : List ℕ) (first : List
   moved c {p} {p′} {done} {done′} a e l = rw (← e, ← l) a
 
   -- the op at a place, by the byte that stands there
-  op-at : (c : Reading) {p x : ℕ} {t : List ℕ} {k : Kind} → c .opAt ≡ p → Head d p x t → kindOf x ≡ k → readOp (bytewise row height planes) d base c ≡ opAs (bytewise row height planes) d base c k
+  op-at : (c : Reading) {p x : ℕ} {t : List ℕ} {k : OpKind} → c .opAt ≡ p → Head d p x t → opKindOf x ≡ k → readOp (bytewise row height planes) d base c ≡ opAs (bytewise row height planes) d base c k
   op-at c {k = k} e h q = op-kind (bytewise row height planes) d base c (rw e (h .within)) {k = k} (rw (e, h .is) q)
 
-  op-is : (o : Op) (c : Reading) (p : ℕ) (done s : List ℕ) → At c p done → Valid o → length done + reach o ≤ height → drop p d ≡ opBytes o ++ s
+  op-is : (o : WrittenOp) (c : Reading) (p : ℕ) (done s : List ℕ) → At c p done → Valid o → length done + reach o ≤ height → drop p d ≡ opBytes o ++ s
       → Goes (readOp (bytewise row height planes) d base c) (p + length (opBytes o)) (done ++ passed o (drop (length done) col))
   unfolding skipRows fill col Valid opBytes
   op-is (skip n) c p done s a v h e =
@@ -202,7 +202,7 @@ module _ (row height planes : ℕ) (s1 : 1 ≤ row) (d : List ℕ) (first : List
       let l : p + 1 + length vs * 1 ≤ length d = omega (arith, length-drop (p + 1) d, ap length k, length-append vs s) in
       let w : take (length vs) (drop (p + 1) d) ≡ vs = rw k (take-append-seam vs s) in
       let r : 128 + length vs - 128 ≡ length vs = omega arith in
-      let o : Stroke = record { place = base + length done * row; count = length vs; from = p + 1; step = 1 } in
+      let o : Op = record { place = base + length done * row; count = length vs; from = p + 1; step = 1 } in
       record {
         to = record { opAt = p + 1 + length vs * 1; itemAt = c .itemAt; line = length done + length vs; ops = c .ops ++ (o ∷ []) };
         reads =
@@ -221,7 +221,7 @@ module _ (row height planes : ℕ) (s1 : 1 ≤ row) (d : List ℕ) (first : List
       let h2 : Head d (p + 1) n (x ∷ s) = head d (p + 1) n (x ∷ s) (rw (add-one p) (hd .after)) in
       let h3 : Head d (p + 2) x s = head d (p + 2) x s (rw (add-two p) (rw (add-one p) at (h2 .after))) in
       let l : p + 2 + 1 ≤ length d = omega (arith, h3 .within) in
-      let o : Stroke = record { place = base + length done * row; count = n; from = p + 2; step = 0 } in
+      let o : Op = record { place = base + length done * row; count = n; from = p + 2; step = 0 } in
       record {
         to = record { opAt = p + 2 + 1; itemAt = c .itemAt; line = length done + n; ops = c .ops ++ (o ∷ []) };
         reads =
@@ -237,7 +237,7 @@ module _ (row height planes : ℕ) (s1 : 1 ≤ row) (d : List ℕ) (first : List
       }
 
   -- the ops that are written for a column
-  pub ops-are : (os : List Op) (c : Reading) (p : ℕ) (done s : List ℕ) → At c p done → Every Valid os → length done + reachAll os ≤ height → drop p d ≡ opsBytes os ++ s
+  pub ops-are : (os : List WrittenOp) (c : Reading) (p : ℕ) (done s : List ℕ) → At c p done → Every Valid os → length done + reachAll os ≤ height → drop p d ≡ opsBytes os ++ s
       → Goes (readOps (bytewise row height planes) d base (length os) c) (p + length (opsBytes os)) (done ++ passedAll os (drop (length done) col))
   unfolding readOps opsBytes reachAll passedAll
   ops-are [] c p done s a v h e = record { to = c; reads = refl; at = rw (append-nil done, add-zero p) a }

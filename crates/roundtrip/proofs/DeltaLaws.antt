@@ -18,13 +18,13 @@ use Rattle.state.specs.declared.Sizes.{Sizes}
 use Rattle.state.specs.State.{rowBytes, frameBytes, Sound}
 use Rattle.column_writer.specs.Column.{columnBytes}
 use Rattle.writer.proofs.DeltaRoom.{lists-few}
-use Rattle.writer.specs.Write.{columnIn, columnsBytes, equal, planeBytes, be32Bytes, pointerOf, pointersBytes, listsBytes, deltaBytes}
+use Rattle.writer.specs.Write.{columnIn, columnsBytes, planesEqual, planeBytes, be32Bytes, planePointer, pointersBytes, listsBytes, deltaBytes}
 use Rattle.writer.proofs.PlaneLaws.{length-be32, pointers-length, plane-unchanged, plane-changed}
 use Rattle.writer.proofs.ColumnLaws.{column-ext}
 use Rattle.delta.proofs.DeltaLaws.{plane-same, plane-columns}
 use Rattle.delta.specs.Reading.{Op, Reading, shapeOf}
 use Rattle.delta.specs.Column.{readColumns}
-use Rattle.delta.specs.Delta.{pointer, readPlane, readPlanes, readPicture, readDelta, draw}
+use Rattle.delta.specs.Delta.{listPointer, readPlane, readPlanes, readPicture, readDelta, draw}
 use Rattle.anhd.specs.declared.Items.the-variants.{Bytes}
 use Rattle.roundtrip.proofs.ColumnLaws.{bytewise, Makes}
 use Rattle.roundtrip.proofs.PlaneLaws.{paint, length-paint, paint-out, paint-in, columns-are}
@@ -69,14 +69,14 @@ module _ (row height : ℕ) (s1 : 1 ≤ row) (old new : List ℕ) where
           let a : at ≤ j = ltb-false j at b in
           v .after j a ∙ sym (part old j a k) ∙ ap (λ (l : List ℕ). getD l (j - at) 0) e ∙ part new j a k
 
-equal-eq : (s t : List ℕ) → equal s t ≡ true → s ≡ t
-unfolding equal
+equal-eq : (s t : List ℕ) → planesEqual s t ≡ true → s ≡ t
+unfolding planesEqual
 equal-eq [] [] e = refl
 equal-eq [] (b ∷ t) e = never (cc)
 equal-eq (a ∷ s) [] e = never (cc)
 equal-eq (a ∷ s) (b ∷ t) e = go (eqb a b) refl e (equal-eq s t)
   where
-    go : (u : Bool) → eqb a b ≡ u → (elim u as (λ _. Bool) [ true ↦ equal s t | false ↦ false ]) ≡ true → (equal s t ≡ true → s ≡ t) → a ∷ s ≡ b ∷ t
+    go : (u : Bool) → eqb a b ≡ u → (elim u as (λ _. Bool) [ true ↦ planesEqual s t | false ↦ false ]) ≡ true → (planesEqual s t ≡ true → s ≡ t) → a ∷ s ≡ b ∷ t
     go true q e ih = rw (eqb-true a b q, ih e)
     go false q e ih = never (cc)
 
@@ -88,8 +88,8 @@ be32-at xs ys n p e h =
     let l : List ℕ = be32Bytes n ++ ys in
     rw (← e) (rw (getD-append-seam xs (n / 16777216 % 256) (n / 65536 % 256 ∷ n / 256 % 256 ∷ n % 256 ∷ ys) 0, getD-append-add xs l 1 0, getD-append-add xs l 2 0, getD-append-add xs l 3 0) (four-bytes n h))
 
-pointer-le : (place : ℕ) (l : List ℕ) → pointerOf place l ≤ place
-unfolding pointerOf
+pointer-le : (place : ℕ) (l : List ℕ) → planePointer place l ≤ place
+unfolding planePointer
 pointer-le place [] = omega arith
 pointer-le place (b ∷ l) = omega arith
 
@@ -97,7 +97,7 @@ pointer-le place (b ∷ l) = omega arith
 plane-some : (row height planes : ℕ) (d : List ℕ) (p a : ℕ) (c to : Reading) → be32 d (4 * p) ≡ a → 64 ≤ a → a ≤ length d
     → (at : ℕ) → at ≡ p * (height * row) → readColumns (bytewise row height planes) d row at (record { opAt = a; itemAt = 0; line = 0; ops = c .ops }) ≡ ok to
     → readPlane (bytewise row height planes) d p c ≡ ok to
-unfolding pointer
+unfolding listPointer
 plane-some row height planes d p a c to e h k at ea r =
     plane-columns (bytewise row height planes) d p c (λ z. omega arith) {a = a} {b = 0} (rw e (simp (le-leb 64 a h, le-leb a (length d) k))) refl refl ∙ rw (div-one row, ← ea) r
 
@@ -106,7 +106,7 @@ module _ (row height planes : ℕ) (s1 : 1 ≤ row) (d first old new : List ℕ)
   Layout : ℕ → ℕ → ℕ → ℕ → Type 0
   Layout zero p at place = Unit {0}
   Layout (suc k) p at place =
-      (be32 d (4 * p) ≡ pointerOf place (planeBytes old new row height at)) × (64 ≤ place) × (place ≤ length d)
+      (be32 d (4 * p) ≡ planePointer place (planeBytes old new row height at)) × (64 ≤ place) × (place ≤ length d)
       × (s : List ℕ) × (drop place d ≡ planeBytes old new row height at ++ s)
       × Layout k (p + 1) (at + height * row) (place + length (planeBytes old new row height at))
 
@@ -122,20 +122,20 @@ module _ (row height planes : ℕ) (s1 : 1 ≤ row) (d first old new : List ℕ)
     reads : readPlane (bytewise row height planes) d p c ≡ ok to
     made : Made to (at + height * row)
 
-  some-bytes : (k at : ℕ) → 1 ≤ k → (place : ℕ) → pointerOf place (columnsBytes old new row height k at) ≡ place
-  unfolding columnsBytes columnIn columnBytes pointerOf
+  some-bytes : (k at : ℕ) → 1 ≤ k → (place : ℕ) → planePointer place (columnsBytes old new row height k at) ≡ place
+  unfolding columnsBytes columnIn columnBytes planePointer
   some-bytes zero at h place = absurd (omega arith)
   some-bytes (suc k) at h place = refl
 
   plane-is : (p at place : ℕ) (c : Reading) (s : List ℕ) → at ≡ p * (height * row) → at + height * row ≤ length new → Made c at
-      → be32 d (4 * p) ≡ pointerOf place (planeBytes old new row height at) → 64 ≤ place → place ≤ length d → drop place d ≡ planeBytes old new row height at ++ s
+      → be32 d (4 * p) ≡ planePointer place (planeBytes old new row height at) → 64 ≤ place → place ≤ length d → drop place d ≡ planeBytes old new row height at ++ s
       → Done p at c
-  plane-is p at place c s ea hn m eb h1 h2 e = go (equal (take (height * row) (drop at old)) (take (height * row) (drop at new))) refl
+  plane-is p at place c s ea hn m eb h1 h2 e = go (planesEqual (take (height * row) (drop at old)) (take (height * row) (drop at new))) refl
     where
       same-plane : planeBytes old new row height at ≡ [] → take (height * row) (drop at old) ≡ take (height * row) (drop at new) → Done p at c
       same-plane q u = record {
         to = c;
-        reads = plane-same (bytewise row height planes) d p c (eb ∙ rw q (unfold pointerOf in refl));
+        reads = plane-same (bytewise row height planes) d p c (eb ∙ rw q (unfold planePointer in refl));
         made = record { frame = m .frame; makes = m .makes; half = half-equal row height s1 old new at (m .frame) u (m .half) };
       }
 
@@ -150,7 +150,7 @@ module _ (row height planes : ℕ) (s1 : 1 ≤ row) (d first old new : List ℕ)
             made = record { frame = paint new row height row at (m .frame); makes = g .stands .makes; half = half-paint row height s1 old new at (m .frame) hn (m .half) };
           }
 
-      go : (t : Bool) → equal (take (height * row) (drop at old)) (take (height * row) (drop at new)) ≡ t → Done p at c
+      go : (t : Bool) → planesEqual (take (height * row) (drop at old)) (take (height * row) (drop at new)) ≡ t → Done p at c
       go true q = same-plane (plane-unchanged old new row height at refl q) (equal-eq _ _ q)
       go false q = new-plane (plane-changed old new row height at refl q)
 
@@ -179,7 +179,7 @@ module _ (row height planes : ℕ) (s1 : 1 ≤ row) (d first old new : List ℕ)
   layout-is zero p at place xs ys zs hd h e1 l1 e2 l2 = tt
   layout-is (suc k) p at place xs ys zs hd h e1 l1 e2 l2 =
       let L : List ℕ = planeBytes old new row height at in
-      let n : ℕ = pointerOf place L in
+      let n : ℕ = planePointer place L in
       let P : List ℕ = pointersBytes old new row height k (at + height * row) (place + length L) in
       let R : List ℕ = listsBytes old new row height k (at + height * row) in
       let e1′ : d ≡ xs ++ (be32Bytes n ++ (P ++ ys)) = e1 ∙ ap (λ (l : List ℕ). xs ++ l) (append-assoc (be32Bytes n) P ys) in
@@ -197,8 +197,8 @@ module _ (row height planes : ℕ) (s1 : 1 ≤ row) (d first old new : List ℕ)
 -- a delta that is written can be read; its ops make the new picture of the old one, with no Uniq or Same of none among them
 pub record Reads (z : Sizes) (old new : List ℕ) : Type 0 where
   pub ops : List Op
-  pub reads : readDelta (shapeOf z Bytes) (deltaBytes z old new) ≡ ok ops
-  pub makes : Makes (rowBytes (z .width)) (z .height) (z .planes) (deltaBytes z old new) old ops new
+  pub reads : readDelta (shapeOf z Bytes) (deltaBytes old new z) ≡ ok ops
+  pub makes : Makes (rowBytes (z .width)) (z .height) (z .planes) (deltaBytes old new z) old ops new
 
 pub delta-reads : (z : Sizes) (n : ℕ) (old new : List ℕ) → Sound z n → length old ≡ n → length new ≡ n → Reads z old new
 unfolding readDelta readPicture deltaBytes frameBytes

@@ -15,5 +15,5 @@ use Rattle.anhd.specs.declared.Items.the-variants.{Bytes}
 use Rattle.roundtrip.proofs.DeltaLaws.{delta-reads}
 
 pub never-none : (z : Sizes) (n : ℕ) (old new : List ℕ) → Sound z n → length old ≡ n → length new ≡ n
-    → (ops : List Op) × (readDelta (shapeOf z Bytes) (deltaBytes z old new) ≡ ok ops) × Every HasRows ops
+    → (ops : List Op) × (readDelta (shapeOf z Bytes) (deltaBytes old new z) ≡ ok ops) × Every HasRows ops
 never-none z n old new b lo ln = let w = delta-reads z n old new b lo ln in (w .ops, w .reads, w .makes .rows)

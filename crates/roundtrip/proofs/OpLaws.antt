@@ -10,34 +10,34 @@ use lib.ListN.{length, take, drop, replicate, length-append, length-drop, length
 use lib.Seq.{take-add, drop-drop, drop-length}
 use Rattle.runs.specs.Runs.{Run, runsOf, patch, Fit}
 use Rattle.runs.proofs.PatchLaws.{patch-runs, fit-new}
-use Rattle.column_writer.specs.Column.{Op, Op.skip, Op.uniq, Op.same, Group, groupsOf, loose, stretch, restOf, uniqs, cut, cutAll, opsOf, columnOps}
+use Rattle.column_writer.specs.Column.{WrittenOp, WrittenOp.skip, WrittenOp.uniq, WrittenOp.same, Group, groupsOf, joinUniq, stretchOps, restOf, uniqs, cut, cutAll, opsOf, columnOps}
 use Rattle.column_writer.proofs.ColumnLaws.{flat, flat-groups, column-case}
 
 -- what an op makes of the rows that it passes, and how many these are
-abbrev pub reach : Op → ℕ
+abbrev pub reach : WrittenOp → ℕ
 reach (skip n) = n
 reach (uniq vs) = length vs
 reach (same n v) = n
 
-abbrev pub passed : Op → List ℕ → List ℕ
+abbrev pub passed : WrittenOp → List ℕ → List ℕ
 passed (skip n) c = take n c
 passed (uniq vs) c = vs
 passed (same n v) c = replicate n v
 
-unfoldable pub reachAll : List Op → ℕ
+unfoldable pub reachAll : List WrittenOp → ℕ
 reachAll [] = 0
 reachAll (o ∷ os) = reach o + reachAll os
 
-unfoldable pub passedAll : List Op → List ℕ → List ℕ
+unfoldable pub passedAll : List WrittenOp → List ℕ → List ℕ
 passedAll [] c = []
 passedAll (o ∷ os) c = passed o c ++ passedAll os (drop (reach o) c)
 
-reach-append : (os ps : List Op) → reachAll (os ++ ps) ≡ reachAll os + reachAll ps
+reach-append : (os ps : List WrittenOp) → reachAll (os ++ ps) ≡ reachAll os + reachAll ps
 unfolding reachAll
 reach-append [] ps = sym (zero-add (reachAll ps))
 reach-append (o ∷ os) ps = ap (λ (n : ℕ). reach o + n) (reach-append os ps) ∙ sym (add-assoc (reach o) (reachAll os) (reachAll ps))
 
-passed-append : (os ps : List Op) (c : List ℕ) → passedAll (os ++ ps) c ≡ passedAll os c ++ passedAll ps (drop (reachAll os) c)
+passed-append : (os ps : List WrittenOp) (c : List ℕ) → passedAll (os ++ ps) c ≡ passedAll os c ++ passedAll ps (drop (reachAll os) c)
 unfolding passedAll reachAll
 passed-append [] ps c = refl
 passed-append (o ∷ os) ps c =
@@ -45,23 +45,23 @@ passed-append (o ∷ os) ps c =
     ∙ simp (append-assoc, drop-drop)
 
 -- two lists of ops that do the same
-record Alike (os ps : List Op) : Type 0 where
+record Alike (os ps : List WrittenOp) : Type 0 where
   far : reachAll os ≡ reachAll ps
   out : (c : List ℕ) → passedAll os c ≡ passedAll ps c
 
-alike-refl : (os : List Op) → Alike os os
+alike-refl : (os : List WrittenOp) → Alike os os
 alike-refl os = record { far = refl; out = λ c. refl }
 
-alike-trans : {os ps qs : List Op} → Alike os ps → Alike ps qs → Alike os qs
+alike-trans : {os ps qs : List WrittenOp} → Alike os ps → Alike ps qs → Alike os qs
 alike-trans p q = record { far = p .far ∙ q .far; out = λ c. p .out c ∙ q .out c }
 
-alike-append : {os os′ ps ps′ : List Op} → Alike os os′ → Alike ps ps′ → Alike (os ++ ps) (os′ ++ ps′)
+alike-append : {os os′ ps ps′ : List WrittenOp} → Alike os os′ → Alike ps ps′ → Alike (os ++ ps) (os′ ++ ps′)
 alike-append {os} {os′} {ps} {ps′} p q = record {
   far = rw (reach-append os ps, reach-append os′ ps′, p .far, q .far) refl;
   out = λ c. rw (passed-append os ps c, passed-append os′ ps′ c, p .out c, p .far) (ap (λ (l : List ℕ). passedAll os′ c ++ l) (q .out (drop (reachAll os′) c)));
 }
 
-alike-cons : (o : Op) {os ps : List Op} → Alike os ps → Alike (o ∷ os) (o ∷ ps)
+alike-cons : (o : WrittenOp) {os ps : List WrittenOp} → Alike os ps → Alike (o ∷ os) (o ∷ ps)
 unfolding reachAll passedAll
 alike-cons o p = record { far = ap (λ (n : ℕ). reach o + n) (p .far); out = λ c. ap (λ (l : List ℕ). passed o c ++ l) (p .out (drop (reach o) c)) }
 
@@ -79,7 +79,7 @@ unfolding reachAll passedAll
 two-uniqs a b = record { far = omega (arith, length-append a b); out = λ c. sym (append-assoc a b []) }
 
 -- cutting changes nothing: k ops of w rows and the rest, for Skips and Sames alike
-module _ (P : ℕ → Op) (none-alike : Alike [] (P 0 ∷ [])) (two : (a b : ℕ) → Alike (P a ∷ P b ∷ []) (P (a + b) ∷ [])) where
+module _ (P : ℕ → WrittenOp) (none-alike : Alike [] (P 0 ∷ [])) (two : (a b : ℕ) → Alike (P a ∷ P b ∷ []) (P (a + b) ∷ [])) where
   rest-alike : (r : ℕ) → Alike (restOf r (P r)) (P r ∷ [])
   unfolding restOf
   rest-alike zero = none-alike
@@ -111,24 +111,24 @@ uniqs-alike (suc k) (v ∷ vs) h =
     rw (take-append-drop 127 (v ∷ vs)) at
     (alike-trans (alike-cons (uniq (take 127 (v ∷ vs))) (uniqs-alike k (drop 127 (v ∷ vs)) (omega (arith, length-drop 127 (v ∷ vs))))) (two-uniqs (take 127 (v ∷ vs)) (drop 127 (v ∷ vs))))
 
-cut-alike : (o : Op) → Alike (cut o) (o ∷ [])
+cut-alike : (o : WrittenOp) → Alike (cut o) (o ∷ [])
 unfolding cut
 cut-alike (skip n) = whole-alike skip no-skip two-skips 127 n
 cut-alike (uniq vs) = uniqs-alike (length vs) vs (omega arith)
 cut-alike (same n v) = whole-alike (λ k. same k v) (no-same v) (two-sames v) 255 n
 
-cut-all-alike : (os : List Op) → Alike (cutAll os) os
+cut-all-alike : (os : List WrittenOp) → Alike (cutAll os) os
 unfolding cutAll
 cut-all-alike [] = alike-refl []
 cut-all-alike (o ∷ os) = alike-append (cut-alike o) (cut-all-alike os)
 
 -- a stretch puts its rows
-loose-alike : (vs : List ℕ) (os : List Op) → Alike (loose vs os) (uniq vs ∷ os)
-unfolding loose
-loose-alike vs [] = alike-refl (uniq vs ∷ [])
-loose-alike vs (skip n ∷ os) = alike-refl (uniq vs ∷ skip n ∷ os)
-loose-alike vs (same n v ∷ os) = alike-refl (uniq vs ∷ same n v ∷ os)
-loose-alike vs (uniq ws ∷ os) = record {
+join-uniq-alike : (vs : List ℕ) (os : List WrittenOp) → Alike (joinUniq vs os) (uniq vs ∷ os)
+unfolding joinUniq
+join-uniq-alike vs [] = alike-refl (uniq vs ∷ [])
+join-uniq-alike vs (skip n ∷ os) = alike-refl (uniq vs ∷ skip n ∷ os)
+join-uniq-alike vs (same n v ∷ os) = alike-refl (uniq vs ∷ same n v ∷ os)
+join-uniq-alike vs (uniq ws ∷ os) = record {
   far = unfold reachAll in omega (arith, length-append vs ws);
   out = λ c. unfold passedAll in simp (append-assoc, length-append, drop-drop);
 }
@@ -138,22 +138,22 @@ same-alike : (n v : ℕ) → Alike (same n v ∷ []) (uniq (replicate n v) ∷ [
 unfolding reachAll passedAll
 same-alike n v = record { far = omega (arith, length-replicate n v); out = λ c. refl }
 
-stretch-alike : (gs : List Group) → Alike (stretch gs) (uniq (flat gs) ∷ [])
-unfolding stretch flat
+stretch-alike : (gs : List Group) → Alike (stretchOps gs) (uniq (flat gs) ∷ [])
+unfolding stretchOps flat
 stretch-alike [] = record { far = unfold reachAll in refl; out = λ c. unfold passedAll in refl }
 stretch-alike (g ∷ gs) = go (leb 4 (g .rows)) refl (stretch-alike gs)
   where
-    go : (t : Bool) → leb 4 (g .rows) ≡ t → Alike (stretch gs) (uniq (flat gs) ∷ []) → Alike (stretch (g ∷ gs)) (uniq (replicate (g .rows) (g .value) ++ flat gs) ∷ [])
-    go true e ih = rw (e, stretch) (alike-trans (alike-append (same-alike (g .rows) (g .value)) ih) (two-uniqs (replicate (g .rows) (g .value)) (flat gs)))
+    go : (t : Bool) → leb 4 (g .rows) ≡ t → Alike (stretchOps gs) (uniq (flat gs) ∷ []) → Alike (stretchOps (g ∷ gs)) (uniq (replicate (g .rows) (g .value) ++ flat gs) ∷ [])
+    go true e ih = rw (e, stretchOps) (alike-trans (alike-append (same-alike (g .rows) (g .value)) ih) (two-uniqs (replicate (g .rows) (g .value)) (flat gs)))
     go false e ih =
-        rw (e, stretch) (alike-trans (loose-alike (replicate (g .rows) (g .value)) (stretch gs))
+        rw (e, stretchOps) (alike-trans (join-uniq-alike (replicate (g .rows) (g .value)) (stretchOps gs))
         (alike-trans (alike-cons (uniq (replicate (g .rows) (g .value))) ih) (two-uniqs (replicate (g .rows) (g .value)) (flat gs))))
 
 -- the ops of a column's stretches do what its runs do
-unfoldable pub column : List Op → List ℕ → List ℕ
+unfoldable pub column : List WrittenOp → List ℕ → List ℕ
 column os c = passedAll os c ++ drop (reachAll os) c
 
-alike-column : {os ps : List Op} → Alike os ps → (c : List ℕ) → column os c ≡ column ps c
+alike-column : {os ps : List WrittenOp} → Alike os ps → (c : List ℕ) → column os c ≡ column ps c
 unfolding column
 alike-column p c = rw (p .out c, p .far)
 
@@ -161,14 +161,14 @@ run-alike : (r : Run) (rs : List Run) → Alike (opsOf (r ∷ rs)) (skip (r .gap
 unfolding opsOf
 run-alike r rs =
     alike-append
-    (alike-trans (cut-all-alike (skip (r .gap) ∷ stretch (groupsOf (r .bytes)))) (alike-cons (skip (r .gap)) (rw flat-groups at (stretch-alike (groupsOf (r .bytes))))))
+    (alike-trans (cut-all-alike (skip (r .gap) ∷ stretchOps (groupsOf (r .bytes)))) (alike-cons (skip (r .gap)) (rw flat-groups at (stretch-alike (groupsOf (r .bytes))))))
     (alike-refl (opsOf rs))
 
 column-none : (c : List ℕ) → column (opsOf []) c ≡ c
 unfolding column opsOf reachAll passedAll
 column-none c = refl
 
-column-run : (g : ℕ) (vs : List ℕ) (os : List Op) (c : List ℕ) → column (skip g ∷ uniq vs ∷ os) c ≡ take g c ++ vs ++ column os (drop (g + length vs) c)
+column-run : (g : ℕ) (vs : List ℕ) (os : List WrittenOp) (c : List ℕ) → column (skip g ∷ uniq vs ∷ os) c ≡ take g c ++ vs ++ column os (drop (g + length vs) c)
 unfolding column reachAll passedAll
 column-run g vs os c = simp (append-assoc, drop-drop, add-assoc)
 
@@ -189,7 +189,7 @@ uniqs-column old new h = alike-column (uniqs-alike (length new) new (omega arith
 
 -- the ops of a column make the new one of the old one
 pub column-new : (old new : List ℕ) → length old ≡ length new → column (columnOps old new) old ≡ new
-column-new old new h = column-case (λ (os : List Op). column os old ≡ new) old new (ops-patch (runsOf new old) old ∙ patch-runs new old (sym h)) (uniqs-column old new h)
+column-new old new h = column-case (λ (os : List WrittenOp). column os old ≡ new) old new (ops-patch (runsOf new old) old ∙ patch-runs new old (sym h)) (uniqs-column old new h)
 
 -- the ops end within the column
 reach-ops : (rs : List Run) (least room : ℕ) → Fit least room rs → reachAll (opsOf rs) ≤ room
@@ -202,4 +202,4 @@ reach-ops (r ∷ rs) least room f =
 pub reach-column : (old new : List ℕ) → length old ≡ length new → reachAll (columnOps old new) ≤ length old
 reach-column old new h =
     let all : reachAll (uniqs (length new) new) ≡ length new + 0 = uniqs-alike (length new) new (omega arith) .far ∙ unfold reachAll in refl in
-    column-case (λ (os : List Op). reachAll os ≤ length old) old new (reach-ops (runsOf new old) 0 (length old) (fit-new new old)) (omega arith)
+    column-case (λ (os : List WrittenOp). reachAll os ≤ length old) old new (reach-ops (runsOf new old) 0 (length old) (fit-new new old)) (omega arith)

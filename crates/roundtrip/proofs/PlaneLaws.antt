@@ -11,7 +11,7 @@ use lib.ListN.{length, getD, take, drop, set, length-append, length-drop, length
 use lib.Seq.{getD-set-same, drop-drop, drop-append-seam, take-all}
 use borrow.Author.Tests.{ltb-true, ltb-false}
 use Rattle.laws.specs.Result.{Res, Res.ok}
-use Rattle.column_writer.specs.Column.{Op, columnOps, opsBytes, columnBytes}
+use Rattle.column_writer.specs.Column.{WrittenOp, columnOps, opsBytes, columnBytes}
 use Rattle.column_writer.proofs.ValidColumn.{valid-column}
 use Rattle.writer.specs.Write.{columnAt, columnIn, columnsBytes}
 use Rattle.delta.specs.Reading.{Reading}
@@ -22,7 +22,7 @@ use Rattle.roundtrip.proofs.OpLaws.{reachAll, passedAll, reach-column, 
 use Rattle.roundtrip.proofs.ColumnLaws.{putColumn, length-putColumn, getD-put-other, put-kept, length-passedAll, Head, head, bytewise, Makes, col, At, ops-are}
 
 -- the new column, put at once
-put-new : (row height : ℕ) → 1 ≤ row → (f new : List ℕ) (base : ℕ) (os : List Op)
+put-new : (row height : ℕ) → 1 ≤ row → (f new : List ℕ) (base : ℕ) (os : List WrittenOp)
     → reachAll os ≤ height
     → column os (columnAt f row base height) ≡ columnAt new row base height
     → putColumn f row base (passedAll os (columnAt f row base height)) ≡ putColumn f row base (columnAt new row base height)
@@ -106,7 +106,7 @@ module _ (row height planes : ℕ) (s1 : 1 ≤ row) (d first old new : List ℕ)
   column-is at p c f s w a e =
       let oc : List ℕ = columnAt old row at height in
       let nc : List ℕ = columnAt new row at height in
-      let os : List Op = columnOps oc nc in
+      let os : List WrittenOp = columnOps oc nc in
       let lo : length oc ≡ height = length-column old row at height in
       let ln : length nc ≡ height = length-column new row at height in
       let hd : Head d p (length os) (opsBytes os ++ s) = head d p (length os) (opsBytes os ++ s) e in

@@ -10,7 +10,7 @@ use lib.ListN.{length, getD, drop, drop-of-length-le}
 use lib.Seq.{drop-cons}
 use borrow.Author.Tests.{eq-eqb, ne-eqb}
 use Rattle.runs.specs.Runs.{Run, kept, changed, runsOf}
-use Rattle.runs.specs.Front.{runsAt, front, behind, later}
+use Rattle.runs.specs.Front.{runsAt, front, afterFront, later}
 
 -- one element in front of two lists
 pub runs-kept : (a b : ℕ) (old new : List ℕ) → eqb a b ≡ true → runsOf (a ∷ old) (b ∷ new) ≡ kept (runsOf old new)
@@ -47,20 +47,20 @@ module _ (old new : List ℕ) (i : ℕ) (h : i < length old) (l : length new ≡
   unfolding runsAt
   changed-at e = runs-front ∙ runs-changed _ _ _ _ (ne-eqb _ _ e)
 
-pub changed-is : (a : ℕ) (rs : List Run) → changed a rs ≡ record { gap = 0; bytes = a ∷ front rs } ∷ behind rs
-unfolding changed front behind
+pub changed-is : (a : ℕ) (rs : List Run) → changed a rs ≡ record { gap = 0; bytes = a ∷ front rs } ∷ afterFront rs
+unfolding changed front afterFront
 changed-is a [] = refl
 changed-is a (r ∷ rs) = go (eqb (r .gap) 0) refl
   where
-    go : (t : Bool) → eqb (r .gap) 0 ≡ t → changed a (r ∷ rs) ≡ record { gap = 0; bytes = a ∷ front (r ∷ rs) } ∷ behind (r ∷ rs)
-    go true e = rw (e, changed, front, behind)
-    go false e = rw (e, changed, front, behind)
+    go : (t : Bool) → eqb (r .gap) 0 ≡ t → changed a (r ∷ rs) ≡ record { gap = 0; bytes = a ∷ front (r ∷ rs) } ∷ afterFront (r ∷ rs)
+    go true e = rw (e, changed, front, afterFront)
+    go false e = rw (e, changed, front, afterFront)
 
 pub front-changed : (a : ℕ) (rs : List Run) → front (changed a rs) ≡ a ∷ front rs
 front-changed a rs = rw (changed-is a rs) (unfold front in refl)
 
-pub behind-changed : (a : ℕ) (rs : List Run) → behind (changed a rs) ≡ behind rs
-behind-changed a rs = rw (changed-is a rs) (unfold behind in refl)
+pub after-front-changed : (a : ℕ) (rs : List Run) → afterFront (changed a rs) ≡ afterFront rs
+after-front-changed a rs = rw (changed-is a rs) (unfold afterFront in refl)
 
 pub front-kept : (rs : List Run) → front (kept rs) ≡ []
 unfolding front kept

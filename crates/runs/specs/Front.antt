@@ -15,9 +15,9 @@ unfoldable pub front : List Run → List ℕ
 front [] = []
 front (r ∷ rs) = elim (eqb (r .gap) 0) [ true ↦ r .bytes | false ↦ [] ]
 
-unfoldable pub behind : List Run → List Run
-behind [] = []
-behind (r ∷ rs) = elim (eqb (r .gap) 0) [ true ↦ rs | false ↦ r ∷ rs ]
+unfoldable pub afterFront : List Run → List Run
+afterFront [] = []
+afterFront (r ∷ rs) = elim (eqb (r .gap) 0) [ true ↦ rs | false ↦ r ∷ rs ]
 
 -- n unchanged elements in front of the runs
 unfoldable pub later : ℕ → List Run → List Run

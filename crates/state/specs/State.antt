@@ -73,9 +73,9 @@ pub record Sound (z : Sizes) (n : ℕ) : Type 0 where
   pub planes-most : z .planes ≤ 8
   pub row-least : 2 ≤ rowBytes (z .width)
   pub row-most : rowBytes (z .width) ≤ 128
-  pub plane-most : z .height * rowBytes (z .width) ≤ 131072
+  pub plane-most : z .height * rowBytes (z .width) ≤ 1024 * 128
   pub length : n ≡ frameBytes z
-  pub length-most : n ≤ 1048576
+  pub length-most : n ≤ 8 * 1024 * 128
 
 -- what proofs use of a state within the limits
 pub record SoundState (s : State) (n : ℕ) : Type 0 where

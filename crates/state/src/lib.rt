@@ -32,7 +32,7 @@ pub enum Length {
     Refused(Refusal),
 }
 
-fn within(x: usize, least: usize, most: usize) -> bool
+fn within(least: usize, most: usize, x: usize) -> bool
     ensures { λ r. ⌜ r ≡ within least most x ⌝ }
 {
     if x < least {
@@ -53,13 +53,13 @@ impl Sizes {
     pub fn frame_length(self) -> Length
         ensures { λ r. ⌜ lengthOf r ≡ frameLength self ⌝ }
     {
-        if !within(self.width, 1, State::MAX_WIDTH) {
+        if !within(1, State::MAX_WIDTH, self.width) {
             return Length::Refused(Refusal::OutsideLimits);
         }
-        if !within(self.height, 1, State::MAX_HEIGHT) {
+        if !within(1, State::MAX_HEIGHT, self.height) {
             return Length::Refused(Refusal::OutsideLimits);
         }
-        if !within(self.planes, 1, State::MAX_PLANES) {
+        if !within(1, State::MAX_PLANES, self.planes) {
             return Length::Refused(Refusal::OutsideLimits);
         }
         let plane = self.height * self.row_bytes();
@@ -128,10 +128,10 @@ impl State {
     pub fn frame_length(self) -> Length
         ensures { λ r. ⌜ lengthOf r ≡ stateLength self ⌝ }
     {
-        if !within(self.frame, 1, State::MAX_FRAME) {
+        if !within(1, State::MAX_FRAME, self.frame) {
             return Length::Refused(Refusal::OutsideLimits);
         }
-        if !within(self.next, State::MIN_PLACE, self.end) {
+        if !within(State::MIN_PLACE, self.end, self.next) {
             return Length::Refused(Refusal::OutsideLimits);
         }
         if State::MAX_PLACE < self.end {

@@ -35,29 +35,29 @@ module _ (s : State) (x : Frame) (shown hidden work : List ℕ) (j : Fits s (len
   basis-length : length (basis (x .header) shown hidden) ≡ length hidden
   basis-length = pick-both (λ (f : List ℕ). length f ≡ length hidden) (eqb (x .header .interleave) 1) (sym (j .same) ∙ k .same) refl
 
-  change-is : change (s .sizes) x shown hidden ≡ newFrame (s .sizes) (x .header .items) (x .dlta) (basis (x .header) shown hidden) (length work)
+  change-is : change (s .sizes) x shown hidden ≡ newFrame (length work) (basis (x .header) shown hidden) (x .dlta) (s .sizes) (x .header .items)
   unfolding change newFrame
   change-is = rw (frame-delta (s .sizes) (x .header .items) (x .dlta) (length (basis (x .header) shown hidden)) (length work) (k .sizes) basis-length (k .same) c)
 
-  pub build-refused : {why : Refusal} {work′ : List ℕ} → Applies (s .sizes) (x .header .items) (x .dlta) (basis (x .header) shown hidden) work (fault (numberOf why)) work′
+  pub build-refused : {why : Refusal} {work′ : List ℕ} → Applies work (basis (x .header) shown hidden) (x .dlta) (s .sizes) (x .header .items) (fault (numberOf why)) work′
       → Looks (build (s .sizes) shown hidden (some x)) work (AheadRefused why) work′
   build-refused p = let e = new-refused p in rw (change-is, e) (record { answer = refl; drawn = p .leaves ∙ rw e })
 
-  pub build-drawn : {n : ℕ} {work′ : List ℕ} → Applies (s .sizes) (x .header .items) (x .dlta) (basis (x .header) shown hidden) work (ok n) work′
+  pub build-drawn : {n : ℕ} {work′ : List ℕ} → Applies work (basis (x .header) shown hidden) (x .dlta) (s .sizes) (x .header .items) (ok n) work′
       → Looks (build (s .sizes) shown hidden (some x)) work (AheadBuilt (x .next) (x .header)) work′
   build-drawn p = rw (change-is, new-drawn p) (record { answer = refl; drawn = refl })
 
 -- the next frame of FORM ANIM
 module _ (anim : List ℕ) (s : State) (shown hidden work : List ℕ) where
-  pub look-refused : {why : Refusal} → frameAt anim (rowBytes (s .sizes .width)) (s .next) ≡ fault (numberOf why) → Looks (look anim s shown hidden) work (AheadRefused why) work
+  pub look-refused : {why : Refusal} → frameAt anim (s .next) (rowBytes (s .sizes .width)) ≡ fault (numberOf why) → Looks (look anim s shown hidden) work (AheadRefused why) work
   unfolding look
   look-refused e = rw e (record { answer = refl; drawn = refl })
 
-  pub look-ended : frameAt anim (rowBytes (s .sizes .width)) (s .next) ≡ ok none → Looks (look anim s shown hidden) work AheadEnd work
+  pub look-ended : frameAt anim (s .next) (rowBytes (s .sizes .width)) ≡ ok none → Looks (look anim s shown hidden) work AheadEnd work
   unfolding look
   look-ended e = rw e (record { answer = refl; drawn = refl })
 
-  pub look-built : {x : Frame} {d : List ℕ} {r : Ahead} {work′ : List ℕ} → frameAt anim (rowBytes (s .sizes .width)) (s .next) ≡ ok (some x) → d ≡ x .dlta
+  pub look-built : {x : Frame} {d : List ℕ} {r : Ahead} {work′ : List ℕ} → frameAt anim (s .next) (rowBytes (s .sizes .width)) ≡ ok (some x) → d ≡ x .dlta
       → Looks (build (s .sizes) shown hidden (some (frameOf (x .next) (x .header) d))) work r work′ → Looks (look anim s shown hidden) work r work′
   unfolding look change
   look-built e i q = rw e (rw i at q)
@@ -87,7 +87,7 @@ pub ahead-fits : (file : List ℕ) (w : World) (work : List ℕ) {next : ℕ} {h
 ahead-fits file w work k l = let p = each-is (sym (k .answer)) (ahead-passed file w (length work)) in (rw l at (p .onA), rw l at (p .onB))
 
 module _ (w : World) (f rec : List ℕ) {q : Res Measure} {rec′ p : List ℕ} {n : ℕ} (en : n ≡ suc (w .state .frame)) where
-  pub hidden-odd : isOdd (w .state .frame) ≡ true → Commits n (w .state .next) (w .b) f rec q rec′ p → CommitsHidden w f rec q (w .a) p rec′
+  pub hidden-odd : isOdd (w .state .frame) ≡ true → Commits rec n (w .state .next) (w .b) f q rec′ p → CommitsHidden w f rec q (w .a) p rec′
   unfolding hiddenIn
   hidden-odd h c = record { answer = rw h (rw en at (c .answer)); bytes = rw h (rw en at (c .bytes)); pictures = go q (c .picture) }
     where
@@ -95,7 +95,7 @@ module _ (w : World) (f rec : List ℕ) {q : Res Measure} {rec′ p : List ℕ} 
       go (ok m) e = unfold withHidden in rw (h, e)
       go (fault m) e = rw e
 
-  pub hidden-even : isOdd (w .state .frame) ≡ false → Commits n (w .state .next) (w .a) f rec q rec′ p → CommitsHidden w f rec q p (w .b) rec′
+  pub hidden-even : isOdd (w .state .frame) ≡ false → Commits rec n (w .state .next) (w .a) f q rec′ p → CommitsHidden w f rec q p (w .b) rec′
   unfolding hiddenIn
   hidden-even h c = record { answer = rw h (rw en at (c .answer)); bytes = rw h (rw en at (c .bytes)); pictures = go q (c .picture) }
     where
@@ -109,7 +109,7 @@ module _ (w : World) (x : Built) (rec : List ℕ) (j : Fits (w .state) (length (
   bytes = recordOf (w .state) (hiddenIn w) (x .picture)
 
   writes : ℕ → Res Measure
-  writes room = written (suc (w .state .frame)) (w .state .next) (hiddenIn w) (x .picture) room
+  writes room = written room (suc (w .state .frame)) (w .state .next) (hiddenIn w) (x .picture)
 
   hidden-fits : Fits (w .state) (length (hiddenIn w)) (length (x .picture))
   unfolding hiddenIn

@@ -1,5 +1,5 @@
 -- What the parts of a step on answer and leave.
-use Prim.Native.Nat.{ℕ, _<_, _≤_, suc}
+use Prim.Native.Nat.{ℕ, _<_, _≤_, suc, _*_}
 use mathlib.Core.Path.{_≡_}
 use mathlib.Core.List.{List, _++_}
 use lib.ListN.{length, drop}
@@ -24,7 +24,7 @@ readyOf (Refused why) = fault (numberOf why)
 pub record Fits (s : State) (picture work : ℕ) : Type 0 where
   pub sizes : frameLength (s .sizes) ≡ ok picture
   pub same : work ≡ picture
-  pub short : picture ≤ 1_048_576
+  pub short : picture ≤ 8 * 1024 * 128
   pub few : s .frame < 1_000_000
   pub place : s .next ≤ 2_147_483_647
 
@@ -38,6 +38,6 @@ picturesAfter w f q = leaves w (λ m. withHidden w f (w .state)) q
 
 -- what recording it answers and leaves
 pub record CommitsHidden (w : World) (f rec : List ℕ) (q : Res Measure) (a b rec′ : List ℕ) : Type 0 where
-  pub answer : q ≡ written (suc (w .state .frame)) (w .state .next) (hiddenIn w) f (length rec)
+  pub answer : q ≡ written (length rec) (suc (w .state .frame)) (w .state .next) (hiddenIn w) f
   pub bytes : rec′ ≡ leaves rec (λ m. recordOf (w .state) (hiddenIn w) f ++ drop (length (recordOf (w .state) (hiddenIn w) f)) rec) q
   pub pictures : _≡_ {A = World} (record { a = a; b = b; state = w .state }) (picturesAfter w f q)

@@ -57,7 +57,7 @@ build z shown hidden (some x) = change z x shown hidden >>= λ f. ok (some (reco
 
 -- the frame at the next place of FORM ANIM is built
 unfoldable pub look : List ℕ → State → List ℕ → List ℕ → Res (Option Built)
-look anim s shown hidden = frameAt anim (rowBytes (s .sizes .width)) (s .next) >>= build (s .sizes) shown hidden
+look anim s shown hidden = frameAt anim (s .next) (rowBytes (s .sizes .width)) >>= build (s .sizes) shown hidden
 
 -- what lies ahead, with a work buffer of `work` bytes
 unfoldable pub lookAhead : List ℕ → World → ℕ → Res (Option Built)

@@ -77,8 +77,8 @@ fn apply_frame(
     hidden: &[u8],
     work: &mut [u8],
 ) -> Applied
-    ensures { λ r. ⌜ Applies sizes (header .items) (now (dlta .entry)) (basis header (now (shown .entry)) (now (hidden .entry)))
-        (now (work .entry)) (appliedOf r) (now (work .exit)) ⌝ }
+    ensures { λ r. ⌜ Applies (now (work .entry)) (basis header (now (shown .entry)) (now (hidden .entry))) (now (dlta .entry)) sizes
+        (header .items) (appliedOf r) (now (work .exit)) ⌝ }
 {
     let items = header.items;
     if header.interleave == 1 {

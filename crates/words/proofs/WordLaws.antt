@@ -12,7 +12,7 @@ use Rattle.laws.proofs.StoreLaws.{stored-four}
 use Rattle.laws.specs.Put.{Put}
 use Rattle.laws.proofs.PutLaws.{put-is, put-nothing, put-then}
 use Rattle.state.specs.declared.State.{State}
-use Rattle.words.specs.Words.{le32, le64, stateIn, stateWords, le32Bytes, le64Bytes, wordsBytes, lay}
+use Rattle.words.specs.Words.{le32, le64, readState, stateWords, le32Bytes, le64Bytes, wordsBytes, lay}
 
 length-four : (n : ℕ) → length (le32Bytes n) ≡ 4
 unfolding le32Bytes
@@ -49,13 +49,13 @@ pub put-more : {out out′ out″ : List ℕ} (ns : List ℕ) (n : ℕ) {p q : �
 put-more ns n v w = rw (words-more ns n) (put-then v w)
 
 -- numbers that fill their buffer, and a buffer of another length
-pub laid : {out out′ : List ℕ} (ns : List ℕ) {p : ℕ} → length out ≡ 8 * length ns → Put out 0 (wordsBytes ns) out′ p → out′ ≡ lay ns out
+pub laid : {out out′ : List ℕ} (ns : List ℕ) {p : ℕ} → length out ≡ 8 * length ns → Put out 0 (wordsBytes ns) out′ p → out′ ≡ lay out ns
 unfolding lay
 laid {out} {out′} ns h v =
     let l = words-length ns in
     simp (eq-eqb (length out) (8 * length ns) h) (v .left ∙ sets-eq (wordsBytes ns) out 0 (omega (arith, l)) ∙ simp (drop-of-length-le out {i = 0 + length (wordsBytes ns)} (omega (arith, l)), append-nil))
 
-pub not-laid : {out : List ℕ} (ns : List ℕ) → (length out ≡ 8 * length ns → ⊥) → out ≡ lay ns out
+pub not-laid : {out : List ℕ} (ns : List ℕ) → (length out ≡ 8 * length ns → ⊥) → out ≡ lay out ns
 unfolding lay
 not-laid {out} ns h = simp (ne-eqb (length out) (8 * length ns) h)
 
@@ -93,8 +93,8 @@ word-back (n ∷ ns) (suc i) b h =
     rw e (eight-skip (le64Bytes n) (wordsBytes ns) (8 * i) ∙ word-back ns i (λ k. b (suc k)) (omega arith))
 
 -- a state whose numbers fit into eight bytes
-pub state-back : (x : State) → ((n : ℕ) → getD (stateWords x) n 0 < 18446744073709551616) → stateIn (wordsBytes (stateWords x)) ≡ x
-unfolding stateIn stateWords
+pub state-back : (x : State) → ((n : ℕ) → getD (stateWords x) n 0 < 18446744073709551616) → readState (wordsBytes (stateWords x)) ≡ x
+unfolding readState stateWords
 state-back x b =
     let ns : List ℕ = stateWords x in
     rw (eq-eqb (length (wordsBytes ns)) 48 (words-length ns), word-back ns 0 b (omega arith), word-back ns 1 b (omega arith), word-back ns 2 b (omega arith), word-back ns 3 b (omega arith), word-back ns 4 b (omega arith), word-back ns 5 b (omega arith)) refl

@@ -30,8 +30,8 @@ wordsBytes [] = []
 wordsBytes (n ∷ ns) = le64Bytes n ++ wordsBytes ns
 
 -- the state in 48 bytes; any other number of bytes holds six zeros
-unfoldable pub stateIn : List ℕ → State
-stateIn s =
+unfoldable pub readState : List ℕ → State
+readState s =
     pick (eqb (length s) 48)
     (record { sizes = record { width = le64 s 0; height = le64 s 8; planes = le64 s 16 }; frame = le64 s 24; next = le64 s 32; end = le64 s 40 })
     zeros
@@ -46,4 +46,4 @@ reportWords r = r .method ∷ r .time ∷ r .changed ∷ r .record_length ∷ []
 
 -- numbers laid into a buffer of their length; a buffer of another length stays
 unfoldable pub lay : List ℕ → List ℕ → List ℕ
-lay ns out = pick (eqb (length out) (8 * length ns)) (wordsBytes ns) out
+lay out ns = pick (eqb (length out) (8 * length ns)) (wordsBytes ns) out

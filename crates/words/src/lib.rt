@@ -2,7 +2,7 @@
 ghost use mathlib.Core.Path.{_≡_};
 ghost use Prim.Native.Nat.{_+_, _<_, _≤_};
 ghost use lib.ListN.{length, getD};
-ghost use Rattle.words.specs.Words.{le32, le64, stateIn};
+ghost use Rattle.words.specs.Words.{le32, le64, readState};
 use state::Sizes;
 use state::State;
 
@@ -32,7 +32,7 @@ fn number64(s: &[u8], at: usize) -> usize
 
 // The state in a buffer of 48 bytes; any other holds six zeros.
 pub fn read_state(s: &[u8]) -> State
-    ensures { λ r. ⌜ r ≡ stateIn (now (s .entry)) ⌝ }
+    ensures { λ r. ⌜ r ≡ readState (now (s .entry)) ⌝ }
 {
     if s.len() != 48 {
         return State::zeros();

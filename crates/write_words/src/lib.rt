@@ -31,7 +31,7 @@ fn put64(out: &mut [u8], at: usize, n: usize) -> usize
 
 // Writes a state into a buffer of 48 bytes.
 pub fn write_state(out: &mut [u8], state: State)
-    ensures { λ _. ⌜ now (out .exit) ≡ lay (stateWords state) (now (out .entry)) ⌝ }
+    ensures { λ _. ⌜ now (out .exit) ≡ lay (now (out .entry)) (stateWords state) ⌝ }
 {
     if out.len() != 48 {
         return;
@@ -47,7 +47,7 @@ pub fn write_state(out: &mut [u8], state: State)
 
 // Writes a report into a buffer of 32 bytes.
 pub fn write_report(out: &mut [u8], report: Report)
-    ensures { λ _. ⌜ now (out .exit) ≡ lay (reportWords report) (now (out .entry)) ⌝ }
+    ensures { λ _. ⌜ now (out .exit) ≡ lay (now (out .entry)) (reportWords report) ⌝ }
 {
     if out.len() != 32 {
         return;
@@ -60,7 +60,7 @@ pub fn write_report(out: &mut [u8], report: Report)
 
 // Writes one number into a buffer of eight bytes.
 pub fn write_number(out: &mut [u8], n: usize)
-    ensures { λ _. ⌜ now (out .exit) ≡ lay (n ∷ []) (now (out .entry)) ⌝ }
+    ensures { λ _. ⌜ now (out .exit) ≡ lay (now (out .entry)) (n ∷ []) ⌝ }
 {
     if out.len() != 8 {
         return;

@@ -11,11 +11,11 @@ use Rattle.laws.proofs.ResultLaws.{ok-same, ok-fault}
 use Rattle.laws.specs.Put.{Put}
 use Rattle.laws.proofs.PutLaws.{put-is}
 use Rattle.refusal.specs.declared.Refusal.{Refusal}
-use Rattle.column_writer.specs.Place.{columnLength, sizeOf, placed, placedOf, Places}
+use Rattle.column_writer.specs.Place.{columnLength, columnSizeOf, placed, placedOf, Places}
 use Rattle.column_writer.proofs.LengthLaws.{column-short}
 use Rattle.column_writer.proofs.PlaceLaws.{measured, fits}
-use Rattle.column_writer.specs.declared.Size.{Size}
-use Rattle.column_writer.specs.declared.Size.the-variants.{Bytes, Refused}
+use Rattle.column_writer.specs.declared.ColumnSize.{ColumnSize}
+use Rattle.column_writer.specs.declared.ColumnSize.the-variants.{Bytes, Refused}
 use Rattle.column_writer.specs.declared.Placed.{Placed}
 use Rattle.column_writer.specs.declared.Placed.the-variants.{Next, Refused as NotPlaced}
 use Rattle.writer.specs.Write.{columnAt, columnIn}
@@ -65,18 +65,18 @@ module _ (a b old new : List ℕ) (row at n : ℕ) (p : take n a ≡ columnAt ol
       let l = length-column new row at n in
       rw (p, q) (measured (columnAt old row at n) (columnAt new row at n) (length-column old row at n ∙ sym l) (omega (arith, l)))
 
-  module _ (r : Size) (w : sizeOf r ≡ columnLength (take n a) (take n b)) where
+  module _ (r : ColumnSize) (w : columnSizeOf r ≡ columnLength (take n a) (take n b)) where
     pub is-measured : (k : ℕ) → r ≡ Bytes k → (k ≡ length (columnIn old new row n at)) × (k ≤ 3073)
     unfolding columnIn
     is-measured k e =
-        let m : k ≡ length (columnIn old new row n at) = ok-same (sym (ap sizeOf e) ∙ w ∙ whole) in
+        let m : k ≡ length (columnIn old new row n at) = ok-same (sym (ap columnSizeOf e) ∙ w ∙ whole) in
         (m, omega (arith, m, t, length-column new row at n, column-short (columnAt old row at n) (columnAt new row at n)))
 
     pub not-refused : {A : Type 0} (why : Refusal) → r ≡ Refused why → A
-    not-refused why e = ok-fault (sym (ap sizeOf e) ∙ w ∙ whole)
+    not-refused why e = ok-fault (sym (ap columnSizeOf e) ∙ w ∙ whole)
 
-  module _ (out out′ : List ℕ) (place : ℕ) (r : Placed) (w : Places (take n a) (take n b) out place (placedOf r) out′) (h : place + length (columnIn old new row n at) ≤ length out) where
-    room : placed (take n a) (take n b) place (length out) ≡ ok (place + length (columnIn old new row n at))
+  module _ (out out′ : List ℕ) (place : ℕ) (r : Placed) (w : Places out place (take n a) (take n b) (placedOf r) out′) (h : place + length (columnIn old new row n at) ≤ length out) where
+    room : placed (length out) place (take n a) (take n b) ≡ ok (place + length (columnIn old new row n at))
     room = fits (take n a) (take n b) out place whole h
 
     pub is-put : (next : ℕ) → r ≡ Next next → Put out place (columnIn old new row n at) out′ next

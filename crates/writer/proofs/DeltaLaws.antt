@@ -12,7 +12,7 @@ use Rattle.laws.proofs.StoreLaws.{sets-append, lent-fill}
 use Rattle.state.specs.declared.Sizes.{Sizes}
 use Rattle.state.specs.State.{rowBytes}
 use Rattle.writer.specs.Planes.{Frames}
-use Rattle.writer.specs.Write.{planeBytes, be32Bytes, pointerOf, pointersBytes, listsBytes, deltaBytes}
+use Rattle.writer.specs.Write.{planeBytes, be32Bytes, planePointer, pointersBytes, listsBytes, deltaBytes}
 use Rattle.writer.proofs.PlaneLaws.{Walking, length-be32, pointers-length, pointer-is, walking, walking-more}
 
 -- stores that lie apart may be made in either order
@@ -58,12 +58,12 @@ unfolding listsBytes pointersBytes
 more {out₀} {old} {new} {row} {height} {planes} {out} {pointer} {place} {at} k w {out₁} {next} p =
     let L : List ℕ = planeBytes old new row height at in
     let R : List ℕ = listsBytes old new row height k (at + height * row) in
-    let b : List ℕ = be32Bytes (pointerOf place L) in
+    let b : List ℕ = be32Bytes (planePointer place L) in
     let P : List ℕ = pointersBytes old new row height k (at + height * row) (place + length L) in
     let e : be32Bytes (pick (eqb next place) 0 place) ≡ b = ap be32Bytes (pointer-is place next L (p .place)) in
     let m : suc k - 1 ≡ k = omega arith in
     let lp : length (b ++ P) ≡ 4 + 4 * k =
-    omega (arith, length-append b P, length-be32 (pointerOf place L), pointers-length old new row height k (at + height * row) (place + length L)) in
+    omega (arith, length-append b P, length-be32 (planePointer place L), pointers-length old new row height k (at + height * row) (place + length L)) in
     record {
       size = length-sets out₁ pointer (be32Bytes (pick (eqb next place) 0 place)) ∙ p .size ∙ w .size;
       fits = omega (arith, w .fits, p .size, p .place, length-append L R, length-sets out₁ pointer (be32Bytes (pick (eqb next place) 0 place)));
@@ -72,7 +72,7 @@ more {out₀} {old} {new} {row} {height} {planes} {out} {pointer} {place} {at} k
       high = omega (arith, w .high, p .place);
       walk = rw m at (walking-more (w .walk) (omega arith));
       whole = rw (e, p .left, p .place)
-          (ap (λ (g : List ℕ). sets g (place + length L) R) (sets-then (sets out place L) pointer b P (pointer + 4) (omega (arith, length-be32 (pointerOf place L))))
+          (ap (λ (g : List ℕ). sets g (place + length L) R) (sets-then (sets out place L) pointer b P (pointer + 4) (omega (arith, length-be32 (planePointer place L))))
           ∙ ap (λ (g : List ℕ). sets g (place + length L) R) (sym (sets-swap out pointer (b ++ P) place L (omega (arith, w .low, w .high, lp))))
           ∙ sets-append (sets out pointer (b ++ P)) place L R
           ∙ w .whole);
@@ -93,7 +93,7 @@ writing-last {left = suc k} w h = absurd (omega arith)
 -- the pointers, zeros after them, and the lists
 pub delta-is : (z : Sizes) (old new out out₁ : List ℕ) → z .planes ≤ 8 → out₁ ≡ sets out (4 * z .planes) (replicate (64 - 4 * z .planes) 0)
     → sets (sets out₁ 0 (pointersBytes old new (rowBytes (z .width)) (z .height) (z .planes) 0 64)) 64 (listsBytes old new (rowBytes (z .width)) (z .height) (z .planes) 0)
-    ≡ sets out 0 (deltaBytes z old new)
+    ≡ sets out 0 (deltaBytes old new z)
 unfolding deltaBytes
 delta-is z old new out out₁ h e =
     let P : List ℕ = pointersBytes old new (rowBytes (z .width)) (z .height) (z .planes) 0 64 in

@@ -7,7 +7,7 @@ use mathlib.Core.List.{List}
 use mathlib.Core.Path.{_≡_, refl}
 use lib.ListN.{length, take, drop, length-append}
 use Rattle.column_writer.proofs.LengthLaws.{column-short}
-use Rattle.writer.specs.Write.{columnAt, columnIn, columnsBytes, equal, planeBytes, listsBytes, longest}
+use Rattle.writer.specs.Write.{columnAt, columnIn, columnsBytes, planesEqual, planeBytes, listsBytes, longest}
 use Rattle.writer.proofs.ColumnLaws.{length-column}
 
 -- it and the longest delta are small numbers
@@ -29,9 +29,9 @@ module _ (old new : List ℕ) (row height : ℕ) where
 
   pub plane-short : (at : ℕ) → length (planeBytes old new row height at) ≤ row * longest height
   unfolding planeBytes
-  plane-short at = go (equal (take (height * row) (drop at old)) (take (height * row) (drop at new))) refl
+  plane-short at = go (planesEqual (take (height * row) (drop at old)) (take (height * row) (drop at new))) refl
     where
-      go : (t : Bool) → equal (take (height * row) (drop at old)) (take (height * row) (drop at new)) ≡ t → length (planeBytes old new row height at) ≤ row * longest height
+      go : (t : Bool) → planesEqual (take (height * row) (drop at old)) (take (height * row) (drop at new)) ≡ t → length (planeBytes old new row height at) ≤ row * longest height
       go true e = rw (e, planeBytes) (omega arith)
       go false e = rw (e, planeBytes) (columns-short (longest height) row at (columnIn-short old new row height))
 

@@ -11,7 +11,7 @@ use lib.Seq.{drop-cons}
 use borrow.Author.Tests.{eq-eqb, ne-eqb}
 use Rattle.laws.specs.Result.{pick}
 use Rattle.laws.proofs.PutLaws.{Parts}
-use Rattle.writer.specs.Write.{columnIn, columnsBytes, equal, planeBytes, be32Bytes, pointerOf, pointersBytes, listsBytes}
+use Rattle.writer.specs.Write.{columnIn, columnsBytes, planesEqual, planeBytes, be32Bytes, planePointer, pointersBytes, listsBytes}
 use Rattle.writer.specs.Planes.{Plane, Frames}
 
 -- so many planes are left, from a place on
@@ -41,22 +41,22 @@ columns-start old new row height at =
 -- two planes are compared, all before a place with the outcome so far
 pub record Comparing (old new : List ℕ) (same : Bool) (i : ℕ) : Type 0 where
   pub inside : i ≤ length old
-  pub is : pick same (equal (drop i old) (drop i new)) false ≡ equal old new
+  pub is : pick same (planesEqual (drop i old) (drop i new)) false ≡ planesEqual old new
 
 pub comparing : {old new : List ℕ} → Comparing old new true 0
 comparing = record { inside = omega arith; is = refl }
 
 module _ (old new : List ℕ) (i : ℕ) (l : length old ≡ length new) (h : i < length old) where
-  equal-front : equal (drop i old) (drop i new) ≡ equal (getD old i 0 ∷ drop (i + 1) old) (getD new i 0 ∷ drop (i + 1) new)
+  equal-front : planesEqual (drop i old) (drop i new) ≡ planesEqual (getD old i 0 ∷ drop (i + 1) old) (getD new i 0 ∷ drop (i + 1) new)
   equal-front = rw (add-one i, drop-cons old i 0 h, drop-cons new i 0 (omega arith))
 
-  equal-same : getD old i 0 ≡ getD new i 0 → equal (drop i old) (drop i new) ≡ equal (drop (i + 1) old) (drop (i + 1) new)
-  unfolding equal
-  equal-same e = equal-front ∙ rw (eq-eqb (getD old i 0) (getD new i 0) e, equal)
+  equal-same : getD old i 0 ≡ getD new i 0 → planesEqual (drop i old) (drop i new) ≡ planesEqual (drop (i + 1) old) (drop (i + 1) new)
+  unfolding planesEqual
+  equal-same e = equal-front ∙ rw (eq-eqb (getD old i 0) (getD new i 0) e, planesEqual)
 
-  equal-other : (getD old i 0 ≡ getD new i 0 → ⊥) → equal (drop i old) (drop i new) ≡ false
-  unfolding equal
-  equal-other e = equal-front ∙ rw (ne-eqb (getD old i 0) (getD new i 0) e, equal)
+  equal-other : (getD old i 0 ≡ getD new i 0 → ⊥) → planesEqual (drop i old) (drop i new) ≡ false
+  unfolding planesEqual
+  equal-other e = equal-front ∙ rw (ne-eqb (getD old i 0) (getD new i 0) e, planesEqual)
 
 pick-false : (t : Bool) → pick t false false ≡ false
 pick-false true = refl
@@ -73,12 +73,12 @@ module _ {old new : List ℕ} {same : Bool} {i : ℕ} (w : Comparing old new sam
   pub other-more : i < length old → (getD old i 0 ≡ getD new i 0 → ⊥) → Comparing old new false (i + 1)
   other-more h e = record { inside = omega arith; is = sym (pick-false same) ∙ (rw (equal-other old new i l h e) at (w .is)) }
 
-  pub compared : length old ≤ i → same ≡ equal old new
-  unfolding equal
+  pub compared : length old ≤ i → same ≡ planesEqual old new
+  unfolding planesEqual
   compared h = sym (pick-true same) ∙ rw (drop-of-length-le old {i = i} h, drop-of-length-le new {i = i} (omega arith)) at (w .is)
 
 -- a plane that is unchanged, and one that isn't, from what a comparison told
-module _ (old new : List ℕ) (row height at : ℕ) {r : Bool} (e : r ≡ equal (take (height * row) (drop at old)) (take (height * row) (drop at new))) where
+module _ (old new : List ℕ) (row height at : ℕ) {r : Bool} (e : r ≡ planesEqual (take (height * row) (drop at old)) (take (height * row) (drop at new))) where
   pub plane-unchanged : r ≡ true → planeBytes old new row height at ≡ []
   unfolding planeBytes
   plane-unchanged f = rw (sym e ∙ f, planeBytes)
@@ -133,10 +133,10 @@ pointers-length old new row height zero at place = refl
 pointers-length old new row height (suc k) at place =
     let L : List ℕ = planeBytes old new row height at in
     let P : List ℕ = pointersBytes old new row height k (at + height * row) (place + length L) in
-    omega (arith, length-append (be32Bytes (pointerOf place L)) P, length-be32 (pointerOf place L), pointers-length old new row height k (at + height * row) (place + length L))
+    omega (arith, length-append (be32Bytes (planePointer place L)) P, length-be32 (planePointer place L), pointers-length old new row height k (at + height * row) (place + length L))
 
 -- a plane's pointer is 0 exactly where its list is empty
-pub pointer-is : (place next : ℕ) (bytes : List ℕ) → next ≡ place + length bytes → pick (eqb next place) 0 place ≡ pointerOf place bytes
-unfolding pointerOf
+pub pointer-is : (place next : ℕ) (bytes : List ℕ) → next ≡ place + length bytes → pick (eqb next place) 0 place ≡ planePointer place bytes
+unfolding planePointer
 pointer-is place next [] e = rw (eq-eqb next place (omega arith))
 pointer-is place next (b ∷ s) e = rw (ne-eqb next place (λ f. absurd (omega arith)))

@@ -40,26 +40,26 @@ module _ (z : Sizes) (old new out : List ℕ) where
   lists : List ℕ
   lists = listsBytes old new (rowBytes (z .width)) (z .height) (z .planes) 0
 
-  delta-length : z .planes ≤ 8 → length (deltaBytes z old new) ≡ 64 + length lists
+  delta-length : z .planes ≤ 8 → length (deltaBytes old new z) ≡ 64 + length lists
   unfolding deltaBytes lists
   delta-length h =
       let P : List ℕ = pointersBytes old new (rowBytes (z .width)) (z .height) (z .planes) 0 64 in
       let Z : List ℕ = replicate (64 - 4 * z .planes) 0 in
       omega (arith, length-append (P ++ Z) lists, length-append P Z, pointers-length old new (rowBytes (z .width)) (z .height) (z .planes) 0 64, length-replicate {A = ℕ} (64 - 4 * z .planes) 0)
 
-  answers-fault : {k : ℕ} → written z old new (length out) ≡ fault k → Writes z old new out (fault k) out
+  answers-fault : {k : ℕ} → written (length out) old new z ≡ fault k → Writes out old new z (fault k) out
   answers-fault e = record { answers = sym e; leaves = rw e }
 
-  pub limits : {k : ℕ} → frameLength z ≡ fault k → Writes z old new out (fault k) out
+  pub limits : {k : ℕ} → frameLength z ≡ fault k → Writes out old new z (fault k) out
   unfolding written
   limits e = answers-fault (simp e)
 
   module _ {n : ℕ} (e : frameLength z ≡ ok n) where
-    pub not-old : (length old ≡ n → ⊥) → Writes z old new out (fault 12) out
+    pub not-old : (length old ≡ n → ⊥) → Writes out old new z (fault 12) out
     unfolding written
     not-old h = answers-fault (simp (e, ne-eqb (length old) n h))
 
-    pub not-new : length old ≡ n → (length new ≡ n → ⊥) → Writes z old new out (fault 12) out
+    pub not-new : length old ≡ n → (length new ≡ n → ⊥) → Writes out old new z (fault 12) out
     unfolding written
     not-new o h = answers-fault (simp (e, eq-eqb (length old) n o, ne-eqb (length new) n h))
 
@@ -67,26 +67,26 @@ module _ (z : Sizes) (old new out : List ℕ) where
       sound : Sound z n
       sound = each-is e (sizes-sound z)
 
-      size : length (deltaBytes z old new) ≡ 64 + length (listsBytes old new (rowBytes (z .width)) (z .height) (z .planes) 0)
+      size : length (deltaBytes old new z) ≡ 64 + length (listsBytes old new (rowBytes (z .width)) (z .height) (z .planes) 0)
       unfolding lists
       size = delta-length (sound .planes-most)
 
       module _ {t : Bool} (l : t ≡ ltb (length out) (64 + length (listsBytes old new (rowBytes (z .width)) (z .height) (z .planes) 0))) where
-        pub no-room : t ≡ true → Writes z old new out (fault 51) out
+        pub no-room : t ≡ true → Writes out old new z (fault 51) out
         unfolding written
         no-room h =
             let k = ltb-true (length out) (64 + length (listsBytes old new (rowBytes (z .width)) (z .height) (z .planes) 0)) (sym l ∙ h) in
-            answers-fault (simp (e, eq-eqb (length old) n o, eq-eqb (length new) n w, lt-leb (length (deltaBytes z old new)) (length out) (omega (arith, size, k))))
+            answers-fault (simp (e, eq-eqb (length old) n o, eq-eqb (length new) n w, lt-leb (length (deltaBytes old new z)) (length out) (omega (arith, size, k))))
 
         pub has-room : t ≡ false → 64 + length (listsBytes old new (rowBytes (z .width)) (z .height) (z .planes) 0) ≤ length out
         has-room h = ltb-false (length out) (64 + length (listsBytes old new (rowBytes (z .width)) (z .height) (z .planes) 0)) (sym l ∙ h)
 
         pub all-written : t ≡ false → {r : ℕ} {left : List ℕ}
-            → (r ≡ 64 + length (listsBytes old new (rowBytes (z .width)) (z .height) (z .planes) 0)) × (left ≡ sets out 0 (deltaBytes z old new))
-            → Writes z old new out (ok r) left
+            → (r ≡ 64 + length (listsBytes old new (rowBytes (z .width)) (z .height) (z .planes) 0)) × (left ≡ sets out 0 (deltaBytes old new z))
+            → Writes out old new z (ok r) left
         unfolding written
         all-written h f =
-            let k : length (deltaBytes z old new) ≤ length out = omega (arith, size, has-room h) in
-            let r : written z old new (length out) ≡ ok (length (deltaBytes z old new)) =
-            simp (e, eq-eqb (length old) n o, eq-eqb (length new) n w, le-leb (length (deltaBytes z old new)) (length out) k) in
-            record { answers = ap (λ (j : ℕ). ok j) (f .0 ∙ sym size) ∙ sym r; leaves = f .1 ∙ sets-eq (deltaBytes z old new) out 0 (omega (arith, k)) ∙ rw (r, zero-add (length (deltaBytes z old new))) }
+            let k : length (deltaBytes old new z) ≤ length out = omega (arith, size, has-room h) in
+            let r : written (length out) old new z ≡ ok (length (deltaBytes old new z)) =
+            simp (e, eq-eqb (length old) n o, eq-eqb (length new) n w, le-leb (length (deltaBytes old new z)) (length out) k) in
+            record { answers = ap (λ (j : ℕ). ok j) (f .0 ∙ sym size) ∙ sym r; leaves = f .1 ∙ sets-eq (deltaBytes old new z) out 0 (omega (arith, k)) ∙ rw (r, zero-add (length (deltaBytes old new z))) }

@@ -16,7 +16,7 @@ pub record Plane (old new : List ℕ) (row height at : ℕ) : Type 0 where
   pub wide : row ≤ 128
   pub inOld : at + height * row ≤ length old
   pub inNew : at + height * row ≤ length new
-  pub most : length new ≤ 1048576
+  pub most : length new ≤ 8 * 1024 * 128
 
 -- two frames of so many planes
 pub record Frames (old new : List ℕ) (row height planes : ℕ) : Type 0 where
@@ -24,7 +24,7 @@ pub record Frames (old new : List ℕ) (row height planes : ℕ) : Type 0 where
   pub narrow : 1 ≤ row
   pub wide : row ≤ 128
   pub deep : planes ≤ 8
-  pub plane : height * row ≤ 131072
+  pub plane : height * row ≤ 1024 * 128
   pub oldSize : length old ≡ planes * (height * row)
   pub newSize : length new ≡ planes * (height * row)
-  pub most : length new ≤ 1048576
+  pub most : length new ≤ 8 * 1024 * 128

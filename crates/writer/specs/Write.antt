@@ -29,31 +29,31 @@ columnsBytes old new row height zero at = []
 columnsBytes old new row height (suc k) at = columnIn old new row height at ++ columnsBytes old new row height k (at + 1)
 
 -- whether two planes are equal
-unfoldable pub equal : List ℕ → List ℕ → Bool
-equal [] [] = true
-equal [] (b ∷ t) = false
-equal (a ∷ s) [] = false
-equal (a ∷ s) (b ∷ t) = elim (eqb a b) [ true ↦ equal s t | false ↦ false ]
+unfoldable pub planesEqual : List ℕ → List ℕ → Bool
+planesEqual [] [] = true
+planesEqual [] (b ∷ t) = false
+planesEqual (a ∷ s) [] = false
+planesEqual (a ∷ s) (b ∷ t) = elim (eqb a b) [ true ↦ planesEqual s t | false ↦ false ]
 
 -- the list of the plane that starts at a place: nothing if the plane is unchanged
 unfoldable pub planeBytes : List ℕ → List ℕ → ℕ → ℕ → ℕ → List ℕ
 planeBytes old new row height at =
-    elim (equal (take (height * row) (drop at old)) (take (height * row) (drop at new))) [ true ↦ [] | false ↦ columnsBytes old new row height row at ]
+    elim (planesEqual (take (height * row) (drop at old)) (take (height * row) (drop at new))) [ true ↦ [] | false ↦ columnsBytes old new row height row at ]
 
 -- a number in four bytes, the highest first
 unfoldable pub be32Bytes : ℕ → List ℕ
 be32Bytes n = n / 16777216 % 256 ∷ n / 65536 % 256 ∷ n / 256 % 256 ∷ n % 256 ∷ []
 
 -- a plane's pointer: its list's place, or 0 where there is none
-unfoldable pub pointerOf : ℕ → List ℕ → ℕ
-pointerOf place [] = 0
-pointerOf place (b ∷ s) = place
+unfoldable pub planePointer : ℕ → List ℕ → ℕ
+planePointer place [] = 0
+planePointer place (b ∷ s) = place
 
 -- the pointers of k planes, from the plane that starts at `at`, whose list would stand at `place`; and the lists
 unfoldable pub pointersBytes : List ℕ → List ℕ → ℕ → ℕ → ℕ → ℕ → ℕ → List ℕ
 pointersBytes old new row height zero at place = []
 pointersBytes old new row height (suc k) at place =
-    be32Bytes (pointerOf place (planeBytes old new row height at))
+    be32Bytes (planePointer place (planeBytes old new row height at))
     ++ pointersBytes old new row height k (at + height * row) (place + length (planeBytes old new row height at))
 
 unfoldable pub listsBytes : List ℕ → List ℕ → ℕ → ℕ → ℕ → ℕ → List ℕ
@@ -61,29 +61,29 @@ listsBytes old new row height zero at = []
 listsBytes old new row height (suc k) at = planeBytes old new row height at ++ listsBytes old new row height k (at + height * row)
 
 -- sixteen pointers, those past the planes 0, and the lists from 64 on
-unfoldable pub deltaBytes : Sizes → List ℕ → List ℕ → List ℕ
-deltaBytes z old new =
+unfoldable pub deltaBytes : List ℕ → List ℕ → Sizes → List ℕ
+deltaBytes old new z =
     pointersBytes old new (rowBytes (z .width)) (z .height) (z .planes) 0 64
     ++ replicate (64 - 4 * z .planes) 0
     ++ listsBytes old new (rowBytes (z .width)) (z .height) (z .planes) 0
 
 -- the delta's length in an output buffer of room bytes: 11 for the sizes, 12 for the frames, 51 if it doesn't fit
-unfoldable pub written : Sizes → List ℕ → List ℕ → ℕ → Res ℕ
-written z old new room =
+unfoldable pub written : ℕ → List ℕ → List ℕ → Sizes → Res ℕ
+written room old new z =
     frameLength z >>= λ n.
     need (eqb (length old) n) 12 >>= λ _.
     need (eqb (length new) n) 12 >>= λ _.
-    need (leb (length (deltaBytes z old new)) room) 51 >>= λ _.
-    ok (length (deltaBytes z old new))
+    need (leb (length (deltaBytes old new z)) room) 51 >>= λ _.
+    ok (length (deltaBytes old new z))
 
 -- the buffer after it: bytes past the delta stay
 abbrev pub bufferAfter : List ℕ → List ℕ → Res ℕ → List ℕ
 bufferAfter bytes out q = leaves out (λ _. bytes ++ drop (length bytes) out) q
 
 -- what a call answers, and what it leaves in the output buffer
-pub record Writes (z : Sizes) (old new out : List ℕ) (answer : Res ℕ) (out′ : List ℕ) : Type 0 where
-  pub answers : answer ≡ written z old new (length out)
-  pub leaves : out′ ≡ bufferAfter (deltaBytes z old new) out (written z old new (length out))
+pub record Writes (out old new : List ℕ) (z : Sizes) (answer : Res ℕ) (out′ : List ℕ) : Type 0 where
+  pub answers : answer ≡ written (length out) old new z
+  pub leaves : out′ ≡ bufferAfter (deltaBytes old new z) out (written (length out) old new z)
 
 -- what an answer says in the paper's terms
 abbrev pub deltaOf : Delta → Res ℕ

@@ -2,7 +2,7 @@
 mod plane;
 
 ghost use mathlib.Core.Path.{_≡_};
-ghost use Prim.Native.Nat.{_+_, _≤_};
+ghost use Prim.Native.Nat.{_+_, _*_, _≤_};
 ghost use lib.ListN.{length};
 ghost use lib.Dec.{eqb, ltb};
 ghost use lib.Seq.{sets};
@@ -26,7 +26,7 @@ pub enum Delta {
 // How many bytes the lists of all planes have.
 fn lists_length(old: &[u8], new: &[u8], row: usize, height: usize, planes: usize) -> usize
     requires { ⌜ Frames (now old) (now new) row height planes ⌝ }
-    ensures { λ r. ⌜ (r ≡ length (listsBytes (now (old .entry)) (now (new .entry)) row height planes 0)) × (r ≤ 3146752) ⌝ }
+    ensures { λ r. ⌜ (r ≡ length (listsBytes (now (old .entry)) (now (new .entry)) row height planes 0)) × (r ≤ (1 + 3 * 1024) * 128 * 8) ⌝ }
 {
     let size = height * row;
     let mut sum = 0;
@@ -110,7 +110,7 @@ fn write_delta(out: &mut [u8], old: &[u8], new: &[u8], sizes: Sizes) -> usize
     requires { ⌜ Frames (now old) (now new) (rowBytes (sizes .width)) (sizes .height) (sizes .planes)
         × (64 + length (listsBytes (now old) (now new) (rowBytes (sizes .width)) (sizes .height) (sizes .planes) 0) ≤ length (now out)) ⌝ }
     ensures { λ r. ⌜ (r ≡ 64 + length (listsBytes (now (old .entry)) (now (new .entry)) (rowBytes (sizes .width)) (sizes .height) (sizes .planes) 0))
-        × (now (out .exit) ≡ sets (now (out .entry)) 0 (deltaBytes sizes (now (old .entry)) (now (new .entry)))) ⌝ }
+        × (now (out .exit) ≡ sets (now (out .entry)) 0 (deltaBytes (now (old .entry)) (now (new .entry)) sizes)) ⌝ }
 {
     let start = 4 * sizes.planes;
     fill(&mut out[start..64], 0);
@@ -119,7 +119,7 @@ fn write_delta(out: &mut [u8], old: &[u8], new: &[u8], sizes: Sizes) -> usize
 
 // Writes the delta that turns the old frame into the new one: 11 for the sizes, 12 for the frames, 51 if it doesn't fit.
 pub fn write(out: &mut [u8], old: &[u8], new: &[u8], sizes: Sizes) -> Delta
-    ensures { λ r. ⌜ Writes sizes (now (old .entry)) (now (new .entry)) (now (out .entry)) (deltaOf r) (now (out .exit)) ⌝ }
+    ensures { λ r. ⌜ Writes (now (out .entry)) (now (old .entry)) (now (new .entry)) sizes (deltaOf r) (now (out .exit)) ⌝ }
 {
     let l = sizes.frame_length();
     match l {

@@ -4,7 +4,7 @@ ghost use Prim.Native.Nat.{ℕ, _+_, _*_, _<_, _≤_};
 ghost use lib.ListN.{length, take, drop};
 ghost use Rattle.laws.specs.Put.{Put};
 ghost use Rattle.writer.specs.Planes.{InFrame, Plane};
-ghost use Rattle.writer.specs.Write.{columnAt, columnIn, columnsBytes, equal, planeBytes};
+ghost use Rattle.writer.specs.Write.{columnAt, columnIn, columnsBytes, planesEqual, planeBytes};
 
 // Copies a column of a frame: its rows lie row bytes apart, from a place on.
 fn copy_column(column: &mut [u8], frame: &[u8], row: usize, at: usize)
@@ -47,20 +47,20 @@ fn length_in(
     at: usize,
 ) -> usize
     requires { ⌜ (height ≤ length (now was)) × (height ≤ length (now is)) × InFrame (now old) (now new) row height at ⌝ }
-    ensures { λ r. ⌜ (r ≡ length (columnIn (now (old .entry)) (now (new .entry)) row height at)) × (r ≤ 3073) ⌝ }
+    ensures { λ r. ⌜ (r ≡ length (columnIn (now (old .entry)) (now (new .entry)) row height at)) × (r ≤ 1 + 3 * 1024) ⌝ }
 {
     copy_columns(was, is, old, new, row, height, at);
-    let l = column_writer::length(&was[..height], &is[..height]);
+    let l = column_writer::column_length(&was[..height], &is[..height]);
     match l {
-        column_writer::Size::Bytes(n) => n,
-        column_writer::Size::Refused(_) => 0,
+        column_writer::ColumnSize::Bytes(n) => n,
+        column_writer::ColumnSize::Refused(_) => 0,
     }
 }
 
 // How many bytes the column is written in that starts at a place of the frames.
 fn length_at(old: &[u8], new: &[u8], row: usize, height: usize, at: usize) -> usize
     requires { ⌜ InFrame (now old) (now new) row height at ⌝ }
-    ensures { λ r. ⌜ (r ≡ length (columnIn (now (old .entry)) (now (new .entry)) row height at)) × (r ≤ 3073) ⌝ }
+    ensures { λ r. ⌜ (r ≡ length (columnIn (now (old .entry)) (now (new .entry)) row height at)) × (r ≤ 1 + 3 * 1024) ⌝ }
 {
     let mut was = [0u8; 1024];
     let mut is = [0u8; 1024];
@@ -112,7 +112,7 @@ fn write_at(
 // How many bytes the columns of a plane are written in.
 fn columns_length(old: &[u8], new: &[u8], row: usize, height: usize, at: usize) -> usize
     requires { ⌜ Plane (now old) (now new) row height at ⌝ }
-    ensures { λ r. ⌜ (r ≡ length (columnsBytes (now (old .entry)) (now (new .entry)) row height row at)) × (r ≤ 3073 * row) ⌝ }
+    ensures { λ r. ⌜ (r ≡ length (columnsBytes (now (old .entry)) (now (new .entry)) row height row at)) × (r ≤ (1 + 3 * 1024) * row) ⌝ }
 {
     let mut sum = 0;
     let mut column = 0;
@@ -146,9 +146,9 @@ fn write_columns(
 }
 
 // Whether two planes are equal. There is no early exit, so that many bytes are compared at once.
-fn equal(old: &[u8], new: &[u8]) -> bool
+fn planes_equal(old: &[u8], new: &[u8]) -> bool
     requires { ⌜ length (now old) ≡ length (now new) ⌝ }
-    ensures { λ r. ⌜ r ≡ equal (now (old .entry)) (now (new .entry)) ⌝ }
+    ensures { λ r. ⌜ r ≡ planesEqual (now (old .entry)) (now (new .entry)) ⌝ }
 {
     let mut same = true;
     let mut i = 0;
@@ -164,16 +164,16 @@ fn equal(old: &[u8], new: &[u8]) -> bool
 // Whether the plane that starts at a place is unchanged.
 fn unchanged(old: &[u8], new: &[u8], row: usize, height: usize, at: usize) -> bool
     requires { ⌜ Plane (now old) (now new) row height at ⌝ }
-    ensures { λ r. ⌜ r ≡ equal (take (height * row) (drop at (now (old .entry)))) (take (height * row) (drop at (now (new .entry)))) ⌝ }
+    ensures { λ r. ⌜ r ≡ planesEqual (take (height * row) (drop at (now (old .entry)))) (take (height * row) (drop at (now (new .entry)))) ⌝ }
 {
     let end = at + height * row;
-    equal(&old[at..end], &new[at..end])
+    planes_equal(&old[at..end], &new[at..end])
 }
 
 // How many bytes the list of a plane has.
 pub(crate) fn plane_length(old: &[u8], new: &[u8], row: usize, height: usize, at: usize) -> usize
     requires { ⌜ Plane (now old) (now new) row height at ⌝ }
-    ensures { λ r. ⌜ (r ≡ length (planeBytes (now (old .entry)) (now (new .entry)) row height at)) × (r ≤ 393344) ⌝ }
+    ensures { λ r. ⌜ (r ≡ length (planeBytes (now (old .entry)) (now (new .entry)) row height at)) × (r ≤ (1 + 3 * 1024) * 128) ⌝ }
 {
     if unchanged(old, new, row, height, at) {
         return 0;

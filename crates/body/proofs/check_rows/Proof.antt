@@ -1,5 +1,5 @@
 -- `body::check_rows`: a plain BODY is there if it is long enough; of a packed one, whether the rows that are left are there is whether all are.
-use Rattle.body.proofs.WalkLaws.{behind, behind-fault, rows-on, rows-stop, rows-none}
+use Rattle.body.proofs.WalkLaws.{took-row, took-row-fault, rows-on, rows-stop, rows-none}
 use Rattle.body.specs.Walk.{tookOf}
 use Rattle.body.proofs.PlainLaws.{plain-checked}
 use Rattle.body.specs.Body.{rowsFrom}
@@ -14,7 +14,7 @@ use Rattle.body.proofs.check_rows.Statement.{statement}
 use Rattle.body.proofs.check_rows.Tie as tie
 
 abbrev Inv-loop : tie.InvT-loop
-Inv-loop frame₀ s row count packed at₀ left₀ frame at left = (frame ≡ frame₀) × (answer (rowsFrom packed s row left at) ≡ answer (rowsFrom packed s row count 0))
+Inv-loop frame₀ s row count packed at₀ left₀ frame at left = (frame ≡ frame₀) × (answer (rowsFrom s at row left packed) ≡ answer (rowsFrom s 0 row count packed))
 
 abbrev μ-loop : tie.MeasureT-loop
 μ-loop frame₀ s row count packed at₀ left₀ frame at left = left
@@ -37,14 +37,14 @@ returns-2 : tie.Need-returns-2 Inv-loop μ-loop
 returns-2 c =
     let at-loop-test = c .before .before .before .before .before .before in
     let at-loop = at-loop-test .before in
-    let i = at-loop .loop .inv in let e = c .before .before .before .before .take-row .ensures in let k = rows-stop _ _ _ _ _ (behind-fault (sym (told tookOf (e .0) (c .enum-told .given .1)))) (at-loop-test .loop-test .taken) in (ap answer (sym k) ∙ i .1, e .1 .check refl ∙ i .0)
+    let i = at-loop .loop .inv in let e = c .before .before .before .before .take-row .ensures in let k = rows-stop _ _ _ _ _ (took-row-fault (sym (told tookOf (e .0) (c .enum-told .given .1)))) (at-loop-test .loop-test .taken) in (ap answer (sym k) ∙ i .1, e .1 .check refl ∙ i .0)
 
 loop-again : tie.Need-loop-again Inv-loop μ-loop
 loop-again c =
     let at-take-row = c .before .before .before .before .before in
     let at-loop-test = at-take-row .before .before in
     let at-loop = at-loop-test .before in
-    let i = at-loop .loop .inv in let e = at-take-row .take-row .ensures in (e .1 .check refl ∙ i .0, sym (rows-on _ _ _ _ _ (behind (sym (told tookOf (e .0) (c .before .t .given .1)))) (at-loop-test .loop-test .taken)) ∙ i .1)
+    let i = at-loop .loop .inv in let e = at-take-row .take-row .ensures in (e .1 .check refl ∙ i .0, sym (rows-on _ _ _ _ _ (took-row (sym (told tookOf (e .0) (c .before .t .given .1)))) (at-loop-test .loop-test .taken)) ∙ i .1)
 
 returns-3 : tie.Need-returns-3 Inv-loop μ-loop
 returns-3 c = let i = c .before .loop .inv in let z : c .before .loop .left ≡ 0 = omega arith in (sym (ap answer (rows-none _ _ _ _ _ z)) ∙ i .1, i .0)

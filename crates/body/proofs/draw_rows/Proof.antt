@@ -5,7 +5,7 @@ use mathlib.Core.Path.{_≡_, refl, sym, _∙_}
 use lib.ListN.{length}
 use Rattle.laws.proofs.ResultLaws.{told}
 use Rattle.body.specs.Walk.{tookOf}
-use Rattle.body.proofs.WalkLaws.{behind, behind-fault, Walking, walking-starts, lines-small, walking-fits, walking-down, walking-on, walking-stop, walking-end, spot-before}
+use Rattle.body.proofs.WalkLaws.{took-row, took-row-fault, Walking, walking-starts, lines-small, walking-fits, walking-down, walking-on, walking-stop, walking-end, spot-before}
 use borrow.Author.Needs.{needs}
 use Rattle.body.proofs.draw_rows.Statement.{statement}
 use Rattle.body.proofs.draw_rows.Tie as tie
@@ -33,7 +33,7 @@ returns : tie.Need-returns Inv-loop μ-loop
 returns c =
     let l = c .before .before .before .before .before .before in
     walking-stop (l .before .loop .inv .1) (l .before .before .row-bytes .ensures) (l .loop-test .taken)
-    (behind-fault (sym (told tookOf (c .before .before .before .before .take-row .ensures .0) (c .enum-told .given .1)))) _
+    (took-row-fault (sym (told tookOf (c .before .before .before .before .take-row .ensures .0) (c .enum-told .given .1)))) _
 
 add-plane : tie.Need-add-plane Inv-loop μ-loop
 add-plane c =
@@ -70,7 +70,7 @@ loop-again c =
     let t = at-take-row .take-row in
     let l = c .before .before .before .before .before .before .before .before .before in (
       t .kept .0 ∙ l .before .loop .inv .0,
-      walking-down (l .before .loop .inv .1) (l .before .before .row-bytes .ensures) (l .loop-test .taken) (c .if1 .taken) (behind (sym (told tookOf (t .ensures .0) (c .before .before .before .t .given .1)))) (t .ensures .1),
+      walking-down (l .before .loop .inv .1) (l .before .before .row-bytes .ensures) (l .loop-test .taken) (c .if1 .taken) (took-row (sym (told tookOf (t .ensures .0) (c .before .before .before .t .given .1)))) (t .ensures .1),
     )
 
 loop-less-2 : tie.Need-loop-less-2 Inv-loop μ-loop
@@ -84,7 +84,7 @@ loop-again-2 c =
     let t = at-take-row .take-row in
     let l = c .before .before .before .before .before .before .before .before .before in (
       t .kept .0 ∙ l .before .loop .inv .0,
-      walking-on (l .before .loop .inv .1) (l .before .before .row-bytes .ensures) (l .loop-test .taken) (c .if1 .left) (behind (sym (told tookOf (t .ensures .0) (c .before .before .before .t .given .1)))) (t .ensures .1),
+      walking-on (l .before .loop .inv .1) (l .before .before .row-bytes .ensures) (l .loop-test .taken) (c .if1 .left) (took-row (sym (told tookOf (t .ensures .0) (c .before .before .before .t .given .1)))) (t .ensures .1),
     )
 
 returns-2 : tie.Need-returns-2 Inv-loop μ-loop

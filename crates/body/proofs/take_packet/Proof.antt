@@ -3,8 +3,8 @@ use mathlib.Core.Path.{refl, sym, ap, subst, _∙_}
 use lib.ListN.{length-replicate}
 use Rattle.laws.proofs.ResultLaws.{told}
 use Rattle.laws.proofs.StoreLaws.{length-part}
-use Rattle.body.specs.Walk.{packetOf, Fits, took, puts}
-use Rattle.body.proofs.WalkLaws.{took-is, puts-is, puts-empty, behind, packet-counted}
+use Rattle.body.specs.Walk.{packetOf, Fits, took}
+use Rattle.body.proofs.WalkLaws.{took-is, puts-is, puts-fault, puts-empty, took-row, packet-counted}
 use native.Mathlib.Omega.{arith}
 use borrow.Author.Needs.{needs}
 use Rattle.body.proofs.take_packet.Statement.{statement}
@@ -15,18 +15,18 @@ draw-copy-requires c κs =
     let e = c .before .before .before .before .packet-at .ensures in
     let g = c .before .before .p2 .given .1 in
     let f = subst (Fits _) g (e .1) in
-    (omega (arith, packet-counted _ _ _ (behind (took-is _ (told (packetOf _) (e .0) g) (length-part _ _ _ f))) .2), f)
+    (omega (arith, packet-counted _ _ _ (took-row (took-is _ (told (packetOf _) (e .0) g) (length-part _ _ _ f))) .2), f)
 
 draw-fill-requires : tie.Need-draw-fill-requires
 draw-fill-requires c κs =
     let e = c .before .before .before .before .packet-at .ensures in
     let g = c .before .before .p3 .given in
-    omega (arith, packet-counted _ _ _ (behind (took-is (g .0 .1 .0) (told (packetOf _) (e .0) (g .1)) (length-replicate _ _))) .2)
+    omega (arith, packet-counted _ _ _ (took-row (took-is (g .0 .1 .0) (told (packetOf _) (e .0) (g .1)) (length-replicate _ _))) .2)
 
 returns : tie.Need-returns
 returns c =
     let k = told (packetOf _) (c .before .before .packet-at .ensures .0) (c .enum-told .given .1) in
-    (ap took (sym k), ap (puts _ _ _) (sym k))
+    (ap took (sym k), sym (puts-fault _ _ _ k))
 
 returns-2 : tie.Need-returns-2
 returns-2 c =

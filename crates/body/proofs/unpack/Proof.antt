@@ -1,7 +1,7 @@
 -- `body::unpack`: the refusals in their order, each with the frame as it was; then the rows that were checked are drawn.
 use native.Mathlib.Omega.{arith}
 use Rattle.body.proofs.WalkLaws.{check-failed, check-passed}
-use Rattle.body.specs.Body.{body, picture}
+use Rattle.body.specs.Body.{body, unpack}
 use lib.ListN.{length}
 use Rattle.body.proofs.PlainLaws.{rows-most}
 use native.Mathlib.Nat.{mul-le-mul-right}
@@ -24,7 +24,7 @@ sound : (c : tie.Else1) → let a = begin c .args in Sound (a .sizes) (length (a
 sound c = subst (Sound _) (sym (c .if1 .left)) (each-is (told lengthOf (c .before .before .before .before .frame-length .ensures) (c .before .before .l2 .given .1)) (sizes-sound _))
 
 -- so the picture is the one in BODY
-whole : (c : tie.Else1) → let a = begin c .args in picture (a .packed) (a .sizes) (a .s .now) (length (a .frame .now)) ≡ body (a .packed) (a .sizes) (a .s .now)
+whole : (c : tie.Else1) → let a = begin c .args in unpack (length (a .frame .now)) (a .s .now) (a .sizes) (a .packed) ≡ body (a .s .now) (a .sizes) (a .packed)
 whole c = picture-body _ _ _ _ (told lengthOf (c .before .before .before .before .frame-length .ensures) (c .before .before .l2 .given .1)) (c .if1 .left)
 
 returns : tie.Need-returns

@@ -1,5 +1,5 @@
 -- `body::unpack_row`: the bytes so far are those of the definition's turns, and they stand in the frame if it is drawn.
-use Rattle.body.proofs.WalkLaws.{puts-fault, took-is, behind, behind-fault, packet-counted, Unpacking, unpacking-starts, unpacking-more, unpacking-fault, unpacking-end, drawn-fault, drawn-row}
+use Rattle.body.proofs.WalkLaws.{puts-fault, took-is, took-row, took-row-fault, packet-counted, Unpacking, unpacking-starts, unpacking-more, unpacking-fault, unpacking-end, drawn-fault, drawn-row}
 use native.Mathlib.Omega.{arith}
 use Prim.Native.Nat.{_-_}
 use mathlib.Core.Path.{_≡_, refl, sym, ap, _∙_}
@@ -31,19 +31,19 @@ returns c =
     let at-loop = at-loop-test .before in
     let i = at-loop .loop .inv .1 in
     let e = c .before .before .before .before .take-packet .ensures in
-    let q = behind-fault (sym (told tookOf (e .0) (c .enum-told .given .1))) in
+    let q = took-row-fault (sym (told tookOf (e .0) (c .enum-told .given .1))) in
     let k = unpacking-fault i (at-loop-test .loop-test .taken) q in
     (ap took (sym k), drawn-fault (i .bytes) (e .1 ∙ puts-fault _ _ _ q ∙ i .drawn) k)
 
 add-filled : tie.Need-add-filled Inv-loop μ-loop
 add-filled c =
     let at-take-packet = c .before .before .before .before .before in
-    omega (arith, packet-counted _ _ _ (behind (sym (told tookOf (at-take-packet .take-packet .ensures .0) (c .before .t .given .1)))) .2)
+    omega (arith, packet-counted _ _ _ (took-row (sym (told tookOf (at-take-packet .take-packet .ensures .0) (c .before .t .given .1)))) .2)
 
 loop-less : tie.Need-loop-less Inv-loop μ-loop
 loop-less c =
     let at-take-packet = c .before .before .before .before .before in
-    omega (arith, packet-counted _ _ _ (behind (sym (told tookOf (at-take-packet .take-packet .ensures .0) (c .before .t .given .1)))))
+    omega (arith, packet-counted _ _ _ (took-row (sym (told tookOf (at-take-packet .take-packet .ensures .0) (c .before .t .given .1)))))
 
 loop-again : tie.Need-loop-again Inv-loop μ-loop
 loop-again c =
@@ -53,7 +53,7 @@ loop-again c =
     let i = at-loop .loop .inv in
     let t = at-take-packet .take-packet in (
       t .kept .0 ∙ i .0,
-      unpacking-more (i .1) (at-loop-test .loop-test .taken) (behind (sym (told tookOf (t .ensures .0) (c .before .t .given .1)))) (t .ensures .1),
+      unpacking-more (i .1) (at-loop-test .loop-test .taken) (took-row (sym (told tookOf (t .ensures .0) (c .before .t .given .1)))) (t .ensures .1),
     )
 
 returns-2 : tie.Need-returns-2 Inv-loop μ-loop

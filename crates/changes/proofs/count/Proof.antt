@@ -3,14 +3,14 @@ use Prim.Native.Nat.{_+_, _-_, _<_}
 use mathlib.Core.Path.{_≡_}
 use native.Mathlib.Omega.{arith}
 use lib.ListN.{length}
-use Rattle.changes.specs.Count.{Counted}
+use Rattle.changes.specs.Count.{CountsBlock}
 use Rattle.changes.proofs.CountLaws.{count-two, count-none, count-starts, count-then, all-kept, all-changed}
 use borrow.Author.Needs.{needs}
 use Rattle.changes.proofs.count.Statement.{statement}
 use Rattle.changes.proofs.count.Tie as tie
 
 abbrev Inv-loop : tie.InvT-loop
-Inv-loop old new n runs₀ changed₀ at₀ runs changed at = (at < length old) × Counted old new 0 at runs changed
+Inv-loop old new n runs₀ changed₀ at₀ runs changed at = (at < length old) × CountsBlock old new 0 at runs changed
 
 abbrev μ-loop : tie.MeasureT-loop
 μ-loop old new n runs₀ changed₀ at₀ runs changed at = length old - at

@@ -3,14 +3,14 @@ use Prim.Native.Nat.{_+_, _-_, _≤_}
 use mathlib.Core.Path.{_≡_}
 use native.Mathlib.Omega.{arith}
 use native.Mathlib.Nat.{add-zero, add-assoc}
-use Rattle.changes.specs.Count.{Counted}
+use Rattle.changes.specs.Count.{CountsBlock}
 use Rattle.changes.proofs.CountLaws.{byte-most, count-starts, count-then, count-byte}
 use borrow.Author.Needs.{needs}
 use Rattle.changes.proofs.count_block.Statement.{statement}
 use Rattle.changes.proofs.count_block.Tie as tie
 
 abbrev Inv-loop : tie.InvT-loop
-Inv-loop old new at size ends₀ changed₀ i₀ ends changed i = (i ≤ size) × Counted old new at (at + i) ends changed
+Inv-loop old new at size ends₀ changed₀ i₀ ends changed i = (i ≤ size) × CountsBlock old new at (at + i) ends changed
 
 abbrev μ-loop : tie.MeasureT-loop
 μ-loop old new at size ends₀ changed₀ i₀ ends changed i = size - i

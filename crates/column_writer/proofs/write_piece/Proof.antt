@@ -6,15 +6,15 @@ use mathlib.Core.Path.{_≡_, ap}
 use lib.ListN.{getD, length, take, drop}
 use lib.Seq.{getD-drop}
 use Rattle.laws.proofs.PutLaws.{put-nothing, put-as}
-use Rattle.column_writer.specs.Column.{Op.skip, Op.same, Op.uniq, cut, opsBytes}
+use Rattle.column_writer.specs.Column.{WrittenOp.skip, WrittenOp.same, WrittenOp.uniq, cut, opsBytes}
 use Rattle.column_writer.specs.Piece.{pieceOps}
-use Rattle.column_writer.specs.declared.piece.Kind.{Kind}
-use Rattle.column_writer.specs.declared.piece.Kind.the-variants.{Rest, Skip, Same, Uniq}
+use Rattle.column_writer.specs.declared.piece.PieceKind.{PieceKind}
+use Rattle.column_writer.specs.declared.piece.PieceKind.the-variants.{Rest, Skip, Same, Uniq}
 use borrow.Author.Needs.{needs}
 use Rattle.column_writer.proofs.write_piece.Statement.{statement}
 use Rattle.column_writer.proofs.write_piece.Tie as tie
 
-module _ {kind : Kind} (rows : ℕ) (new : List ℕ) (row : ℕ) where
+module _ {kind : PieceKind} (rows : ℕ) (new : List ℕ) (row : ℕ) where
   rest : kind ≡ Rest → opsBytes (pieceOps kind rows (drop row new)) ≡ []
   unfolding opsBytes
   rest e = rw e

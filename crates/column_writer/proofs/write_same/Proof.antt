@@ -7,7 +7,7 @@ use mathlib.Core.Path.{_≡_, refl}
 use lib.ListN.{set, length-set}
 use Rattle.laws.specs.Put.{Put}
 use Rattle.laws.proofs.PutLaws.{put-is}
-use Rattle.column_writer.specs.Column.{Op.same, opBytes}
+use Rattle.column_writer.specs.Column.{WrittenOp.same, opBytes}
 use borrow.Author.Needs.{needs}
 use Rattle.column_writer.proofs.write_same.Statement.{statement}
 use Rattle.column_writer.proofs.write_same.Tie as tie

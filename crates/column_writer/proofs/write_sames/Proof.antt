@@ -2,7 +2,7 @@
 use mathlib.Core.Path.{refl}
 use native.Mathlib.Omega.{arith}
 use Rattle.laws.proofs.PutLaws.{Putting, putting, putting-room, putting-more, putting-last}
-use Rattle.column_writer.specs.Column.{Op.same, cut, opsBytes}
+use Rattle.column_writer.specs.Column.{WrittenOp.same, cut, opsBytes}
 use Rattle.column_writer.proofs.CutLaws.{same-more, same-last, same-none}
 use Prim.Native.Nat.{_-_}
 use borrow.Author.Needs.{needs}

@@ -2,7 +2,7 @@
 use mathlib.Core.Path.{refl}
 use native.Mathlib.Omega.{arith}
 use Rattle.laws.proofs.PutLaws.{Putting, putting, put-byte, putting-room, putting-more, putting-last}
-use Rattle.column_writer.specs.Column.{Op.skip, cut, opsBytes}
+use Rattle.column_writer.specs.Column.{WrittenOp.skip, cut, opsBytes}
 use Rattle.column_writer.proofs.CutLaws.{skip-more, skip-last, skip-none}
 use borrow.Author.Needs.{needs}
 use Rattle.column_writer.proofs.write_skips.Statement.{statement}

@@ -7,7 +7,7 @@ use lib.ListN.{length, set, take, drop, length-set}
 use Rattle.laws.specs.Put.{Put}
 use Rattle.laws.proofs.PutLaws.{put-byte, put-then, put-copy}
 use Rattle.laws.specs.Store.{over}
-use Rattle.column_writer.specs.Column.{Op.uniq, opBytes}
+use Rattle.column_writer.specs.Column.{WrittenOp.uniq, opBytes}
 use borrow.Author.Needs.{needs}
 use Rattle.column_writer.proofs.write_uniq.Statement.{statement}
 use Rattle.column_writer.proofs.write_uniq.Tie as tie
@@ -24,7 +24,7 @@ module _ (out : List ℕ) (at : ℕ) (rows : List ℕ) (h : at + length (opBytes
   unfolding opBytes
   inside = omega arith
 
-  putRows : (y : List ℕ) → y ≡ over rows (take (at + 1 + length rows - (at + 1)) (drop (at + 1) (set out at (128 + length rows))))
+  putRows : (y : List ℕ) → y ≡ over (take (at + 1 + length rows - (at + 1)) (drop (at + 1) (set out at (128 + length rows)))) rows
       → Put out at (opBytes (uniq rows)) (take (at + 1) (set out at (128 + length rows)) ++ (y ++ drop (at + 1 + length rows - (at + 1)) (drop (at + 1) (set out at (128 + length rows))))) (at + 1 + length rows)
   unfolding opBytes started
   putRows y e = put-then put-byte (put-copy (set out at (128 + length rows)) (at + 1) (at + 1 + length rows) rows y refl fits e)

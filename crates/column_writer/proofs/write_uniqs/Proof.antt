@@ -6,7 +6,7 @@ use mathlib.Core.Path.{_≡_, refl}
 use lib.ListN.{length, take, drop, length-drop, length-take}
 use lib.Seq.{drop-drop, take-all}
 use Rattle.laws.proofs.PutLaws.{Putting, Parts, putting, putting-room, putting-more, putting-last}
-use Rattle.column_writer.specs.Column.{Op.uniq, cut, opBytes, opsBytes}
+use Rattle.column_writer.specs.Column.{WrittenOp.uniq, cut, opBytes, opsBytes}
 use Rattle.column_writer.proofs.CutLaws.{uniq-more, uniq-last, uniq-none}
 use borrow.Author.Needs.{needs}
 use Rattle.column_writer.proofs.write_uniqs.Statement.{statement}

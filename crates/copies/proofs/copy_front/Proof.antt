@@ -10,7 +10,7 @@ use Rattle.copies.proofs.copy_front.Statement.{statement}
 use Rattle.copies.proofs.copy_front.Tie as tie
 
 abbrev Inv-loop : tie.InvT-loop
-Inv-loop dst₀ src n i₀ dst i = (i ≤ n) × (length dst ≡ length dst₀) × Copied src dst₀ i dst
+Inv-loop dst₀ src n i₀ dst i = (i ≤ n) × (length dst ≡ length dst₀) × Copied dst₀ src i dst
 
 abbrev μ-loop : tie.MeasureT-loop
 μ-loop dst₀ src n i₀ dst i = n - i

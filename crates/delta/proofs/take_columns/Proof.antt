@@ -13,10 +13,10 @@ use Rattle.delta.proofs.take_columns.Statement.{statement}
 use Rattle.delta.proofs.take_columns.Tie as tie
 
 abbrev Inv-loop : tie.InvT-loop
-Inv-loop frame₀ d shape count base drawing item at₀ place₀ left₀ frame at place left = (left ≤ count) × (length frame ≡ length frame₀) × Columns shape (length frame₀) place left × Walked shape d drawing frame₀ (readColumns shape d count base) at₀ (readColumns shape d left place) frame (255 * (count - left)) at
+Inv-loop frame₀ shape d count base drawing item at₀ place₀ left₀ frame at place left = (left ≤ count) × (length frame ≡ length frame₀) × Columns shape (length frame₀) place left × Walked frame₀ shape d (readColumns shape d count base) at₀ drawing (readColumns shape d left place) frame (255 * (count - left)) at
 
 abbrev μ-loop : tie.MeasureT-loop
-μ-loop frame₀ d shape count base drawing item at₀ place₀ left₀ frame at place left = left
+μ-loop frame₀ shape d count base drawing item at₀ place₀ left₀ frame at place left = left
 
 loop-holds : tie.Need-loop-holds Inv-loop μ-loop
 loop-holds c = (omega arith, refl, c .before .before .pre .2, walked-none (λ ops. refl) refl (c .before .before .pre .3 .line) (c .before .before .pre .3 .item) _)

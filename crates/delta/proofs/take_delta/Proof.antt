@@ -13,10 +13,10 @@ use Rattle.delta.proofs.take_delta.Statement.{statement}
 use Rattle.delta.proofs.take_delta.Tie as tie
 
 abbrev Inv-loop : tie.InvT-loop
-Inv-loop frame₀ d shape drawing at₀ plane₀ frame at plane = (plane ≤ shape .planes) × (length frame ≡ length frame₀) × Walked shape d drawing frame₀ (readPicture shape d) top (readPlanes shape d (shape .planes - plane) plane) frame (32640 * plane) at
+Inv-loop frame₀ shape d drawing at₀ plane₀ frame at plane = (plane ≤ shape .planes) × (length frame ≡ length frame₀) × Walked frame₀ shape d (readPicture shape d) top drawing (readPlanes shape d (shape .planes - plane) plane) frame (32640 * plane) at
 
 abbrev μ-loop : tie.MeasureT-loop
-μ-loop frame₀ d shape drawing at₀ plane₀ frame at plane = shape .planes - plane
+μ-loop frame₀ shape d drawing at₀ plane₀ frame at plane = shape .planes - plane
 
 returns : tie.Need-returns Inv-loop μ-loop
 returns c = let a = c .before .before .before .before .args in refused-here BadPointer (λ ops. picture-short (a .shape) (a .d .now) (reading top ops) (c .if1 .taken))

@@ -8,20 +8,20 @@ use Rattle.laws.proofs.ResultLaws.{each-some, told}
 use Rattle.laws.proofs.LoopLaws.{Going, starts, turns, stops}
 use Rattle.iff.specs.Chunk.{standingOf}
 use Rattle.iff.proofs.ChunkLaws.{chunk-within}
-use Rattle.form.specs.Form.{passOn, frameStep, nextFrame}
+use Rattle.form.specs.Form.{passOn, formStep, nextForm}
 use borrow.Author.Needs.{needs}
 use native.Mathlib.Omega.{arith}
 use Rattle.form.proofs.next_form.Statement.{statement}
 use Rattle.form.proofs.next_form.Tie as tie
 
 abbrev Inv-loop : tie.InvT-loop
-Inv-loop s from at₀ at = Going (frameStep s) (λ p. length s - p) (fault 21) (nextFrame s from) at
+Inv-loop s from at₀ at = Going (formStep s) (λ p. length s - p) (fault 21) (nextForm s from) at
 
 abbrev μ-loop : tie.MeasureT-loop
 μ-loop s from at₀ at = length s - at
 
 loop-holds : tie.Need-loop-holds Inv-loop μ-loop
-unfolding nextFrame
+unfolding nextForm
 loop-holds c = starts refl
 
 returns : tie.Need-returns Inv-loop μ-loop

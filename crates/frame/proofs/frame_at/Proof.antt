@@ -2,14 +2,14 @@
 use native.Mathlib.Omega.{arith}
 use Rattle.frame.specs.Frame.{frameAt}
 use Rattle.form.specs.Form.{Follows, formOf}
-use Rattle.form.proofs.FormLaws.{frame-follows}
+use Rattle.form.proofs.FormLaws.{form-follows}
 use Rattle.laws.proofs.ResultLaws.{told, each-some}
 use borrow.Author.Needs.{needs}
 use Rattle.frame.proofs.frame_at.Statement.{statement}
 use Rattle.frame.proofs.frame_at.Tie as tie
 
 frame-in-requires : tie.Need-frame-in-requires
-frame-in-requires c κs = let k : Follows _ _ _ = each-some (told formOf (c .before .before .before .next-form .ensures) (c .before .f2 .given .1)) (frame-follows _ _) in omega (arith, k .holds, k .ends)
+frame-in-requires c κs = let k : Follows _ _ _ = each-some (told formOf (c .before .before .before .next-form .ensures) (c .before .f2 .given .1)) (form-follows _ _) in omega (arith, k .holds, k .ends)
 
 returns : tie.Need-returns
 unfolding frameAt

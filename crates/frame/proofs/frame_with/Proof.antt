@@ -6,10 +6,10 @@ use Rattle.frame.proofs.frame_with.Statement.{statement}
 use Rattle.frame.proofs.frame_with.Tie as tie
 
 returns : tie.Need-returns
-returns c = λ s. rw (told anhdOf (c .before .before .before .read-header .ensures) (c .before .h .given .1))
+returns c = λ s. rw (told anhdOf (c .before .before .before .frame-header .ensures) (c .before .h .given .1))
 
 returns-2 : tie.Need-returns-2
-returns-2 c = λ s. rw (told anhdOf (c .before .before .before .read-header .ensures) (c .before .h2 .given .1))
+returns-2 c = λ s. rw (told anhdOf (c .before .before .before .frame-header .ensures) (c .before .h2 .given .1))
 
 pub frame-with-spec : {M : Type 1} → statement M
 frame-with-spec =

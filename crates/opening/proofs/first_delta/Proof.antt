@@ -11,7 +11,7 @@ returns : tie.Need-returns
 returns c =
     let r = c .before .before .before in
     let at-start = r .before .before .before .before .before in
-    delta-unread _ _ _ _ (at-start .pre) (told anhdOf (r .read-header .ensures ∙ rw (r .before .row-bytes .ensures) refl) (c .before .h .given .1))
+    delta-unread _ _ _ _ (at-start .pre) (told anhdOf (r .frame-header .ensures ∙ rw (r .before .row-bytes .ensures) refl) (c .before .h .given .1))
 
 returns-2 : tie.Need-returns-2
 returns-2 c =
@@ -19,7 +19,7 @@ returns-2 c =
     let f = y .before .before .before in
     let r = f .before .before in
     let at-start = r .before .before .before .before .before in
-    delta-bad _ _ _ _ (at-start .pre) (told anhdOf (r .read-header .ensures ∙ rw (r .before .row-bytes .ensures) refl) (f .h2 .given .1)) (rw (c .before .d .given .1) at (y .apply-first .ensures))
+    delta-bad _ _ _ _ (at-start .pre) (told anhdOf (r .frame-header .ensures ∙ rw (r .before .row-bytes .ensures) refl) (f .h2 .given .1)) (rw (c .before .d .given .1) at (y .apply-first .ensures))
 
 returns-3 : tie.Need-returns-3
 returns-3 c =
@@ -27,7 +27,7 @@ returns-3 c =
     let f = y .before .before .before in
     let r = f .before .before in
     let at-start = r .before .before .before .before .before in
-    delta-done _ _ _ _ (at-start .pre) (told anhdOf (r .read-header .ensures ∙ rw (r .before .row-bytes .ensures) refl) (f .h2 .given .1)) (rw (c .enum-told .given .1) at (y .apply-first .ensures))
+    delta-done _ _ _ _ (at-start .pre) (told anhdOf (r .frame-header .ensures ∙ rw (r .before .row-bytes .ensures) refl) (f .h2 .given .1)) (rw (c .enum-told .given .1) at (y .apply-first .ensures))
 
 pub first-delta-spec : {M : Type 1} → statement M
 first-delta-spec =

@@ -27,7 +27,7 @@ returns-3 : tie.Need-returns-3
 unfolding firstHeader
 returns-3 c =
     let x = c .before .before in
-    c .read-header .ensures ∙ rw (c .before .contents .ensures)
+    c .bitmap-header .ensures ∙ rw (c .before .contents .ensures)
     (⊎-elim
     (λ w. let b : x .before .before .args .body ≡ false = told-false refl (w .0 .taken) in rw b (rw (told foundOf (w .1 .ensures) (w .3 .given .1)) refl))
     (λ w. let b : x .before .before .args .body ≡ true = told-true refl (w .left) in rw b refl)

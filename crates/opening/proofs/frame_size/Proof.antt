@@ -3,7 +3,7 @@ use native.Mathlib.Nat.{add-sub-cancel-left}
 use native.Mathlib.Omega.{arith}
 use mathlib.Core.Path.{refl, sym}
 use Rattle.laws.proofs.ResultLaws.{told}
-use Rattle.bmhd.specs.Header.{headerOf}
+use Rattle.bmhd.specs.Header.{bmhdOf}
 use Rattle.opening.specs.Parts.{placesOf}
 use Rattle.opening.proofs.OpenLaws.{chunks-inside, size-nowhere, size-header}
 use borrow.Author.Needs.{needs}
@@ -22,12 +22,12 @@ returns c = sym (size-nowhere _ (told placesOf (c .before .before .before .first
 returns-2 : tie.Need-returns-2
 returns-2 c =
     let p = c .before .before .before .before .before .before in
-    sym (size-header _ (told placesOf (p .before .before .first-places .ensures) (p .p2 .given .1)) (rw (add-sub-cancel-left _ _) refl) (told headerOf (c .before .before .before .first-header .ensures) (c .before .h .given .1)))
+    sym (size-header _ (told placesOf (p .before .before .first-places .ensures) (p .p2 .given .1)) (rw (add-sub-cancel-left _ _) refl) (told bmhdOf (c .before .before .before .first-header .ensures) (c .before .h .given .1)))
 
 returns-3 : tie.Need-returns-3
 returns-3 c =
     let p = c .before .before .before .before .before .before in
-    sym (size-header _ (told placesOf (p .before .before .first-places .ensures) (p .p2 .given .1)) (rw (add-sub-cancel-left _ _) refl) (told headerOf (c .before .before .before .first-header .ensures) (c .before .h2 .given .1)))
+    sym (size-header _ (told placesOf (p .before .before .first-places .ensures) (p .p2 .given .1)) (rw (add-sub-cancel-left _ _) refl) (told bmhdOf (c .before .before .before .first-header .ensures) (c .before .h2 .given .1)))
 
 pub frame-size-spec : {M : Type 1} → statement M
 frame-size-spec =

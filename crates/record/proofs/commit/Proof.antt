@@ -41,18 +41,18 @@ abbrev whole : tie.Start → ℕ
 whole b = length (recordBytes (b .args .frame) (b .args .place) (b .args .old .now) (b .args .new .now))
 
 -- the numbers in front of the runs, and the runs, are the record
-head : (c : tie.After-length3) → c .before .before .length .result + c .before .length2 .result + c .length3 .result + bytes (begin (c .before .before .before)) ≡ whole (begin (c .before .before .before))
+head : (c : tie.After-written-length3) → c .before .before .written-length .result + c .before .written-length2 .result + c .written-length3 .result + bytes (begin (c .before .before .before)) ≡ whole (begin (c .before .before .before))
 head c =
     let b = begin (c .before .before .before) in
-    omega (arith, head-length (b .args .frame) (b .args .place) (b .args .old .now) (b .args .new .now) (pictures (c .before .before .before)), c .before .before .length .ensures, c .before .length2 .ensures, c .length3 .ensures)
+    omega (arith, head-length (b .args .frame) (b .args .place) (b .args .old .now) (b .args .new .now) (pictures (c .before .before .before)), c .before .before .written-length .ensures, c .before .written-length2 .ensures, c .written-length3 .ensures)
 
 -- what the answer of `runs_fit` tells of the whole record
 module _ (c : tie.After-runs-fit) where
-  abbrev front : tie.After-length3
+  abbrev front : tie.After-written-length3
   front = c .before .before .before
 
   abbrev room : ℕ
-  room = length (begin (counting c) .args .out .now) - (front .before .before .length .result + front .before .length2 .result + front .length3 .result)
+  room = length (begin (counting c) .args .out .now) - (front .before .before .written-length .result + front .before .written-length2 .result + front .written-length3 .result)
 
   too-much : not (c .runs-fit .result) ≡ true → length (begin (counting c) .args .out .now) < whole (begin (counting c))
   too-much t = let h : room < bytes (begin (counting c)) = leb-false _ room (sym (c .runs-fit .ensures) ∙ not-true _ t) in omega (arith, head front, h)
@@ -69,8 +69,8 @@ returns-2 c = too-long _ _ _ _ _ (c .before .if1 .left) (c .if2 .taken)
 add-head : tie.Need-add-head
 add-head c = let b = begin (c .before .before) in omega (arith, write-length (b .args .frame) (omega arith), write-length (b .args .place) (omega arith))
 
-cast-length : tie.Need-cast-length
-cast-length c = omega (arith, pictures (c .before .before) .few, pictures (c .before .before) .short)
+cast-written-length : tie.Need-cast-written-length
+cast-written-length c = omega (arith, pictures (c .before .before) .few, pictures (c .before .before) .short)
 
 add-head-2 : tie.Need-add-head-2
 add-head-2 c =
@@ -112,7 +112,7 @@ commit-spec =
     (λ c κs. search needs)
     (λ c κs. search needs)
     add-head
-    cast-length
+    cast-written-length
     (λ c κs. search needs)
     add-head-2
     (λ c. search needs)

@@ -7,7 +7,7 @@ use lib.ListN.{length}
 use borrow.Author.Tests.{le-leb}
 use Rattle.runs.specs.Runs.{runsOf}
 use Rattle.runs.proofs.PatchLaws.{count-runs}
-use Rattle.changes.specs.Count.{countOf}
+use Rattle.changes.specs.Count.{count}
 use Rattle.changes.proofs.CountLaws.{runs-counted, changed-counted, differing-short}
 use Rattle.changes.specs.declared.Counts.{Counts}
 use Rattle.record.specs.RunList.{runsBytes}
@@ -16,7 +16,7 @@ use borrow.Author.Needs.{needs}
 use Rattle.record.proofs.runs_fit.Statement.{statement}
 use Rattle.record.proofs.runs_fit.Tie as tie
 
-module _ (old new : List ℕ) {c : Counts} (l : length old ≡ length new) (e : c ≡ countOf old new) where
+module _ (old new : List ℕ) {c : Counts} (l : length old ≡ length new) (e : c ≡ count old new) where
   -- counts are no more than the bytes
   few : (c .runs ≤ length old) × (c .changed ≤ length old)
   few = (omega (arith, runs-counted old new l e, count-runs old new), omega (arith, changed-counted old new l e, differing-short old new))

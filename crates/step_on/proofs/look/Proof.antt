@@ -15,7 +15,7 @@ use Rattle.step_on.proofs.look.Tie as tie
 abbrev begin : tie.After-frame-at → tie.Start
 begin f = f .before .before .before .before .before .before .before
 
-found : (f : tie.After-frame-at) → let k = begin f .args in nextOf (k .anim .now) (f .frame-at .result) ≡ frameAt (k .anim .now) (rowBytes (k .state .sizes .width)) (k .state .next)
+found : (f : tie.After-frame-at) → let k = begin f .args in nextOf (k .anim .now) (f .frame-at .result) ≡ frameAt (k .anim .now) (k .state .next) (rowBytes (k .state .sizes .width))
 found f = rw (f .before .row-bytes .ensures) at (f .frame-at .ensures)
 
 add-stop : tie.Need-add-stop

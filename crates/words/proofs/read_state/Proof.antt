@@ -1,16 +1,16 @@
 -- `words::read_state`: the six numbers of 48 bytes.
 use borrow.Author.Tests.{eq-eqb, ne-eqb}
-use Rattle.words.specs.Words.{stateIn}
+use Rattle.words.specs.Words.{readState}
 use borrow.Author.Needs.{needs}
 use Rattle.words.proofs.read_state.Statement.{statement}
 use Rattle.words.proofs.read_state.Tie as tie
 
 returns : tie.Need-returns
-unfolding stateIn
+unfolding readState
 returns c = simp (ne-eqb _ _ (c .before .if1 .taken)) (c .zeros .ensures)
 
 returns-2 : tie.Need-returns-2
-unfolding stateIn
+unfolding readState
 returns-2 c =
     let at-number = c .before .before .before .before .before in
     let at-if = at-number .before in

@@ -21,7 +21,7 @@ returns-3 : tie.Need-returns-3
 returns-3 c = piece-same (c .before .group-end .ensures) (c .if3 .taken)
 
 returns-4 : tie.Need-returns-4
-returns-4 c = piece-uniq (c .loose-end .ensures)
+returns-4 c = piece-uniq (c .uniq-end .ensures)
 
 pub next-piece-spec : {M : Type 1} → statement M
 next-piece-spec =

@@ -2,7 +2,7 @@
 use Prim.Native.Nat.{_-_, _<_, _≤_}
 use native.Mathlib.Omega.{arith}
 use lib.ListN.{getD}
-use Rattle.delta.specs.Column.{Kind.same, Kind.skips, Kind.uniq, opAs, readOp}
+use Rattle.delta.specs.Column.{OpKind.same, OpKind.skips, OpKind.uniq, opAs, readOp}
 use Rattle.delta.specs.Walk.{reading}
 use Rattle.delta.proofs.DeltaLaws.{op-none, op-kind, kind-same, kind-skip, kind-uniq}
 use Rattle.delta.proofs.FillLaws.{skip-read, read-as}

@@ -13,10 +13,10 @@ use Rattle.delta.proofs.column.take_ops.Statement.{statement}
 use Rattle.delta.proofs.column.take_ops.Tie as tie
 
 abbrev Inv-loop : tie.InvT-loop
-Inv-loop frame₀ d shape base count drawing at₀ left₀ frame at left = (left ≤ count) × (length frame ≡ length frame₀) × Walked shape d drawing frame₀ (readOps shape d base count) at₀ (readOps shape d base left) frame (count - left) at
+Inv-loop frame₀ shape d base count drawing at₀ left₀ frame at left = (left ≤ count) × (length frame ≡ length frame₀) × Walked frame₀ shape d (readOps shape d base count) at₀ drawing (readOps shape d base left) frame (count - left) at
 
 abbrev μ-loop : tie.MeasureT-loop
-μ-loop frame₀ d shape base count drawing at₀ left₀ frame at left = left
+μ-loop frame₀ shape d base count drawing at₀ left₀ frame at left = left
 
 loop-holds : tie.Need-loop-holds Inv-loop μ-loop
 loop-holds c = (omega arith, refl, walked-none (λ ops. refl) refl (c .before .before .pre .2 .line) (c .before .before .pre .2 .item) _)

@@ -2,7 +2,7 @@
 use Prim.Native.Nat.{_+_}
 use native.Mathlib.Omega.{arith}
 use lib.ListN.{getD}
-use Rattle.delta.specs.Column.{fill, Kind.same, opAs}
+use Rattle.delta.specs.Column.{fill, OpKind.same, opAs}
 use Rattle.delta.specs.Walk.{reading}
 use Rattle.delta.proofs.DeltaLaws.{same-none, same-fill}
 use Rattle.delta.proofs.FillLaws.{read-as}

@@ -3,7 +3,7 @@ use Prim.Native.Nat.{_+_, _*_}
 use native.Mathlib.Omega.{arith}
 use native.Mathlib.Nat.{mul-le-mul-right}
 use mathlib.Core.Path.{refl}
-use Rattle.delta.specs.Column.{fill, Kind.uniq, opAs}
+use Rattle.delta.specs.Column.{fill, OpKind.uniq, opAs}
 use Rattle.delta.proofs.FillLaws.{uniq-inside, read-as}
 use borrow.Author.Needs.{needs}
 use Rattle.delta.proofs.column.take_uniq.Statement.{statement}

@@ -14,10 +14,10 @@ use Rattle.delta.proofs.words.take_words.Statement.{statement}
 use Rattle.delta.proofs.words.take_words.Tie as tie
 
 abbrev Inv-loop : tie.InvT-loop
-Inv-loop frame₀ d shape base drawing at₀ frame at = (length frame ≡ length frame₀) × (at .op ≤ length d) × Walked shape d drawing frame₀ (readWords shape d base) at₀ (readWords shape d base) frame 0 at
+Inv-loop frame₀ shape d base drawing at₀ frame at = (length frame ≡ length frame₀) × (at .op ≤ length d) × Walked frame₀ shape d (readWords shape d base) at₀ drawing (readWords shape d base) frame 0 at
 
 abbrev μ-loop : tie.MeasureT-loop
-μ-loop frame₀ d shape base drawing at₀ frame at = length d - at .op
+μ-loop frame₀ shape d base drawing at₀ frame at = length d - at .op
 
 loop-holds : tie.Need-loop-holds Inv-loop μ-loop
 loop-holds c = let p = c .before .before .pre in (refl, p .3, walked-none (λ ops. refl) refl (p .2 .line) (p .2 .item) 0)

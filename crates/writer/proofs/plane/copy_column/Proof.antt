@@ -16,7 +16,7 @@ use Rattle.writer.proofs.plane.copy_column.Tie as tie
 record Copying (column₀ frame : List ℕ) (row at : ℕ) (column : List ℕ) (i : ℕ) : Type 0 where
   inside : i ≤ length column₀
   size : length column ≡ length column₀
-  is : Copied (columnAt frame row at (length column₀)) column₀ i column
+  is : Copied column₀ (columnAt frame row at (length column₀)) i column
 
 module _ {column₀ frame column : List ℕ} {row at i : ℕ} (w : Copying column₀ frame row at column i) where
   more : i < length column → Copying column₀ frame row at (set column i (getD frame (at + i * row) 0)) (i + 1)

@@ -4,13 +4,13 @@ use borrow.Author.Needs.{needs}
 use Rattle.writer.proofs.plane.length_in.Statement.{statement}
 use Rattle.writer.proofs.plane.length_in.Tie as tie
 
-slice-aggregate-length : tie.Need-slice-aggregate-length
-slice-aggregate-length c =
+slice-aggregate-column-length : tie.Need-slice-aggregate-column-length
+slice-aggregate-column-length c =
     let at-copy-columns = c .before .before .before .before .before in
     held-length _ _ _ _ _ (at-copy-columns .copy-columns .ensures .0)
 
-slice-aggregate-length-2 : tie.Need-slice-aggregate-length-2
-slice-aggregate-length-2 c =
+slice-aggregate-column-length-2 : tie.Need-slice-aggregate-column-length-2
+slice-aggregate-column-length-2 c =
     let at-copy-columns = c .before .before .before .before .before .before in
     held-length _ _ _ _ _ (at-copy-columns .copy-columns .ensures .1)
 
@@ -18,13 +18,13 @@ returns : tie.Need-returns
 returns c =
     let at-copy-columns = c .before .before .before .before .before .before .before .before .before .before in
     let at-start = at-copy-columns .before .before .before .before .before .before .before in
-    is-measured _ _ _ _ _ _ _ (at-copy-columns .copy-columns .ensures .0) (at-copy-columns .copy-columns .ensures .1) (at-start .pre .2 .tall) _ (c .before .before .before .length .ensures) _ (c .before .l .given .1)
+    is-measured _ _ _ _ _ _ _ (at-copy-columns .copy-columns .ensures .0) (at-copy-columns .copy-columns .ensures .1) (at-start .pre .2 .tall) _ (c .before .before .before .column-length .ensures) _ (c .before .l .given .1)
 
 returns-2 : tie.Need-returns-2
 returns-2 c =
     let at-copy-columns = c .before .before .before .before .before .before .before .before .before in
     let at-start = at-copy-columns .before .before .before .before .before .before .before in
-    not-refused _ _ _ _ _ _ _ (at-copy-columns .copy-columns .ensures .0) (at-copy-columns .copy-columns .ensures .1) (at-start .pre .2 .tall) _ (c .before .before .length .ensures) _ (c .enum-told .given .1)
+    not-refused _ _ _ _ _ _ _ (at-copy-columns .copy-columns .ensures .0) (at-copy-columns .copy-columns .ensures .1) (at-start .pre .2 .tall) _ (c .before .before .column-length .ensures) _ (c .enum-told .given .1)
 
 pub length-in-spec : {M : Type 1} → statement M
 length-in-spec =
@@ -32,9 +32,9 @@ length-in-spec =
     (tie.spec
     (λ c κs. search needs)
     (λ c. search needs)
-    slice-aggregate-length
+    slice-aggregate-column-length
     (λ c. search needs)
-    slice-aggregate-length-2
+    slice-aggregate-column-length-2
     (λ c κs. search needs)
     (λ c. search needs)
     (λ c. search needs)

@@ -1,27 +1,27 @@
--- `bmhd::read_header`: the tests in the definition's order.
+-- `bmhd::bitmap_header`: the tests in the definition's order.
 use Prim.Native.Nat.{_<_}
 use native.Mathlib.Omega.{arith}
 use mathlib.Core.Path.{sym, _∙_}
 use borrow.Author.Tests.{le-leb, lt-leb, eq-eqb, ne-eqb}
 use Rattle.laws.proofs.ResultLaws.{told}
 use Rattle.state.specs.State.{lengthOf}
-use Rattle.bmhd.specs.Header.{header}
+use Rattle.bmhd.specs.Header.{bitmapHeader}
 use borrow.Author.Needs.{needs}
-use Rattle.bmhd.proofs.read_header.Statement.{statement}
-use Rattle.bmhd.proofs.read_header.Tie as tie
+use Rattle.bmhd.proofs.bitmap_header.Statement.{statement}
+use Rattle.bmhd.proofs.bitmap_header.Tie as tie
 
 returns : tie.Need-returns
-unfolding header
+unfolding bitmapHeader
 returns c = simp (ne-eqb _ _ (c .if1 .taken))
 
 returns-2 : tie.Need-returns-2
-unfolding header
+unfolding bitmapHeader
 returns-2 c =
     let f = rw (c .before .before .before .sizes-at .ensures) at (told lengthOf (c .before .before .frame-length .ensures) (c .enum-told .given .1)) in
     simp (eq-eqb _ _ (c .before .before .before .before .if1 .left), f)
 
 returns-3 : tie.Need-returns-3
-unfolding header
+unfolding bitmapHeader
 returns-3 c =
     let at-frame-length = c .before .before .before .before .before in
     let at-sizes-at = at-frame-length .before in
@@ -31,7 +31,7 @@ returns-3 c =
     simp (eq-eqb _ _ (at-if .if1 .left), f, eq-eqb _ _ m)
 
 returns-4 : tie.Need-returns-4
-unfolding header
+unfolding bitmapHeader
 returns-4 c =
     let p = c .before .before .before .before .before in
     let f = rw (p .before .before .before .sizes-at .ensures) at (told lengthOf (p .before .before .frame-length .ensures) (p .length .given .1)) in
@@ -40,7 +40,7 @@ returns-4 c =
     simp (eq-eqb _ _ (p .before .before .before .before .if1 .left), f, ne-eqb _ _ m, lt-leb _ _ (rw (c .before .byte2 .ensures .0) at k))
 
 returns-5 : tie.Need-returns-5
-unfolding header
+unfolding bitmapHeader
 returns-5 c =
     let p = c .before .before .before .before .before in
     let f = rw (p .before .before .before .sizes-at .ensures) at (told lengthOf (p .before .before .frame-length .ensures) (p .length .given .1)) in
@@ -48,8 +48,8 @@ returns-5 c =
     let k = rw (c .before .byte2 .ensures .0) at (c .if3 .left) in
     rw (p .before .before .before .sizes-at .ensures, c .before .byte2 .ensures .0) (simp (eq-eqb _ _ (p .before .before .before .before .if1 .left), f, ne-eqb _ _ m, le-leb _ _ k))
 
-pub read-header-spec : {M : Type 1} → statement M
-read-header-spec =
+pub bitmap-header-spec : {M : Type 1} → statement M
+bitmap-header-spec =
     tie.close
     (tie.spec
     returns

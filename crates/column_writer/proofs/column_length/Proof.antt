@@ -1,11 +1,11 @@
--- `column_writer::length`: the checks in the definition's order, then one byte more than the ops.
+-- `column_writer::column_length`: the checks in the definition's order, then one byte more than the ops.
 use mathlib.Core.Path.{sym, ap, _∙_}
 use Rattle.laws.specs.Result.{Res.ok}
 use Rattle.column_writer.proofs.PlaceLaws.{two-lengths, too-many, measured}
 use native.Mathlib.Omega.{arith}
 use borrow.Author.Needs.{needs}
-use Rattle.column_writer.proofs.length.Statement.{statement}
-use Rattle.column_writer.proofs.length.Tie as tie
+use Rattle.column_writer.proofs.column_length.Statement.{statement}
+use Rattle.column_writer.proofs.column_length.Tie as tie
 
 returns : tie.Need-returns
 returns c = sym (two-lengths _ _ (c .if1 .taken))
@@ -19,8 +19,8 @@ add-t3 c = omega (arith, c .measure .ensures .1)
 returns-3 : tie.Need-returns-3
 returns-3 c = sym (measured _ _ (c .before .before .if1 .left) (c .before .if2 .left) ∙ ap ok (c .measure .ensures .0))
 
-pub length-spec : {M : Type 1} → statement M
-length-spec = tie.close (tie.spec
+pub column-length-spec : {M : Type 1} → statement M
+column-length-spec = tie.close (tie.spec
     returns
     returns-2
     (λ c κs. search needs)

@@ -1,11 +1,11 @@
--- `writer::plane::equal`: the outcome so far, and what is left, decide.
+-- `writer::plane::planes_equal`: the outcome so far, and what is left, decide.
 use Prim.Native.Nat.{_-_}
 use mathlib.Core.Logic.{⊎-elim}
 use lib.ListN.{length}
 use Rattle.writer.proofs.PlaneLaws.{Comparing, comparing, same-more, other-more, compared}
 use borrow.Author.Needs.{needs}
-use Rattle.writer.proofs.plane.equal.Statement.{statement}
-use Rattle.writer.proofs.plane.equal.Tie as tie
+use Rattle.writer.proofs.plane.planes_equal.Statement.{statement}
+use Rattle.writer.proofs.plane.planes_equal.Tie as tie
 
 abbrev Inv-loop : tie.InvT-loop
 Inv-loop old new same₀ i₀ same i = Comparing old new same i
@@ -24,8 +24,8 @@ loop-again c =
 returns : tie.Need-returns Inv-loop μ-loop
 returns c = compared (c .before .loop .inv) (c .before .before .pre) (c .loop-test .left)
 
-pub equal-spec : {M : Type 1} → statement M
-equal-spec =
+pub planes-equal-spec : {M : Type 1} → statement M
+planes-equal-spec =
     tie.close
     (tie.spec
     Inv-loop

@@ -1,4 +1,4 @@
--- `anhd::read_header`: the tests are the definition's, in its order.
+-- `anhd::frame_header`: the tests are the definition's, in its order.
 use Prim.Native.Nat.{ℕ, _≤_}
 use mathlib.Core.Path.{_≡_, refl}
 use mathlib.Core.Bool.{Bool, true, false}
@@ -11,8 +11,8 @@ use Rattle.anhd.specs.declared.FrameHeader.{FrameHeader}
 use borrow.Author.Tests.{le-leb, lt-leb}
 use Rattle.laws.proofs.ResultLaws.{told-true, told-false}
 use borrow.Author.Needs.{needs}
-use Rattle.anhd.proofs.read_header.Statement.{statement}
-use Rattle.anhd.proofs.read_header.Tie as tie
+use Rattle.anhd.proofs.frame_header.Statement.{statement}
+use Rattle.anhd.proofs.frame_header.Tie as tie
 
 -- a method that is known, with an interleave that isn't taken
 interleave-bad : (first : Bool) (B : ℕ) (s : List ℕ) {m x : ℕ} → 40 ≤ length s → m ≡ getD s 0 0 → methodOk m ≡ true → x ≡ getD s 18 0 → interleaveOk first x ≡ false → fault 34 ≡ frameHeader first B s
@@ -74,8 +74,8 @@ returns-6 c =
     let k = l .before .before .before in
     rw (told-true (k .before .bits-ok .ensures) (k .if4 .left), ← l .before .before .items-of .ensures, told-true (l .before .columns-ok .ensures) (l .if5 .left), ← c .number322 .ensures .0) at (rest-left (k .before .before))
 
-pub read-header-spec : {M : Type 1} → statement M
-read-header-spec =
+pub frame-header-spec : {M : Type 1} → statement M
+frame-header-spec =
     tie.close
     (tie.spec
     returns
