@@ -6,8 +6,7 @@ use mathlib.Core.Path.{_≡_, refl}
 use lib.Dec.{leb}
 use lib.ListN.{length, getD}
 use borrow.Author.Tests.{leb-true}
-use Rattle.laws.specs.Result.{Each, Each.each}
-use Rattle.laws.proofs.ResultLaws.{each-need}
+use Rattle.laws.proofs.ResultLaws.{Each, Each.each, each-need}
 use Rattle.laws.specs.Bytes.{be32}
 use Rattle.anhd.specs.declared.FrameHeader.{FrameHeader}
 use Rattle.anhd.specs.Anhd.{methodOk, interleaveOk, bitsOk, itemsOf, columnsOk, frameHeader}

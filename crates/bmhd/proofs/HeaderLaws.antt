@@ -5,8 +5,8 @@ use mathlib.Core.List.{List}
 use mathlib.Core.Path.{_≡_, refl}
 use lib.Dec.{leb, eqb}
 use lib.ListN.{length, getD}
-use Rattle.laws.specs.Result.{Res, Res.ok, Res.fault, Each, Each.each, Each.no-value}
-use Rattle.laws.proofs.ResultLaws.{each-bind, each-need}
+use Rattle.laws.specs.Result.{Res, Res.ok, Res.fault}
+use Rattle.laws.proofs.ResultLaws.{Each, Each.each, Each.no-value, each-bind, each-need}
 use Rattle.state.specs.State.{frameLength}
 use Rattle.bmhd.specs.Header.{sizesAt, refusedAs, bitmapHeader}
 use Rattle.bmhd.specs.declared.Header.{Header}

@@ -12,8 +12,8 @@ use lib.Dec.{leb}
 use lib.ListN.{length, getD, take, drop, replicate, length-append, length-replicate}
 use lib.Seq.{sets, length-sets, ext-getD}
 use borrow.Author.Tests.{le-leb, lt-leb, eq-eqb, ne-eqb, leb-true, leb-false}
-use Rattle.laws.specs.Result.{Res, Res.ok, Res.fault, answer, pick, Each, Each.each, Each.no-value}
-use Rattle.laws.proofs.ResultLaws.{each-bind, each-need, each-is, answer-refused}
+use Rattle.laws.specs.Result.{Res, Res.ok, Res.fault, answer, pick}
+use Rattle.laws.proofs.ResultLaws.{Each, Each.each, Each.no-value, each-bind, each-need, each-is, answer-refused}
 use Rattle.laws.specs.Loop.{Step.done}
 use Rattle.laws.proofs.LoopLaws.{Comes, Comes.comes-next, Comes.comes-done, iterate-holds}
 use Rattle.laws.proofs.StoreLaws.{sets-agree, length-part}

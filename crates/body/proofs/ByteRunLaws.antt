@@ -6,8 +6,8 @@ use mathlib.Core.List.{List, []}
 use lib.Dec.{leb, ltb}
 use lib.ListN.{length, getD, take, drop, replicate, length-replicate}
 use borrow.Author.Tests.{leb-true, ltb-true, lt-leb, le-leb}
-use Rattle.laws.specs.Result.{Res.ok, Res.fault, Each, Each.each}
-use Rattle.laws.proofs.ResultLaws.{each-need}
+use Rattle.laws.specs.Result.{Res.ok, Res.fault}
+use Rattle.laws.proofs.ResultLaws.{Each, Each.each, each-need}
 use Rattle.laws.specs.Loop.{Step.done}
 use Rattle.laws.proofs.StoreLaws.{length-part}
 use Rattle.body.specs.ByteRun.{Row, PacketKind, PacketKind.copies, PacketKind.nothing, PacketKind.repeats, packetKindOf, packetAs, packetAt, withPacket, unpackOn}

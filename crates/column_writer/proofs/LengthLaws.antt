@@ -8,8 +8,8 @@ use mathlib.Core.Path.{_≡_, refl}
 use lib.Dec.{leb}
 use lib.ListN.{length, replicate, length-append, length-replicate}
 use borrow.Author.Tests.{leb-true}
-use Rattle.runs.specs.Runs.{Run, runsOf, Fit}
-use Rattle.runs.proofs.PatchLaws.{fit-old}
+use Rattle.runs.specs.Runs.{Run, runsOf}
+use Rattle.runs.proofs.PatchLaws.{Fit, fit-old}
 use Rattle.column_writer.specs.Column.{WrittenOp, WrittenOp.skip, WrittenOp.uniq, WrittenOp.same, Group, groupsOf, joinUniq, stretchOps, cut, cutAll, opsOf, opsBytes, columnBytes}
 use Rattle.column_writer.proofs.CutLaws.{length-bytes-append, skip-count, skip-bytes, same-count, same-bytes, uniq-count, uniq-bytes}
 use Rattle.column_writer.proofs.ColumnLaws.{flat, flat-groups, column-case}

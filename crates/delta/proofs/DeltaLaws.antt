@@ -8,8 +8,8 @@ use mathlib.Core.List.{List, [], _∷_, _++_}
 use lib.Dec.{leb}
 use lib.ListN.{length, getD, set, take, drop}
 use lib.Seq.{drop-cons, drop-drop, take-add, sets, length-sets}
-use Rattle.laws.specs.Result.{Res.ok, Res.fault, _>>=_, answer, Each, Each.each}
-use Rattle.laws.proofs.ResultLaws.{each-need, each-pick, each-any, answer-ok}
+use Rattle.laws.specs.Result.{Res.ok, Res.fault, _>>=_, answer}
+use Rattle.laws.proofs.ResultLaws.{Each, Each.each, each-need, each-pick, each-any, answer-ok}
 use Rattle.laws.specs.Bytes.{be32}
 use Rattle.laws.proofs.StoreLaws.{sets-append, length-part}
 use borrow.Author.Tests.{lt-ltb, le-ltb, le-leb, lt-leb, ne-eqb, leb-true}

@@ -7,8 +7,8 @@ use mathlib.Core.Path.{_≡_, refl}
 use lib.Dec.{leb}
 use lib.ListN.{length}
 use borrow.Author.Tests.{le-leb, lt-leb}
-use Rattle.laws.specs.Result.{Res.ok, Res.fault, pick, Each, Each.each}
-use Rattle.laws.proofs.ResultLaws.{each-any, each-map, each-need}
+use Rattle.laws.specs.Result.{Res.ok, Res.fault, pick}
+use Rattle.laws.proofs.ResultLaws.{Each, Each.each, each-any, each-map, each-need}
 use Rattle.delta.specs.Reading.{Op, Reading, byteAt}
 use Rattle.delta.specs.Column.{noRows, skipRows, fill, OpKind, OpKind.same, OpKind.skips, OpKind.uniq, opAs}
 use Rattle.delta.specs.Delta.{put, draw}

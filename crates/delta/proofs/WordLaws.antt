@@ -7,8 +7,8 @@ use mathlib.Core.Path.{_≡_, refl, sym, _∙_}
 use lib.Dec.{leb, ltb, eqb}
 use lib.ListN.{length}
 use borrow.Author.Tests.{lt-ltb, le-ltb, le-leb, lt-leb, eq-eqb, ne-eqb, leb-true}
-use Rattle.laws.specs.Result.{Res, Res.ok, Res.fault, _>>=_, pick, Each, Each.each}
-use Rattle.laws.proofs.ResultLaws.{each-is, each-any, each-need, each-pick}
+use Rattle.laws.specs.Result.{Res, Res.ok, Res.fault, _>>=_, pick}
+use Rattle.laws.proofs.ResultLaws.{Each, Each.each, each-is, each-any, each-need, each-pick}
 use Rattle.laws.specs.Loop.{Step.next, Step.done}
 use Rattle.laws.proofs.LoopLaws.{starts, stops, Comes, Comes.comes-next, Comes.comes-done, comes-pick, iterate-next}
 use Rattle.laws.specs.Bytes.{be16}

@@ -1,5 +1,5 @@
 -- Laws of FORM ANIM and its frames: they lie within the file, and the places of frames rise.
-use Prim.Native.Nat.{ℕ, _+_, _-_, _≤_}
+use Prim.Native.Nat.{ℕ, _+_, _-_, _≤_, _<_}
 use native.Mathlib.Nat.{le-refl}
 use native.Mathlib.Omega.{arith}
 use mathlib.Core.Bool.{_&&_}
@@ -8,14 +8,26 @@ use mathlib.Core.Option.{Option, none, some}
 use lib.Dec.{leb, eqb}
 use lib.ListN.{length}
 use borrow.Author.Tests.{leb-true}
-use Rattle.laws.specs.Result.{Res, Res.ok, Res.fault, Each, Each.each, Each.no-value, All, All.all-some, All.all-none}
-use Rattle.laws.proofs.ResultLaws.{each-need, each-ok, all-value}
+use Rattle.laws.specs.Result.{Res, Res.ok, Res.fault}
+use Rattle.laws.proofs.ResultLaws.{Each, Each.each, Each.no-value, All, All.all-some, All.all-none, each-need, each-ok, all-value}
 use Rattle.laws.proofs.LoopLaws.{Comes, Comes.comes-next, Comes.comes-done, comes-pick, iterate-holds}
 use Rattle.laws.specs.Bytes.{be32}
 use Rattle.iff.specs.Ids.{FORM, ANIM, ILBM}
-use Rattle.iff.specs.Chunk.{Chunk, chunkAt, Within}
-use Rattle.iff.proofs.ChunkLaws.{chunk-within}
-use Rattle.form.specs.Form.{animEnd, passOn, formStep, nextForm, Closes, Follows}
+use Rattle.iff.specs.Chunk.{Chunk, chunkAt}
+use Rattle.iff.proofs.ChunkLaws.{Within, chunk-within}
+use Rattle.form.specs.Form.{animEnd, passOn, formStep, nextForm, FormIlbm}
+
+-- the end of FORM ANIM is past its type, and within the file
+pub record Closes (s : List ℕ) (end : ℕ) : Type 0 where
+  pub least : 12 ≤ end
+  pub most : end ≤ length s
+
+-- a frame from a place on lies within the parent, and the next place is past it
+pub record Follows (s : List ℕ) (from : ℕ) (f : FormIlbm) : Type 0 where
+  pub starts : from + 12 ≤ f .start
+  pub holds : f .start + f .size ≤ f .next
+  pub rises : from < f .next
+  pub ends : f .next ≤ length s
 
 pub anim-closes : (s : List ℕ) → Each (Closes s) (animEnd s)
 unfolding animEnd

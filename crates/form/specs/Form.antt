@@ -1,6 +1,6 @@
 -- FORM ANIM and the frames in it (document 01, "Chunks"): FORM ANIM starts at place 0 and ends at its length + 8; frames
 -- are the FORM ILBM chunks directly in it, in order, and other chunks there are passed over.
-use Prim.Native.Nat.{ℕ, _+_, _-_, _<_, _≤_}
+use Prim.Native.Nat.{ℕ, _+_, _-_}
 use mathlib.Core.List.{List}
 use mathlib.Core.Option.{Option, none, some}
 use mathlib.Core.Bool.{_&&_}
@@ -67,15 +67,3 @@ abbrev pub formOf : Form → Res (Option FormIlbm)
 formOf (Ilbm start len nx) = ok (some (record { start = start; size = len; next = nx }))
 formOf End = ok none
 formOf (FormRefused why) = fault (numberOf why)
-
--- the end of FORM ANIM is past its type, and within the file
-pub record Closes (s : List ℕ) (end : ℕ) : Type 0 where
-  pub least : 12 ≤ end
-  pub most : end ≤ length s
-
--- a frame from a place on lies within the parent, and the next place is past it
-pub record Follows (s : List ℕ) (from : ℕ) (f : FormIlbm) : Type 0 where
-  pub starts : from + 12 ≤ f .start
-  pub holds : f .start + f .size ≤ f .next
-  pub rises : from < f .next
-  pub ends : f .next ≤ length s

@@ -1,24 +1,30 @@
 -- Laws of later frames: their places rise, their chunks lie within FORM ANIM, and their columns are whole.
-use Prim.Native.Nat.{ℕ, _+_}
+use Prim.Native.Nat.{ℕ, _+_, _<_, _≤_}
 use native.Mathlib.Omega.{arith}
 use mathlib.Core.Bool.{true, false}
 use mathlib.Core.List.{List}
 use mathlib.Core.Option.{Option, none, some}
 use mathlib.Core.Path.{_≡_, refl, sym, _∙_}
-use lib.ListN.{take, drop, length-take}
+use lib.ListN.{take, drop, length-take, length}
 use lib.Seq.{drop-drop}
-use Rattle.laws.specs.Result.{Res, Res.ok, Res.fault, _>>=_, orRefuse, Each, Each.each, All, All.all-some, All.all-none}
-use Rattle.laws.proofs.ResultLaws.{all-value, each-any, each-bind, each-some}
+use Rattle.laws.specs.Result.{Res, Res.ok, Res.fault, _>>=_, orRefuse}
+use Rattle.laws.proofs.ResultLaws.{Each, Each.each, All, All.all-some, All.all-none, all-value, each-any, each-bind, each-some}
 use Rattle.laws.proofs.StoreLaws.{part-of-part}
 use Rattle.iff.specs.Ids.{ANHD, DLTA}
-use Rattle.iff.specs.Chunk.{Part, find, bytesOf, Lies}
-use Rattle.iff.proofs.ChunkLaws.{find-lies, found}
-use Rattle.form.specs.Form.{FormIlbm, chunksOf, nextForm, Follows}
-use Rattle.form.proofs.FormLaws.{form-follows}
+use Rattle.iff.specs.Chunk.{Part, find, bytesOf}
+use Rattle.iff.proofs.ChunkLaws.{Lies, find-lies, found}
+use Rattle.form.specs.Form.{FormIlbm, chunksOf, nextForm}
+use Rattle.form.proofs.FormLaws.{Follows, form-follows}
 use Rattle.anhd.specs.Anhd.{columnsOk, frameHeader}
 use Rattle.anhd.proofs.AnhdLaws.{header-read}
 use Rattle.anhd.specs.declared.FrameHeader.{FrameHeader}
-use Rattle.frame.specs.Frame.{Frame, frameIn, frameOr, frameAt, frameWith, Rises}
+use Rattle.frame.specs.Frame.{Frame, frameIn, frameOr, frameAt, frameWith}
+
+-- a frame that follows a place
+pub record Rises (s : List ℕ) (at : ℕ) (x : Frame) : Type 0 where
+  pub rises : at < x .next
+  pub ends : x .next ≤ length s
+  pub holds : x .start + x .size ≤ length s
 
 in-rises : (s : List ℕ) (B at : ℕ) (x : FormIlbm) → Follows s at x → Each (Rises s at) (frameIn s B x)
 unfolding frameIn

@@ -1,10 +1,10 @@
 -- A later frame (document 01, "Chunks" and "Refusal numbers"): the next FORM ILBM from a place of FORM ANIM on, 21 as chunks are
 -- walked, the frame walked whole, then 31 to 36 in table order.
-use Prim.Native.Nat.{ℕ, _+_, _<_, _≤_}
+use Prim.Native.Nat.{ℕ, _+_}
 use mathlib.Core.Bool.{false}
 use mathlib.Core.List.{List}
 use mathlib.Core.Option.{Option, none, some}
-use lib.ListN.{take, drop, length}
+use lib.ListN.{take, drop}
 use Rattle.laws.specs.Result.{Res, Res.ok, Res.fault, _>>=_, orRefuse}
 use Rattle.refusal.specs.Number.{numberOf}
 use Rattle.iff.specs.Ids.{ANHD, DLTA}
@@ -48,9 +48,3 @@ nextOf s (Refused why) = fault (numberOf why)
 -- the frame with this ANHD, where the contents of its DLTA are n bytes of FORM ANIM from a on
 abbrev pub frameWith : List ℕ → List ℕ → ℕ → ℕ → ℕ → ℕ → Res (Option Frame)
 frameWith s anhd B nx a n = frameHeader false B anhd >>= λ y. ok (some (record { start = a; size = n; next = nx; header = y; dlta = take n (drop a s) }))
-
--- a frame that follows a place
-pub record Rises (s : List ℕ) (at : ℕ) (x : Frame) : Type 0 where
-  pub rises : at < x .next
-  pub ends : x .next ≤ length s
-  pub holds : x .start + x .size ≤ length s

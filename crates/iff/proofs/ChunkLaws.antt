@@ -1,5 +1,5 @@
 -- Laws of chunks: a whole chunk lies within its parent, and so does what a search finds; chunks of two ids don't overlap.
-use Prim.Native.Nat.{ℕ, _+_, _-_, _≤_}
+use Prim.Native.Nat.{ℕ, _+_, _-_, _≤_, _<_}
 use native.Mathlib.Omega.{arith}
 use mathlib.Core.Bool.{Bool, true, false}
 use mathlib.Core.Path.{_≡_, refl, sym, ap, _∙_}
@@ -8,13 +8,24 @@ use mathlib.Core.Option.{Option, none, some}
 use lib.Dec.{leb, eqb}
 use lib.ListN.{length}
 use borrow.Author.Tests.{leb-true, eqb-true}
-use Rattle.laws.specs.Result.{Res, Res.ok, Res.fault, _>>=_, orRefuse, pick, Each, Each.each, Each.no-value, All, All.all-some, All.all-none}
+use Rattle.laws.specs.Result.{Res, Res.ok, Res.fault, _>>=_, orRefuse, pick}
 use Rattle.laws.specs.Every.{Every, Every.every-none, Every.every-cons}
 use Rattle.laws.proofs.EveryLaws.{every-more}
-use Rattle.laws.proofs.ResultLaws.{each-need, each-ok, each-pick, each-bind, each-self, pick-both, all-value, each-some, made-of, ok-same, each-is}
+use Rattle.laws.proofs.ResultLaws.{Each, Each.each, Each.no-value, All, All.all-some, All.all-none, each-need, each-ok, each-pick, each-bind, each-self, pick-both, all-value, each-some, made-of, ok-same, each-is}
 use Rattle.laws.proofs.LoopLaws.{Going, starts, turns, stops, Comes, Comes.comes-next, Comes.comes-done, iterate-holds}
 use Rattle.laws.specs.Bytes.{be32}
-use Rattle.iff.specs.Chunk.{Chunk, padded, chunkAt, Walk, walkOn, walkStep, chunks, Part, partOf, first, find, orPart, Within, Lies}
+use Rattle.iff.specs.Chunk.{Chunk, padded, chunkAt, Walk, walkOn, walkStep, chunks, Part, partOf, first, find, orPart}
+
+-- a chunk at a place lies within the parent, and the next place is past it
+pub record Within (s : List ℕ) (at : ℕ) (c : Chunk) : Type 0 where
+  pub starts : at + 8 ≤ c .start
+  pub holds : c .start + c .size ≤ c .next
+  pub rises : at < c .next
+  pub ends : c .next ≤ length s
+
+-- a part lies within the parent
+pub record Lies (s : List ℕ) (p : Part) : Type 0 where
+  pub ends : p .start + p .size ≤ length s
 
 pub chunk-within : (s : List ℕ) (at : ℕ) → Each (All (Within s at)) (chunkAt s at)
 unfolding chunkAt

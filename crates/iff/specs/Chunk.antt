@@ -1,6 +1,6 @@
 -- Chunks (document 01, "Chunks"): four id bytes, a big-endian length, the contents, and a pad byte of any value if the
 -- length is odd. Header, contents and pad lie inside the parent. Within a frame the first chunk of each id counts.
-use Prim.Native.Nat.{ℕ, _+_, _-_, _%_, _<_, _≤_}
+use Prim.Native.Nat.{ℕ, _+_, _-_, _%_}
 use mathlib.Core.Bool.{Bool, true, false}
 use mathlib.Core.List.{List, [], _∷_, _++_}
 use mathlib.Core.Option.{Option, none, some}
@@ -106,14 +106,3 @@ abbrev pub orPart : Res (Option Part) → Part → Res (Option Part)
 orPart (ok none) p = ok (some p)
 orPart (ok (some q)) p = ok (some q)
 orPart (fault n) p = fault n
-
--- a chunk at a place lies within the parent, and the next place is past it
-pub record Within (s : List ℕ) (at : ℕ) (c : Chunk) : Type 0 where
-  pub starts : at + 8 ≤ c .start
-  pub holds : c .start + c .size ≤ c .next
-  pub rises : at < c .next
-  pub ends : c .next ≤ length s
-
--- a part lies within the parent
-pub record Lies (s : List ℕ) (p : Part) : Type 0 where
-  pub ends : p .start + p .size ≤ length s

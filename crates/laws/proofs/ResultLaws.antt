@@ -5,7 +5,17 @@ use mathlib.Core.Path.{_≡_, refl, sym, ap, _∙_, subst}
 use mathlib.Core.Bool.{Bool, true, false, not, _&&_}
 use mathlib.Core.Option.{Option, none, some}
 use borrow.Author.Tests.{not-true, not-false}
-use Rattle.laws.specs.Result.{Res, Res.ok, Res.fault, _>>=_, need, answer, pick, _>>?_, given, Each, Each.each, Each.no-value, All, All.all-some}
+use Rattle.laws.specs.Result.{Res, Res.ok, Res.fault, _>>=_, need, answer, pick, _>>?_, given}
+
+-- P holds of the value, or there is none
+pub data Each {A : Type 0} (P : A → Type 0) : Res A → Type 0 where
+  each : {a : A} → P a → Each P (ok a)
+  no-value : {n : ℕ} → Each P (fault n)
+
+-- P holds of what there is, or there is nothing
+pub data All {A : Type 0} (P : A → Type 0) : Option A → Type 0 where
+  all-some : {a : A} → P a → All P (some a)
+  all-none : All P none
 
 -- two constructors are never equal: where a fact says that they are, `cc` shows that 0 is 1, and anything follows
 pub never : {A : Type 0} → _≡_ {A = ℕ} 0 1 → A

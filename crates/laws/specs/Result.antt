@@ -54,13 +54,3 @@ _>>?_ none f = none
 abbrev pub given : Bool → Option (Unit {0})
 given true = some tt
 given false = none
-
--- P holds of the value, or there is none
-pub data Each {A : Type 0} (P : A → Type 0) : Res A → Type 0 where
-  each : {a : A} → P a → Each P (ok a)
-  no-value : {n : ℕ} → Each P (fault n)
-
--- P holds of what there is, or there is nothing
-pub data All {A : Type 0} (P : A → Type 0) : Option A → Type 0 where
-  all-some : {a : A} → P a → All P (some a)
-  all-none : All P none

@@ -6,8 +6,8 @@ use mathlib.Core.List.{List, _++_}
 use mathlib.Core.Option.{Option, none, some}
 use mathlib.Core.Path.{_≡_, refl, sym, ap, _∙_}
 use lib.ListN.{length, take, length-take}
-use Rattle.laws.specs.Result.{Res.ok, Each, Each.each, All, All.all-some, All.all-none}
-use Rattle.laws.proofs.ResultLaws.{each-any, each-bind, each-self, each-some, never}
+use Rattle.laws.specs.Result.{Res.ok}
+use Rattle.laws.proofs.ResultLaws.{Each, Each.each, All, All.all-some, All.all-none, each-any, each-bind, each-self, each-some, never}
 use Rattle.laws.specs.Loop.{Step.next, Step.done}
 use Rattle.laws.proofs.LoopLaws.{Going, starts, turns, stops}
 use Rattle.state.specs.declared.State.{State}

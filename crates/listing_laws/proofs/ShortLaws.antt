@@ -12,8 +12,8 @@ use lib.ListN.{length, drop, length-append, length-take}
 use borrow.Author.Tests.{leb-true}
 use Rattle.laws.proofs.BytesLaws.{bytes-take, be32-bound, bytes-drop}
 use Rattle.laws.specs.Bytes.{Bytes}
-use Rattle.laws.specs.Result.{Res, Res.ok, Res.fault, Each, Each.each, Each.no-value, All, All.all-some, All.all-none}
-use Rattle.laws.proofs.ResultLaws.{each-bind, each-need, each-map, all-value}
+use Rattle.laws.specs.Result.{Res, Res.ok, Res.fault}
+use Rattle.laws.proofs.ResultLaws.{Each, Each.each, Each.no-value, All, All.all-some, All.all-none, each-bind, each-need, each-map, all-value}
 use Rattle.refusal.specs.Number.{isNumber}
 use Rattle.refusal.proofs.NumberLaws.{two-digits}
 use Rattle.state.specs.declared.Sizes.{Sizes}
@@ -21,8 +21,8 @@ use Rattle.state.specs.State.{Sound}
 use Rattle.iff.specs.Ids.{ANHD, DLTA}
 use Rattle.iff.specs.Chunk.{bytesOf}
 use Rattle.iff.proofs.ChunkLaws.{found, parts-room}
-use Rattle.form.specs.Form.{FormIlbm, chunksOf, Follows}
-use Rattle.form.proofs.FormLaws.{form-follows}
+use Rattle.form.specs.Form.{FormIlbm, chunksOf}
+use Rattle.form.proofs.FormLaws.{Follows, form-follows}
 use Rattle.anhd.specs.Anhd.{frameHeader}
 use Rattle.anhd.proofs.AnhdLaws.{header-read}
 use Rattle.anhd.specs.declared.FrameHeader.{FrameHeader}

@@ -10,8 +10,8 @@ use lib.ListN.{length, take, length-take, length-append}
 use borrow.Author.Tests.{leb-true}
 use Rattle.laws.specs.Bytes.{Bytes}
 use Rattle.laws.proofs.BytesLaws.{bytes-take}
-use Rattle.laws.specs.Result.{Res, Res.ok, Res.fault, Each, Each.each, Each.no-value, All, All.all-some, All.all-none}
-use Rattle.laws.proofs.ResultLaws.{each-self, each-bind, each-is, all-value, pick-both, pick-case, each-some}
+use Rattle.laws.specs.Result.{Res, Res.ok, Res.fault}
+use Rattle.laws.proofs.ResultLaws.{Each, Each.each, Each.no-value, All, All.all-some, All.all-none, each-self, each-bind, each-is, all-value, pick-both, pick-case, each-some}
 use Rattle.laws.specs.Loop.{Step}
 use Rattle.laws.proofs.LoopLaws.{Comes, Comes.comes-next, Comes.comes-done, iterate-holds}
 use Rattle.state.specs.declared.Report.{Report}

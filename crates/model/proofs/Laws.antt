@@ -8,8 +8,8 @@ use mathlib.Core.Path.{_≡_, refl, ap, _∙_}
 use lib.Dec.{eqb}
 use lib.ListN.{length, drop}
 use borrow.Author.Tests.{eq-eqb, ne-eqb}
-use Rattle.laws.specs.Result.{Res.ok, Each.each}
-use Rattle.laws.proofs.ResultLaws.{each-any, each-is, pick-both}
+use Rattle.laws.specs.Result.{Res.ok}
+use Rattle.laws.proofs.ResultLaws.{Each.each, each-any, each-is, pick-both}
 use Rattle.delta.specs.Reading.{shapeOf}
 use Rattle.delta.specs.Delta.{readDelta}
 use Rattle.delta.proofs.DeltaLaws.{draw-length}

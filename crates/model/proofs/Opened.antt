@@ -9,8 +9,8 @@ use mathlib.Core.Path.{_≡_, refl, _∙_}
 use lib.Dec.{leb, eqb}
 use lib.ListN.{length, take}
 use lib.Seq.{length-take-le}
-use Rattle.laws.specs.Result.{Res, Res.ok, _>>=_, need, orRefuse, pick, Each, Each.each, Each.no-value}
-use Rattle.laws.proofs.ResultLaws.{each-self, each-any, each-bind, each-need, each-is}
+use Rattle.laws.specs.Result.{Res, Res.ok, _>>=_, need, orRefuse, pick}
+use Rattle.laws.proofs.ResultLaws.{Each, Each.each, Each.no-value, each-self, each-any, each-bind, each-need, each-is}
 use Rattle.laws.proofs.StoreLaws.{part-of-part}
 use Rattle.iff.specs.Ids.{BMHD, BODY, DLTA}
 use Rattle.iff.specs.Chunk.{has, contents}

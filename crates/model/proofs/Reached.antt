@@ -10,8 +10,8 @@ use borrow.Author.Tests.{le-leb}
 use Rattle.laws.specs.Result.{Res.ok, answer, pick, orKeep}
 use Rattle.laws.proofs.ResultLaws.{pick-both}
 use Rattle.state.specs.State.{rowBytes, stateLength}
-use Rattle.frame.specs.Frame.{Frame, Rises}
-use Rattle.frame.proofs.FrameLaws.{frame-rises}
+use Rattle.frame.specs.Frame.{Frame}
+use Rattle.frame.proofs.FrameLaws.{Rises, frame-rises}
 use Rattle.state.specs.World.{isOdd, shownIn, hiddenIn}
 use Rattle.state.specs.After.{Answer, After}
 use Rattle.state.specs.Film.{Film}

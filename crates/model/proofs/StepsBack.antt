@@ -11,8 +11,7 @@ use borrow.Author.Tests.{le-leb, lt-ltb, eq-eqb, ne-eqb, leb-true}
 use Rattle.laws.specs.Result.{Res.ok, Res.fault, _>>=_, need}
 use Rattle.state.specs.State.{rowBytes, lentLength}
 use Rattle.record.specs.Record.{Past, pastOf, restored}
-use Rattle.frame.specs.Frame.{Rises}
-use Rattle.frame.proofs.FrameLaws.{frame-rises}
+use Rattle.frame.proofs.FrameLaws.{Rises, frame-rises}
 use Rattle.state.specs.World.{isOdd, withShown}
 use Rattle.state.specs.After.{Answer.tookBack}
 use Rattle.step_back.specs.Back.{retreat, settleBack, stepBack}

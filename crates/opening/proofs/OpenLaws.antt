@@ -10,8 +10,8 @@ use lib.Dec.{leb, eqb}
 use lib.ListN.{length, take, drop, replicate, length-replicate}
 use lib.Seq.{length-take-le}
 use borrow.Author.Tests.{eq-eqb, ne-eqb, le-leb, lt-leb, leb-true, eqb-true}
-use Rattle.laws.specs.Result.{Res, Res.ok, Res.fault, _>>=_, need, orRefuse, pick, answer, orKeep, Each, Each.each, Each.no-value, All}
-use Rattle.laws.proofs.ResultLaws.{told, answer-refused, answered, each-any, each-self, each-map, each-need, each-bind, each-is, all-value}
+use Rattle.laws.specs.Result.{Res, Res.ok, Res.fault, _>>=_, need, orRefuse, pick, answer, orKeep}
+use Rattle.laws.proofs.ResultLaws.{Each, Each.each, Each.no-value, All, told, answer-refused, answered, each-any, each-self, each-map, each-need, each-bind, each-is, all-value}
 use Rattle.refusal.specs.Number.{numberOf}
 use Rattle.refusal.specs.declared.Refusal.{Refusal}
 use Rattle.state.specs.declared.State.{State}
@@ -21,8 +21,8 @@ use Rattle.state.proofs.StateLaws.{sizes-sound}
 use Rattle.state.specs.Film.{Film}
 use Rattle.iff.specs.Ids.{BMHD, BODY, ANHD, DLTA}
 use Rattle.iff.specs.Chunk.{has, contents}
-use Rattle.form.specs.Form.{FormIlbm, chunksOf, animEnd, nextForm, Closes, Follows}
-use Rattle.form.proofs.FormLaws.{anim-closes, form-follows}
+use Rattle.form.specs.Form.{FormIlbm, chunksOf, animEnd, nextForm}
+use Rattle.form.proofs.FormLaws.{Closes, Follows, anim-closes, form-follows}
 use Rattle.bmhd.specs.declared.Header.{Header}
 use Rattle.bmhd.specs.Header.{bitmapHeader}
 use Rattle.bmhd.proofs.HeaderLaws.{header-sizes}

@@ -7,8 +7,8 @@ use mathlib.Core.Path.{_≡_, refl, ap, _∙_}
 use lib.ListN.{length, length-append}
 use Rattle.number.proofs.NumberLaws.{write-most, write-short}
 use Rattle.number.specs.Number.{writeNumber}
-use Rattle.runs.specs.Runs.{Run, kept, changed, runsOf, differing, Fit}
-use Rattle.runs.proofs.PatchLaws.{by-runs, by-changed, fit-old}
+use Rattle.runs.specs.Runs.{Run, kept, changed, runsOf, differing}
+use Rattle.runs.proofs.PatchLaws.{Fit, by-runs, by-changed, fit-old}
 use Rattle.record.specs.RunList.{runBytes, runsBytes, listBytes}
 use Rattle.record.proofs.RunLaws.{run-length}
 

@@ -8,8 +8,8 @@ use lib.ListN.{length, length-append}
 use lib.Seq.{take-append-seam, drop-append-seam}
 use borrow.Author.Tests.{lt-ltb, le-leb}
 use Rattle.number.proofs.NumberLaws.{read-write}
-use Rattle.runs.specs.Runs.{Run, runsOf, Fit}
-use Rattle.runs.proofs.PatchLaws.{patch-runs, differ-runs, fit-new, count-runs}
+use Rattle.runs.specs.Runs.{Run, runsOf}
+use Rattle.runs.proofs.PatchLaws.{Fit, patch-runs, differ-runs, fit-new, count-runs}
 use Rattle.record.specs.RunList.{runBytes, runsBytes, listBytes, readRun, readRuns, readList, runsBack, beforeOf}
 use Rattle.record.specs.Record.{pictureBytes, recordBytes, pastOf}
 

@@ -6,8 +6,8 @@ use lib.Dec.{leb, eqb}
 use lib.ListN.{length, take, drop}
 use lib.Seq.{take-append-seam}
 use borrow.Author.Tests.{eqb-true}
-use Rattle.laws.specs.Result.{Res.ok, Each, Each.each}
-use Rattle.laws.proofs.ResultLaws.{each-self, each-bind, each-need, each-is}
+use Rattle.laws.specs.Result.{Res.ok}
+use Rattle.laws.proofs.ResultLaws.{Each, Each.each, each-self, each-bind, each-need, each-is}
 use Rattle.state.specs.declared.Sizes.{Sizes}
 use Rattle.state.specs.State.{frameLength}
 use Rattle.anhd.specs.declared.Items.the-variants.{Bytes}

@@ -4,7 +4,6 @@ use Prim.Native.Nat.{ℕ, _≤_}
 use mathlib.Core.List.{List}
 use mathlib.Core.Path.{_≡_, refl, ap, _∙_}
 use lib.ListN.{length, take}
-use borrow.Author.Tests.{eq-eqb, le-leb}
 use Rattle.laws.specs.Every.{Every}
 use Rattle.laws.specs.Result.{Res, Res.ok, answer, orKeep}
 use Rattle.laws.proofs.ResultLaws.{each-is, made-of}
@@ -16,7 +15,8 @@ use Rattle.delta.specs.Reading.{Op, shapeOf}
 use Rattle.delta.specs.Delta.{readDelta, draw, newFrame, Applies}
 use Rattle.delta.proofs.DeltaLaws.{same-answer}
 use Rattle.delta.specs.None.{HasRows}
-use Rattle.writer.specs.Write.{deltaBytes, written, Writes}
+use Rattle.writer.specs.Write.{deltaBytes, Writes}
+use Rattle.writer.proofs.WriteLaws.{written-whole}
 use Rattle.roundtrip.proofs.RoundTrip.{delta-turns}
 use Rattle.roundtrip.proofs.NeverNone.{never-none}
 use Rattle.roundtrip.proofs.CallLaws.{delta-written, delta-stands, new-made}
@@ -24,9 +24,7 @@ use Rattle.roundtrip.proofs.CallLaws.{delta-written, delta-stands, new-
 -- where there is room it is written
 pub written-fits : (z : Sizes) (old new out : List ℕ) (x : Res ℕ) (out′ : List ℕ) → Writes out old new z x out′ → frameLength z ≡ ok (length old) → length new ≡ length old
     → length (deltaBytes old new z) ≤ length out → x ≡ ok (length (deltaBytes old new z))
-unfolding written
-written-fits z old new out x out′ m e w h =
-    m .answers ∙ simp (e, eq-eqb (length old) (length old) refl, eq-eqb (length new) (length old) w, le-leb (length (deltaBytes old new z)) (length out) h)
+written-fits z old new out x out′ m e w h = m .answers ∙ written-whole (length out) old new z e refl w h
 
 module _ (z : Sizes) (old new out : List ℕ) (n : ℕ) (out′ : List ℕ) (m : Writes out old new z (ok n) out′) where
   -- the ops of the first n bytes of the output buffer make the new picture of the old one
@@ -43,4 +41,4 @@ module _ (z : Sizes) (old new out : List ℕ) (n : ℕ) (out′ : List ℕ) (m :
 
   -- no Uniq and no Same of none is among the ops of the delta
   pub never-none-written : (ops : List Op) × (readDelta (shapeOf z Bytes) (take n out′) ≡ ok ops) × Every HasRows ops
-  never-none-written = rw (delta-stands z old new out n out′ m) (never-none z (length old) old new (each-is (delta-written z old new out n out′ m .sizes) (sizes-sound z)) refl (delta-written z old new out n out′ m .same))
+  never-none-written = rw (delta-stands z old new out n out′ m) (never-none z (length old) old new (delta-written z old new out n out′ m .sizes) refl (delta-written z old new out n out′ m .same))

@@ -5,8 +5,10 @@ use mathlib.Core.Path.{_≡_}
 use lib.ListN.{length}
 use Rattle.laws.specs.Result.{Res.ok}
 use Rattle.laws.specs.Every.{Every}
+use Rattle.laws.proofs.ResultLaws.{each-is}
 use Rattle.state.specs.declared.Sizes.{Sizes}
-use Rattle.state.specs.State.{Sound}
+use Rattle.state.specs.State.{frameLength}
+use Rattle.state.proofs.StateLaws.{sizes-sound}
 use Rattle.writer.specs.Write.{deltaBytes}
 use Rattle.delta.specs.Reading.{Op, shapeOf}
 use Rattle.delta.specs.Delta.{readDelta}
@@ -14,6 +16,6 @@ use Rattle.delta.specs.None.{HasRows}
 use Rattle.anhd.specs.declared.Items.the-variants.{Bytes}
 use Rattle.roundtrip.proofs.DeltaLaws.{delta-reads}
 
-pub never-none : (z : Sizes) (n : ℕ) (old new : List ℕ) → Sound z n → length old ≡ n → length new ≡ n
+pub never-none : (z : Sizes) (n : ℕ) (old new : List ℕ) → frameLength z ≡ ok n → length old ≡ n → length new ≡ n
     → (ops : List Op) × (readDelta (shapeOf z Bytes) (deltaBytes old new z) ≡ ok ops) × Every HasRows ops
-never-none z n old new b lo ln = let w = delta-reads z n old new b lo ln in (w .ops, w .reads, w .makes .rows)
+never-none z n old new e lo ln = let w = delta-reads z n old new (each-is e (sizes-sound z)) lo ln in (w .ops, w .reads, w .makes .rows)

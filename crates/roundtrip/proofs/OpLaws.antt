@@ -8,8 +8,8 @@ use mathlib.Core.Path.{_≡_, refl, sym, ap, _∙_}
 use lib.Dec.{leb}
 use lib.ListN.{length, take, drop, replicate, length-append, length-drop, length-replicate, replicate-append-replicate, take-append-drop}
 use lib.Seq.{take-add, drop-drop, drop-length}
-use Rattle.runs.specs.Runs.{Run, runsOf, patch, Fit}
-use Rattle.runs.proofs.PatchLaws.{patch-runs, fit-new}
+use Rattle.runs.specs.Runs.{Run, runsOf, patch}
+use Rattle.runs.proofs.PatchLaws.{Fit, patch-runs, fit-new}
 use Rattle.column_writer.specs.Column.{WrittenOp, WrittenOp.skip, WrittenOp.uniq, WrittenOp.same, Group, groupsOf, joinUniq, stretchOps, restOf, uniqs, cut, cutAll, opsOf, columnOps}
 use Rattle.column_writer.proofs.ColumnLaws.{flat, flat-groups, column-case}
 

@@ -8,10 +8,15 @@ use mathlib.Core.Path.{_≡_, refl, sym, _∙_}
 use lib.Dec.{eqb}
 use lib.ListN.{length}
 use borrow.Author.Tests.{eqb-true, eqb-false}
-use Rattle.runs.specs.Runs.{Run, kept, changed, runsOf, differ, allDiffer, patch, Fit}
+use Rattle.runs.specs.Runs.{Run, kept, changed, runsOf, differ, allDiffer, patch}
 use Rattle.runs.proofs.RunLaws.{runs-kept, runs-changed, changed-joins, changed-begins}
 use Rattle.runs.proofs.StretchLaws.{by-test}
 use Rattle.runs.proofs.DifferLaws.{differ-more}
+
+-- runs that a reader takes: gaps from `least` on, later ones from 1 on, no empty run, all within `room` elements
+unfoldable pub Fit : ℕ → ℕ → List Run → Type 0
+Fit least room [] = Unit {0}
+Fit least room (r ∷ rs) = (least ≤ r .gap) × (0 < length (r .bytes)) × (r .gap + length (r .bytes) ≤ room) × Fit 1 (room - (r .gap + length (r .bytes))) rs
 
 -- what holds of none, and goes on over a kept and over a changed element, holds of the runs of two lists
 module _ (P : List ℕ → List ℕ → List Run → Type 0) (at-end : (new : List ℕ) → P [] new []) (at-end-too : (a : ℕ) (old : List ℕ) → P (a ∷ old) [] [])

@@ -1,6 +1,6 @@
 -- The longest stretches of elements that changed between two lists, in order: the bytes of a picture for a record, the rows of
 -- a column for the writer (document 01, "Opening, stepping on, stepping back" and "The writer").
-use Prim.Native.Nat.{ℕ, suc, _+_, _-_, _<_, _≤_}
+use Prim.Native.Nat.{ℕ, suc, _+_}
 use mathlib.Core.Bool.{Bool, true, false, _&&_}
 use mathlib.Core.List.{List, [], _∷_, _++_}
 use mathlib.Core.Option.{Option, none, some}
@@ -70,8 +70,3 @@ allDiffer (r ∷ rs) f = differ (r .bytes) (drop (r .gap) f) && allDiffer rs (dr
 unfoldable pub patch : List Run → List ℕ → List ℕ
 patch [] f = f
 patch (r ∷ rs) f = take (r .gap) f ++ r .bytes ++ patch rs (drop (r .gap + length (r .bytes)) f)
-
--- runs that a reader takes: gaps from `least` on, later ones from 1 on, no empty run, all within `room` elements
-unfoldable pub Fit : ℕ → ℕ → List Run → Type 0
-Fit least room [] = Unit {0}
-Fit least room (r ∷ rs) = (least ≤ r .gap) × (0 < length (r .bytes)) × (r .gap + length (r .bytes) ≤ room) × Fit 1 (room - (r .gap + length (r .bytes))) rs

@@ -8,11 +8,11 @@ use mathlib.Core.Path.{_≡_}
 use lib.Dec.{ltb}
 use lib.ListN.{length, take, drop}
 use borrow.Author.Tests.{lt-ltb, le-ltb, ltb-true}
-use Rattle.laws.specs.Result.{Res.ok, Res.fault, Each, Each.each}
-use Rattle.laws.proofs.ResultLaws.{each-bind, each-need, each-is}
+use Rattle.laws.specs.Result.{Res.ok, Res.fault}
+use Rattle.laws.proofs.ResultLaws.{Each, Each.each, each-bind, each-need, each-is}
 use Rattle.state.specs.declared.State.{State}
-use Rattle.state.specs.State.{rowBytes, frameBytes, lentLength, SoundState}
-use Rattle.state.proofs.StateLaws.{lent-sound, row-inside}
+use Rattle.state.specs.State.{rowBytes, frameBytes, lentLength}
+use Rattle.state.proofs.StateLaws.{SoundState, lent-sound, row-inside}
 use Rattle.state.specs.World.{World, isOdd, shownIn}
 use Rattle.shown.specs.Row.{rowPlace, rowOf}
 

@@ -6,11 +6,18 @@ use mathlib.Core.Path.{_≡_, refl, sym, _∙_}
 use mathlib.Core.Bool.{Bool, true, false}
 use lib.Dec.{leb, eqb}
 use borrow.Author.Tests.{leb-true, le-leb, eqb-true}
-use Rattle.laws.specs.Result.{Res.fault, Each, Each.each}
-use Rattle.laws.proofs.ResultLaws.{false-true, each-bind, each-need, each-map, two-true}
+use Rattle.laws.specs.Result.{Res.fault}
+use Rattle.laws.proofs.ResultLaws.{Each, Each.each, false-true, each-bind, each-need, each-map, two-true}
 use Rattle.state.specs.declared.Sizes.{Sizes}
 use Rattle.state.specs.declared.State.{State}
-use Rattle.state.specs.State.{within, rowBytes, frameBytes, frameLength, stateLength, lentLength, Sound, SoundState}
+use Rattle.state.specs.State.{within, rowBytes, frameBytes, frameLength, stateLength, lentLength, Sound}
+
+-- what proofs use of a state within the limits
+pub record SoundState (s : State) (n : ℕ) : Type 0 where
+  pub frame-least : 1 ≤ s .frame
+  pub next-most : s .next ≤ s .end
+  pub end-most : s .end ≤ 2147483647
+  pub sizes : Sound (s .sizes) n
 
 -- a number within two bounds
 pub record Between (least most x : ℕ) : Type 0 where

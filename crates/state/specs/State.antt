@@ -76,10 +76,3 @@ pub record Sound (z : Sizes) (n : ℕ) : Type 0 where
   pub plane-most : z .height * rowBytes (z .width) ≤ 1024 * 128
   pub length : n ≡ frameBytes z
   pub length-most : n ≤ 8 * 1024 * 128
-
--- what proofs use of a state within the limits
-pub record SoundState (s : State) (n : ℕ) : Type 0 where
-  pub frame-least : 1 ≤ s .frame
-  pub next-most : s .next ≤ s .end
-  pub end-most : s .end ≤ 2147483647
-  pub sizes : Sound (s .sizes) n

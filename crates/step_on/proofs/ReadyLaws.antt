@@ -5,8 +5,8 @@ use mathlib.Core.Bool.{Bool, true, false}
 use mathlib.Core.Path.{_≡_, refl, sym, _∙_}
 use lib.Dec.{leb, ltb, eqb}
 use borrow.Author.Tests.{le-leb, leb-true, ltb-true, eqb-true}
-use Rattle.laws.specs.Result.{Res.ok, need, Each, Each.each}
-use Rattle.laws.proofs.ResultLaws.{each-bind, each-need}
+use Rattle.laws.specs.Result.{Res.ok, need}
+use Rattle.laws.proofs.ResultLaws.{Each, Each.each, each-bind, each-need}
 use Rattle.state.specs.declared.Sizes.{Sizes}
 use Rattle.state.specs.declared.State.{State}
 use Rattle.state.specs.State.{frameLength, Sound}

@@ -7,8 +7,8 @@ use mathlib.Core.Path.{_≡_, refl, sym, ap, _∙_}
 use lib.Dec.{leb, eqb}
 use lib.ListN.{length, take}
 use borrow.Author.Tests.{eq-eqb, le-leb}
-use Rattle.laws.specs.Result.{Res, Res.ok, Res.fault, _>>=_, need, leaves, Each}
-use Rattle.laws.proofs.ResultLaws.{each-is, each-bind, each-map, each-self, pick-both, never}
+use Rattle.laws.specs.Result.{Res, Res.ok, Res.fault, _>>=_, need, leaves}
+use Rattle.laws.proofs.ResultLaws.{Each, each-is, each-bind, each-map, each-self, pick-both, never}
 use Rattle.refusal.specs.Number.{numberOf}
 use Rattle.refusal.specs.declared.Refusal.{Refusal}
 use Rattle.state.specs.declared.State.{State}

@@ -35,18 +35,23 @@ frames-sound s o w = record {
 pub frames-are : (z : Sizes) {n : ℕ} {old new : List ℕ} → frameLength z ≡ ok n → length old ≡ n → length new ≡ n → Frames old new (rowBytes (z .width)) (z .height) (z .planes)
 frames-are z e o w = frames-sound (each-is e (sizes-sound z)) o w
 
+-- 64 bytes of pointers, and the lists
+pub delta-length : (old new : List ℕ) (z : Sizes) → z .planes ≤ 8 → length (deltaBytes old new z) ≡ 64 + length (listsBytes old new (rowBytes (z .width)) (z .height) (z .planes) 0)
+unfolding deltaBytes
+delta-length old new z h =
+    let P : List ℕ = pointersBytes old new (rowBytes (z .width)) (z .height) (z .planes) 0 64 in
+    let Z : List ℕ = replicate (64 - 4 * z .planes) 0 in
+    let L : List ℕ = listsBytes old new (rowBytes (z .width)) (z .height) (z .planes) 0 in
+    omega (arith, length-append (P ++ Z) L, length-append P Z, pointers-length old new (rowBytes (z .width)) (z .height) (z .planes) 0 64, length-replicate {A = ℕ} (64 - 4 * z .planes) 0)
+
+-- where there is room it is written
+pub written-whole : (room : ℕ) (old new : List ℕ) (z : Sizes) {n : ℕ} → frameLength z ≡ ok n → length old ≡ n → length new ≡ n → length (deltaBytes old new z) ≤ room
+    → written room old new z ≡ ok (length (deltaBytes old new z))
+unfolding written
+written-whole room old new z {n} e o w k = simp (e, eq-eqb (length old) n o, eq-eqb (length new) n w, le-leb (length (deltaBytes old new z)) room k)
+
 -- what is answered, and what is left in the output buffer
 module _ (z : Sizes) (old new out : List ℕ) where
-  lists : List ℕ
-  lists = listsBytes old new (rowBytes (z .width)) (z .height) (z .planes) 0
-
-  delta-length : z .planes ≤ 8 → length (deltaBytes old new z) ≡ 64 + length lists
-  unfolding deltaBytes lists
-  delta-length h =
-      let P : List ℕ = pointersBytes old new (rowBytes (z .width)) (z .height) (z .planes) 0 64 in
-      let Z : List ℕ = replicate (64 - 4 * z .planes) 0 in
-      omega (arith, length-append (P ++ Z) lists, length-append P Z, pointers-length old new (rowBytes (z .width)) (z .height) (z .planes) 0 64, length-replicate {A = ℕ} (64 - 4 * z .planes) 0)
-
   answers-fault : {k : ℕ} → written (length out) old new z ≡ fault k → Writes out old new z (fault k) out
   answers-fault e = record { answers = sym e; leaves = rw e }
 
@@ -68,8 +73,7 @@ module _ (z : Sizes) (old new out : List ℕ) where
       sound = each-is e (sizes-sound z)
 
       size : length (deltaBytes old new z) ≡ 64 + length (listsBytes old new (rowBytes (z .width)) (z .height) (z .planes) 0)
-      unfolding lists
-      size = delta-length (sound .planes-most)
+      size = delta-length old new z (sound .planes-most)
 
       module _ {t : Bool} (l : t ≡ ltb (length out) (64 + length (listsBytes old new (rowBytes (z .width)) (z .height) (z .planes) 0))) where
         pub no-room : t ≡ true → Writes out old new z (fault 51) out
@@ -84,9 +88,7 @@ module _ (z : Sizes) (old new out : List ℕ) where
         pub all-written : t ≡ false → {r : ℕ} {left : List ℕ}
             → (r ≡ 64 + length (listsBytes old new (rowBytes (z .width)) (z .height) (z .planes) 0)) × (left ≡ sets out 0 (deltaBytes old new z))
             → Writes out old new z (ok r) left
-        unfolding written
         all-written h f =
             let k : length (deltaBytes old new z) ≤ length out = omega (arith, size, has-room h) in
-            let r : written (length out) old new z ≡ ok (length (deltaBytes old new z)) =
-            simp (e, eq-eqb (length old) n o, eq-eqb (length new) n w, le-leb (length (deltaBytes old new z)) (length out) k) in
+            let r : written (length out) old new z ≡ ok (length (deltaBytes old new z)) = written-whole (length out) old new z e o w k in
             record { answers = ap (λ (j : ℕ). ok j) (f .0 ∙ sym size) ∙ sym r; leaves = f .1 ∙ sets-eq (deltaBytes old new z) out 0 (omega (arith, k)) ∙ rw (r, zero-add (length (deltaBytes old new z))) }

@@ -1,8 +1,8 @@
 -- `frame::frame_at`: what the walk to the next FORM ILBM comes to.
 use native.Mathlib.Omega.{arith}
 use Rattle.frame.specs.Frame.{frameAt}
-use Rattle.form.specs.Form.{Follows, formOf}
-use Rattle.form.proofs.FormLaws.{form-follows}
+use Rattle.form.specs.Form.{formOf}
+use Rattle.form.proofs.FormLaws.{Follows, form-follows}
 use Rattle.laws.proofs.ResultLaws.{told, each-some}
 use borrow.Author.Needs.{needs}
 use Rattle.frame.proofs.frame_at.Statement.{statement}

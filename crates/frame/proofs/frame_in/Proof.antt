@@ -3,8 +3,8 @@ use native.Mathlib.Nat.{add-sub-cancel-left}
 use native.Mathlib.Omega.{arith}
 use lib.ListN.{length-take, length-drop}
 use Rattle.laws.proofs.ResultLaws.{told, each-some}
-use Rattle.iff.specs.Chunk.{foundOf, Lies}
-use Rattle.iff.proofs.ChunkLaws.{find-lies}
+use Rattle.iff.specs.Chunk.{foundOf}
+use Rattle.iff.proofs.ChunkLaws.{Lies, find-lies}
 use Rattle.frame.specs.Frame.{frameIn}
 use Rattle.frame.proofs.FrameLaws.{in-with}
 use borrow.Author.Needs.{needs}

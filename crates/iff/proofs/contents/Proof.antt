@@ -2,8 +2,8 @@
 use native.Mathlib.Nat.{add-sub-cancel-left}
 use native.Mathlib.Omega.{arith}
 use Rattle.laws.proofs.ResultLaws.{told, each-some}
-use Rattle.iff.specs.Chunk.{foundOf, contents, Lies}
-use Rattle.iff.proofs.ChunkLaws.{find-lies}
+use Rattle.iff.specs.Chunk.{foundOf, contents}
+use Rattle.iff.proofs.ChunkLaws.{Lies, find-lies}
 use borrow.Author.Needs.{needs}
 use Rattle.iff.proofs.contents.Statement.{statement}
 use Rattle.iff.proofs.contents.Tie as tie

@@ -2,8 +2,8 @@
 use native.Mathlib.Omega.{arith}
 use mathlib.Core.Path.{sym}
 use Rattle.laws.proofs.ResultLaws.{told, each-some}
-use Rattle.form.specs.Form.{formOf, Follows}
-use Rattle.form.proofs.FormLaws.{form-follows}
+use Rattle.form.specs.Form.{formOf}
+use Rattle.form.proofs.FormLaws.{Follows, form-follows}
 use Rattle.opening.specs.Parts.{hasBodyOf}
 use Rattle.opening.proofs.OpenLaws.{anim-broken, anim-empty, form-broken, form-given}
 use borrow.Author.Needs.{needs}

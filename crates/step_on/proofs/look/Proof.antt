@@ -4,8 +4,8 @@ use native.Mathlib.Omega.{arith}
 use mathlib.Core.Path.{_≡_}
 use Rattle.laws.proofs.ResultLaws.{told}
 use Rattle.state.specs.State.{rowBytes}
-use Rattle.frame.specs.Frame.{nextOf, Rises, frameAt}
-use Rattle.frame.proofs.FrameLaws.{frame-rises, frame-columns}
+use Rattle.frame.specs.Frame.{nextOf, frameAt}
+use Rattle.frame.proofs.FrameLaws.{Rises, frame-rises, frame-columns}
 use Rattle.step_on.proofs.StepLaws.{look-refused, look-ended, look-built}
 use borrow.Author.Needs.{needs}
 use Rattle.step_on.proofs.look.Statement.{statement}
