@@ -143,7 +143,7 @@ typedef char anim_report_has_32_bytes[sizeof(anim_report) == 32 ? 1 : -1];
 /*
  * A delta buffer's length that is enough for every two pictures: 64 bytes of pointers, and for each
  * column of each plane 3/2 of the height, rounded down, and 2 bytes. This bound is proved (theorem
- * longest-fits). 320 x 200 x 5: 64 + 40 * 5 * (300 + 2) = 60464.
+ * delta-fits). 320 x 200 x 5: 64 + 40 * 5 * (300 + 2) = 60464.
  *
  * A column is a count byte and its ops. A Skip costs a byte and goes down at least one row. Sames cost
  * fewer bytes than they have rows. A Uniq costs a byte more than it has rows, and unless it has 127 rows
