@@ -2,7 +2,7 @@
 use mathlib.Core.List.{map}
 use mathlib.Core.Path.{_≡_, refl}
 use Rattle.laws.specs.Loop.{iterate}
-use Rattle.laws.specs.Bytes.{be16, be32}
+use Rattle.laws.specs.Bytes.{be16, be32, be32Bytes}
 use Rattle.state.specs.State.{rowBytes, frameBytes, frameLength, stateLength, lentLength}
 use Rattle.number.specs.Number.{readNumber, groups, lastGroup, writeNumber, writeGroups}
 use Rattle.runs.specs.Runs.{kept, changed, runsOf, differ, differing, allDiffer, patch}
@@ -18,7 +18,7 @@ use Rattle.delta.specs.Reading.{byteAt}
 use Rattle.delta.specs.Column.{skipRows, fill, readOp, readOps, readColumn, readColumns}
 use Rattle.delta.specs.Delta.{listPointer, readPlane, readPlanes, readPicture, readDelta, put, draw, readFrame, newFrame}
 use Rattle.column_writer.specs.Column.{join, groupsOf, joinUniq, stretchOps, restOf, uniqs, cut, cutAll, opsOf, columnOps, opBytes, opsBytes, columnBytes}
-use Rattle.writer.specs.Write.{columnAt, columnIn, columnsBytes, planesEqual, planeBytes, be32Bytes, planePointer, pointersBytes, listsBytes, deltaBytes, written}
+use Rattle.writer.specs.Write.{columnAt, columnIn, columnsBytes, planesEqual, planeBytes, planePointer, pointersBytes, listsBytes, deltaBytes, written}
 use Rattle.frame.specs.Frame.{frameIn, frameAt}
 use Rattle.opening.specs.Open.{bodyIn, placesIn, firstPlaces, firstHeader, firstPicture, firstOf, opening}
 use Rattle.state.specs.World.{isOdd, shownIn, hiddenIn}

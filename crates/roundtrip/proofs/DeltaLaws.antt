@@ -7,19 +7,19 @@ use mathlib.Core.List.{List, [], _∷_, _++_, append-assoc}
 use mathlib.Core.Path.{_≡_, refl, sym, ap, _∙_}
 use lib.Dec.{ltb, eqb}
 use lib.ListN.{length, getD, take, drop, replicate, length-append, length-replicate}
-use lib.Seq.{ext-getD, getD-take, getD-drop, getD-append-seam, getD-append-add, drop-at}
+use lib.Seq.{ext-getD, getD-take, getD-drop, drop-at}
 use borrow.Author.Tests.{le-leb, ltb-true, ltb-false, eqb-true}
 use Rattle.laws.specs.Result.{Res.ok}
 use Rattle.laws.proofs.ResultLaws.{never}
-use Rattle.laws.specs.Bytes.{be32}
-use Rattle.laws.proofs.BytesLaws.{four-bytes}
+use Rattle.laws.specs.Bytes.{be32, be32Bytes}
+use Rattle.laws.proofs.BytesLaws.{be32-at, length-be32}
 use Rattle.laws.specs.Every.{Every.every-none}
 use Rattle.state.specs.declared.Sizes.{Sizes}
 use Rattle.state.specs.State.{rowBytes, frameBytes, Sound}
 use Rattle.column_writer.specs.Column.{columnBytes}
 use Rattle.writer.proofs.DeltaRoom.{lists-few}
-use Rattle.writer.specs.Write.{columnIn, columnsBytes, planesEqual, planeBytes, be32Bytes, planePointer, pointersBytes, listsBytes, deltaBytes}
-use Rattle.writer.proofs.PlaneLaws.{length-be32, pointers-length, plane-unchanged, plane-changed}
+use Rattle.writer.specs.Write.{columnIn, columnsBytes, planesEqual, planeBytes, planePointer, pointersBytes, listsBytes, deltaBytes}
+use Rattle.writer.proofs.PlaneLaws.{pointers-length, plane-unchanged, plane-changed}
 use Rattle.writer.proofs.ColumnLaws.{column-ext}
 use Rattle.delta.proofs.DeltaLaws.{plane-same, plane-columns}
 use Rattle.delta.specs.Reading.{Op, Reading, shapeOf}
@@ -79,14 +79,6 @@ equal-eq (a ∷ s) (b ∷ t) e = go (eqb a b) refl e (equal-eq s t)
     go : (u : Bool) → eqb a b ≡ u → (elim u as (λ _. Bool) [ true ↦ planesEqual s t | false ↦ false ]) ≡ true → (planesEqual s t ≡ true → s ≡ t) → a ∷ s ≡ b ∷ t
     go true q e ih = rw (eqb-true a b q, ih e)
     go false q e ih = never (cc)
-
--- a number in four bytes is read back
-be32-at : (xs ys : List ℕ) (n p : ℕ) → length xs ≡ p → n < 4294967296 → be32 (xs ++ (be32Bytes n ++ ys)) p ≡ n
-unfolding be32 be32Bytes
-be32-at xs ys n p e h =
-    let z : p ≡ length xs + 0 = omega arith in
-    let l : List ℕ = be32Bytes n ++ ys in
-    rw (← e) (rw (getD-append-seam xs (n / 16777216 % 256) (n / 65536 % 256 ∷ n / 256 % 256 ∷ n % 256 ∷ ys) 0, getD-append-add xs l 1 0, getD-append-add xs l 2 0, getD-append-add xs l 3 0) (four-bytes n h))
 
 pointer-le : (place : ℕ) (l : List ℕ) → planePointer place l ≤ place
 unfolding planePointer

@@ -12,11 +12,11 @@ use lib.Dec.{lit<, eqb}
 use lib.ListN.{length, take, drop, take-append-drop}
 use lib.Pow.{pow-pos}
 use borrow.Author.Tests.{eqb-true, eqb-false}
-use Rattle.laws.specs.Bytes.{Bytes}
+use Rattle.laws.specs.Bytes.{wordOf, Bytes}
 use Rattle.laws.proofs.BytesLaws.{bytes-take, bytes-drop}
 use Rattle.laws.proofs.StoreLaws.{length-part}
 use Rattle.runs.specs.Stretch.{stretch, Scanned}
-use Rattle.runs.specs.Word.{wordOf, zeroBytes, Stop}
+use Rattle.runs.specs.Word.{zeroBytes, Stop}
 use Rattle.runs.proofs.StretchLaws.{by-test, stretch-more, stretch-stop}
 use Rattle.runs.proofs.WordLaws.{xor-word, xor-bytes, zeroByte, words, zero-word, zero-of-zero, zero-of-other}
 

@@ -1,34 +1,17 @@
 -- Laws of words: the numbers that they are, and their bytes under bit operations.
-use Prim.Native.Nat.{ℕ, zero, suc, _+_, _*_, _^_, _<_, _≤_}
-use native.Mathlib.Nat.{pow-suc}
+use Prim.Native.Nat.{ℕ, zero, suc, _+_, _*_, _<_, _≤_}
 use native.Mathlib.Decide.{ℕ-discrete as decEq}
 use native.Mathlib.Omega.{arith}
 use mathlib.Core.Bool.{Bool, true, _&&_}
-use mathlib.Core.List.{List, [], _∷_, _++_, map, zipWith}
+use mathlib.Core.List.{List, [], _∷_, map, zipWith}
 use mathlib.Core.Path.{_≡_, refl, ap, _∙_}
 use lib.Bits.{bitAnd, bitOr, bitXor, xor-lt, xor-block, and-block, and-le-r, or-block, or-lt}
 use lib.Dec.{lit<, eqb}
-use lib.ListN.{length, getD, replicate, take, drop}
-use lib.Seq.{take-add, drop-drop}
+use lib.ListN.{length, replicate}
 use borrow.Author.Tests.{eqb-true}
-use Rattle.laws.specs.Bytes.{Bytes}
+use Rattle.laws.specs.Bytes.{wordOf, Bytes}
 use Rattle.laws.proofs.ResultLaws.{two-true}
-use Rattle.laws.proofs.StoreLaws.{four-at, length-part}
-use Rattle.runs.specs.Word.{wordOf, zeroBytes}
-
--- a word of four bytes at a place, and of two halves
-pub four-bytes : (s : List ℕ) (at : ℕ) → at + 4 ≤ length s → wordOf (take 4 (drop at s)) ≡ getD s at 0 + 256 * getD s (at + 1) 0 + 65536 * getD s (at + 2) 0 + 16777216 * getD s (at + 3) 0
-unfolding wordOf
-four-bytes s at h = rw (four-at s at h) (omega arith)
-
-word-append : (xs ys : List ℕ) → wordOf (xs ++ ys) ≡ wordOf xs + 256 ^ length xs * wordOf ys
-unfolding wordOf
-word-append [] ys = omega arith
-word-append (x ∷ xs) ys = rw (word-append xs ys, pow-suc 256 (length xs)) (omega arith)
-
-pub two-halves : (s : List ℕ) (at : ℕ) → at + 8 ≤ length s → wordOf (take 8 (drop at s)) ≡ wordOf (take 4 (drop at s)) + 4294967296 * wordOf (take 4 (drop (at + 4) s))
-two-halves s at h =
-    rw (take-add 4 4 (drop at s), drop-drop 4 at s, word-append (take 4 (drop at s)) (take 4 (drop (at + 4) s)), length-part s at 4 (omega arith))
+use Rattle.runs.specs.Word.{zeroBytes}
 
 -- the bytes of the word of two words under a bit operation
 pub xor-word : (xs ys : List ℕ) → length xs ≡ length ys → Bytes xs → Bytes ys → bitXor (wordOf xs) (wordOf ys) ≡ wordOf (zipWith bitXor xs ys)

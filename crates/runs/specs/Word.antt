@@ -1,17 +1,12 @@
 -- Bytes compared eight at a time: what the private functions over words answer.
-use Prim.Native.Nat.{ℕ, _+_, _-_, _*_, _/_, _<_, _≤_}
+use Prim.Native.Nat.{ℕ, _+_, _-_, _/_, _<_, _≤_}
 use mathlib.Core.Bool.{Bool}
-use mathlib.Core.List.{List, [], _∷_}
+use mathlib.Core.List.{List, []}
 use mathlib.Core.Path.{_≡_}
 use lib.Bits.{bitAnd, bitOr}
 use lib.Count.{trailingZeros}
 use lib.ListN.{drop}
 use Rattle.runs.specs.Stretch.{stretch}
-
--- bytes as one number, the lowest first
-unfoldable pub wordOf : List ℕ → ℕ
-wordOf [] = 0
-wordOf (x ∷ xs) = wordOf xs * 256 + x
 
 -- 128 in each byte of w that is 0, and 0 in the others, where each byte of low is 127 and each of high 128
 unfoldable pub zeroBytes : ℕ → ℕ → ℕ → ℕ

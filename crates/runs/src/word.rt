@@ -2,8 +2,8 @@
 ghost use mathlib.Core.Path.{_≡_};
 ghost use Prim.Native.Nat.{_+_, _<_, _≤_};
 ghost use lib.ListN.{length, getD, take, drop};
-ghost use Rattle.laws.specs.Bytes.{Bytes};
-ghost use Rattle.runs.specs.Word.{wordOf, zeroBytes, Stop};
+ghost use Rattle.laws.specs.Bytes.{wordOf, Bytes};
+ghost use Rattle.runs.specs.Word.{zeroBytes, Stop};
 
 // A word of bytes that are 127, and one of bytes that are 128.
 const LOW: u64 = 0x7f7f_7f7f_7f7f_7f7f;

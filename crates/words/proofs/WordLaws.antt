@@ -1,18 +1,18 @@
 -- Laws of numbers in bytes: what is written reads back, and numbers laid one after the other fill their buffer.
 use Prim.Native.Nat.{ℕ, zero, suc, _<_, _+_, _*_, _/_, _%_}
-use native.Mathlib.Nat.{add-assoc}
 use native.Mathlib.Omega.{arith}
 use mathlib.Core.List.{List, [], _∷_, _++_, append-nil, append-assoc}
 use mathlib.Core.Path.{_≡_, refl, sym, _∙_}
 use lib.ListN.{length, getD, set, length-append, drop-of-length-le}
-use lib.Seq.{sets-eq, getD-append-add}
+use lib.Seq.{sets-eq, drop-drop, drop-append-seam}
 use borrow.Author.Tests.{eq-eqb, ne-eqb}
+use Rattle.laws.specs.Bytes.{wordOf}
 use Rattle.laws.proofs.BytesLaws.{four-bytes}
 use Rattle.laws.proofs.StoreLaws.{stored-four}
 use Rattle.laws.specs.Put.{Put}
 use Rattle.laws.proofs.PutLaws.{put-is, put-nothing, put-then}
 use Rattle.state.specs.declared.State.{State}
-use Rattle.words.specs.Words.{le32, le64, readState, stateWords, le32Bytes, le64Bytes, wordsBytes, lay}
+use Rattle.words.specs.Words.{le64, readState, stateWords, le32Bytes, le64Bytes, wordsBytes, lay}
 
 length-four : (n : ℕ) → length (le32Bytes n) ≡ 4
 unfolding le32Bytes
@@ -60,28 +60,13 @@ unfolding lay
 not-laid {out} ns h = simp (ne-eqb (length out) (8 * length ns) h)
 
 -- what is written reads back
-four-back : (n : ℕ) (r : List ℕ) → n < 4294967296 → le32 (le32Bytes n ++ r) 0 ≡ n
-unfolding le32 le32Bytes
-four-back n r h = omega (arith, four-bytes n h)
-
-four-skip : (xs s : List ℕ) (k : ℕ) → le32 (xs ++ s) (length xs + k) ≡ le32 s k
-unfolding le32
-four-skip xs s k =
-    rw (add-assoc (length xs) k 1, add-assoc (length xs) k 2, add-assoc (length xs) k 3)
-    (rw (getD-append-add xs s k 0, getD-append-add xs s (k + 1) 0, getD-append-add xs s (k + 2) 0, getD-append-add xs s (k + 3) 0) refl)
-
 eight-skip : (xs s : List ℕ) (k : ℕ) → le64 (xs ++ s) (length xs + k) ≡ le64 s k
 unfolding le64
-eight-skip xs s k = rw (add-assoc (length xs) k 4) (rw (four-skip xs s k, four-skip xs s (k + 4)) refl)
+eight-skip xs s k = rw (← drop-drop k (length xs) (xs ++ s), drop-append-seam xs s)
 
 eight-back : (n : ℕ) (r : List ℕ) → n < 18446744073709551616 → le64 (le64Bytes n ++ r) 0 ≡ n
-unfolding le64 le64Bytes le32Bytes
-eight-back n r h =
-    let low : List ℕ = le32Bytes (n % 4294967296) in
-    let high : List ℕ = le32Bytes (n / 4294967296) in
-    let e : le32 ((low ++ high) ++ r) 0 ≡ n % 4294967296 = rw (append-assoc low high r) (four-back (n % 4294967296) (high ++ r) (omega arith)) in
-    let f : le32 ((low ++ high) ++ r) (0 + 4) ≡ n / 4294967296 = rw (append-assoc low high r) (four-skip low (high ++ r) 0 ∙ four-back (n / 4294967296) r (omega arith)) in
-    rw (e, f) (omega arith)
+unfolding le64 le64Bytes le32Bytes wordOf
+eight-back n r h = omega (arith, four-bytes (n % 4294967296) (omega arith), four-bytes (n / 4294967296) (omega arith))
 
 -- the number at a place of many
 word-back : (ns : List ℕ) (i : ℕ) → ((n : ℕ) → getD ns n 0 < 18446744073709551616) → i < length ns → le64 (wordsBytes ns) (8 * i) ≡ getD ns i 0

@@ -1,21 +1,19 @@
 -- The contracts of `words` and `write_words`: numbers of eight bytes, the lowest byte first, as a C program on x86-64 keeps them. A
 -- state is six of them, in the order of document 01, "Opening, stepping on, stepping back": width, height, planes, frame number,
 -- next place, end place.
-use Prim.Native.Nat.{ℕ, _+_, _*_, _/_, _%_}
+use Prim.Native.Nat.{ℕ, _*_, _/_, _%_}
 use mathlib.Core.List.{List, [], _∷_, _++_}
 use lib.Dec.{eqb}
-use lib.ListN.{length, getD}
+use lib.ListN.{length, take, drop}
+use Rattle.laws.specs.Bytes.{wordOf}
 use Rattle.laws.specs.Result.{pick}
 use Rattle.state.specs.State.{zeros}
 use Rattle.state.specs.declared.Report.{Report}
 use Rattle.state.specs.declared.State.{State}
 
--- the number in four bytes and in eight, from a place on
-unfoldable pub le32 : List ℕ → ℕ → ℕ
-le32 s at = getD s at 0 + 256 * getD s (at + 1) 0 + 65536 * getD s (at + 2) 0 + 16777216 * getD s (at + 3) 0
-
+-- the number in eight bytes from a place on
 unfoldable pub le64 : List ℕ → ℕ → ℕ
-le64 s at = le32 s at + 4294967296 * le32 s (at + 4)
+le64 s at = wordOf (take 8 (drop at s))
 
 -- the bytes of a number
 unfoldable pub le32Bytes : ℕ → List ℕ

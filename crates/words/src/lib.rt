@@ -1,8 +1,9 @@
 // States as numbers of eight bytes, the lowest byte first, read from lent buffers.
 ghost use mathlib.Core.Path.{_≡_};
 ghost use Prim.Native.Nat.{_+_, _<_, _≤_};
-ghost use lib.ListN.{length, getD};
-ghost use Rattle.words.specs.Words.{le32, le64, readState};
+ghost use lib.ListN.{length, getD, take, drop};
+ghost use Rattle.laws.specs.Bytes.{wordOf};
+ghost use Rattle.words.specs.Words.{le64, readState};
 use state::Sizes;
 use state::State;
 
@@ -16,7 +17,7 @@ fn byte_at(s: &[u8], at: usize) -> usize
 // The number in four bytes from a place on.
 fn number32(s: &[u8], at: usize) -> usize
     requires { ⌜ at + 4 ≤ length (now s) ⌝ }
-    ensures { λ r. ⌜ (r ≡ le32 (now (s .entry)) at) × (r < 4294967296) ⌝ }
+    ensures { λ r. ⌜ (r ≡ wordOf (take 4 (drop at (now (s .entry))))) × (r < 4294967296) ⌝ }
 {
     let low = byte_at(s, at) + 256 * byte_at(s, at + 1);
     low + 65536 * byte_at(s, at + 2) + 16777216 * byte_at(s, at + 3)

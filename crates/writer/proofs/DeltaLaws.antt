@@ -6,14 +6,16 @@ use mathlib.Core.Path.{_≡_, refl, sym, ap, _∙_}
 use lib.Dec.{eqb}
 use lib.ListN.{length, set, take, drop, replicate, length-append, length-replicate}
 use lib.Seq.{sets, length-sets, set-comm}
+use Rattle.laws.proofs.BytesLaws.{length-be32}
+use Rattle.laws.specs.Bytes.{be32Bytes}
 use Rattle.laws.specs.Result.{pick}
 use Rattle.laws.specs.Put.{Put}
 use Rattle.laws.proofs.StoreLaws.{sets-append, lent-fill}
 use Rattle.state.specs.declared.Sizes.{Sizes}
 use Rattle.state.specs.State.{rowBytes}
 use Rattle.writer.specs.Planes.{Frames}
-use Rattle.writer.specs.Write.{planeBytes, be32Bytes, planePointer, pointersBytes, listsBytes, deltaBytes}
-use Rattle.writer.proofs.PlaneLaws.{Walking, length-be32, pointers-length, pointer-is, walking, walking-more}
+use Rattle.writer.specs.Write.{planeBytes, planePointer, pointersBytes, listsBytes, deltaBytes}
+use Rattle.writer.proofs.PlaneLaws.{Walking, pointers-length, pointer-is, walking, walking-more}
 
 -- stores that lie apart may be made in either order
 set-sets : (f : List ℕ) (i a j : ℕ) (ys : List ℕ) → i < j → sets (set f i a) j ys ≡ set (sets f j ys) i a

@@ -9,9 +9,11 @@ use lib.Dec.{eqb}
 use lib.ListN.{length, getD, take, drop, length-append, drop-of-length-le}
 use lib.Seq.{drop-cons}
 use borrow.Author.Tests.{eq-eqb, ne-eqb}
+use Rattle.laws.proofs.BytesLaws.{length-be32}
+use Rattle.laws.specs.Bytes.{be32Bytes}
 use Rattle.laws.specs.Result.{pick}
 use Rattle.laws.proofs.PutLaws.{Parts}
-use Rattle.writer.specs.Write.{columnIn, columnsBytes, planesEqual, planeBytes, be32Bytes, planePointer, pointersBytes, listsBytes}
+use Rattle.writer.specs.Write.{columnIn, columnsBytes, planesEqual, planeBytes, planePointer, pointersBytes, listsBytes}
 use Rattle.writer.specs.Planes.{Plane, Frames}
 
 -- so many planes are left, from a place on
@@ -124,9 +126,6 @@ lists-none old new row height zero at h = refl
 lists-none old new row height (suc k) at h = absurd (omega arith)
 
 -- the pointers of so many planes
-pub length-be32 : (n : ℕ) → length (be32Bytes n) ≡ 4
-length-be32 n = unfold be32Bytes in refl
-
 pub pointers-length : (old new : List ℕ) (row height k at place : ℕ) → length (pointersBytes old new row height k at place) ≡ 4 * k
 unfolding pointersBytes
 pointers-length old new row height zero at place = refl

@@ -1,11 +1,12 @@
 -- A method 5 delta that is written (document 01, "The writer"), given the old and the new frame and their sizes. Equal planes
 -- get pointer 0; the others' lists follow from place 64 in plane order. The second eight pointers are 0.
-use Prim.Native.Nat.{ℕ, zero, suc, _+_, _-_, _*_, _/_, _%_}
+use Prim.Native.Nat.{ℕ, zero, suc, _+_, _-_, _*_, _/_}
 use mathlib.Core.Bool.{Bool, true, false}
 use mathlib.Core.List.{List, [], _∷_, _++_}
 use mathlib.Core.Path.{_≡_}
 use lib.Dec.{leb, eqb}
 use lib.ListN.{length, getD, take, drop, replicate}
+use Rattle.laws.specs.Bytes.{be32Bytes}
 use Rattle.laws.specs.Result.{Res, Res.ok, Res.fault, _>>=_, need, leaves}
 use Rattle.refusal.specs.Number.{numberOf}
 use Rattle.state.specs.State.{rowBytes, frameLength}
@@ -39,10 +40,6 @@ planesEqual (a ∷ s) (b ∷ t) = elim (eqb a b) [ true ↦ planesEqual s t | fa
 unfoldable pub planeBytes : List ℕ → List ℕ → ℕ → ℕ → ℕ → List ℕ
 planeBytes old new row height at =
     elim (planesEqual (take (height * row) (drop at old)) (take (height * row) (drop at new))) [ true ↦ [] | false ↦ columnsBytes old new row height row at ]
-
--- a number in four bytes, the highest first
-unfoldable pub be32Bytes : ℕ → List ℕ
-be32Bytes n = n / 16777216 % 256 ∷ n / 65536 % 256 ∷ n / 256 % 256 ∷ n % 256 ∷ []
 
 -- a plane's pointer: its list's place, or 0 where there is none
 unfoldable pub planePointer : ℕ → List ℕ → ℕ

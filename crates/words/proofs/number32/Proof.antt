@@ -1,13 +1,14 @@
 -- `words::number32`: the four bytes' bounds give the sum's.
 use native.Mathlib.Omega.{arith}
-use Rattle.words.specs.Words.{le32}
+use Rattle.laws.proofs.BytesLaws.{word-four}
 use borrow.Author.Needs.{needs}
 use Rattle.words.proofs.number32.Statement.{statement}
 use Rattle.words.proofs.number32.Tie as tie
 
 returns : tie.Need-returns
-unfolding le32
-returns c = omega arith
+returns c =
+    let b = c .before .before .before .before .before in
+    (omega (arith, word-four (b .args .s .now) (b .args .at) (b .pre)), omega arith)
 
 pub number32-spec : {M : Type 1} → statement M
 number32-spec =

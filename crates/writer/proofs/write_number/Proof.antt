@@ -1,7 +1,7 @@
 -- `writer::write_number`: four stores.
 use lib.ListN.{length-set}
+use Rattle.laws.specs.Bytes.{be32Bytes}
 use Rattle.laws.proofs.StoreLaws.{stored-four}
-use Rattle.writer.specs.Write.{be32Bytes}
 use native.Mathlib.Omega.{arith}
 use borrow.Author.Needs.{needs}
 use Rattle.writer.proofs.write_number.Statement.{statement}

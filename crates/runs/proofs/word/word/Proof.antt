@@ -1,6 +1,6 @@
 -- `runs::word::word`: two halves.
 use native.Mathlib.Omega.{arith}
-use Rattle.runs.proofs.WordLaws.{two-halves}
+use Rattle.laws.proofs.BytesLaws.{word-halves}
 use borrow.Author.Needs.{needs}
 use Rattle.runs.proofs.word.word.Statement.{statement}
 use Rattle.runs.proofs.word.word.Tie as tie
@@ -8,7 +8,7 @@ use Rattle.runs.proofs.word.word.Tie as tie
 returns : tie.Need-returns
 returns c =
     let b = c .before .before .before in
-    (omega (arith, two-halves (b .args .s .now) (b .args .at) (b .pre)), c .half-word2 .ensures .2)
+    (omega (arith, word-halves (b .args .s .now) (b .args .at) (b .pre)), c .half-word2 .ensures .2)
 
 pub word-spec : {M : Type 1} → statement M
 word-spec =
