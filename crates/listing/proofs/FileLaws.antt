@@ -20,7 +20,7 @@ use Rattle.state.specs.After.{Answer, Answer.refused, Answer.ended, Answer.took
 use Rattle.step_on.specs.Step.{stepOn}
 use Rattle.lines.specs.Lines.{pictureLine, refusedLine, tooLarge, Adds}
 use Rattle.lines.proofs.TextLaws.{adds-at, adds-front, length-over}
-use Rattle.listing.specs.Listing.{Listing, addLine, lineOn, listStep, listFrames, Buffers, unlisted, listOpened, listFilm, ROOM, frontOf, listFront, Planned, Planned.single, Planned.pictures, sized, planFor, listPlanned, listFile, listing, longEnough, listLent, lentText, Lists, MeetsList, Holds}
+use Rattle.listing.specs.Listing.{Listing, addLine, lineOn, listStep, listFrames, Buffers, unlisted, listOpened, listFilm, ROOM, frontOf, listFront, Planned, Planned.single, Planned.pictures, planSized, planFor, listPlanned, listFile, listing, longEnough, listLent, lentText, Lists, MeetsList, Holds}
 
 -- what the work and the record buffer hold makes no difference to pictures, state and text
 record Alike (c d : Listing) : Type 0 where
@@ -130,7 +130,7 @@ pictures-fit file {n} = go (leb (length file) 65_536) (frameSize file)
     fits m true e d = let f : m ≡ n = cc in rw f at (leb-true m 16_384 e)
     fits m false e d = never (cc)
 
-    go : (t : Bool) (q : Res ℕ) → pick t (sized q) (single tooLarge) ≡ pictures n → n ≤ 16_384
+    go : (t : Bool) (q : Res ℕ) → pick t (planSized q) (single tooLarge) ≡ pictures n → n ≤ 16_384
     go true (ok m) d = fits m (leb m 16_384) refl d
     go true (fault m) d = never (cc)
     go false q d = never (cc)

@@ -103,12 +103,12 @@ pub data Planned : Type 0 where
   pictures : ℕ → Planned
 
 -- by the length of the first picture's frame
-abbrev pub sized : Res ℕ → Planned
-sized (ok n) = pick (leb n 16_384) (pictures n) (single tooLarge)
-sized (fault n) = single (refusedLine n)
+abbrev pub planSized : Res ℕ → Planned
+planSized (ok n) = pick (leb n 16_384) (pictures n) (single tooLarge)
+planSized (fault n) = single (refusedLine n)
 
 unfoldable pub planFor : List ℕ → Planned
-planFor file = pick (leb (length file) 65_536) (sized (frameSize file)) (single tooLarge)
+planFor file = pick (leb (length file) 65_536) (planSized (frameSize file)) (single tooLarge)
 
 abbrev pub planOf : Plan → Planned
 planOf (Single line) = single (lineOf line)

@@ -33,7 +33,7 @@ use Rattle.step_on.specs.Step.{basis, change, Built, build, look, lookAhead, re
 use Rattle.step_on.proofs.CaseLaws.{stepTo, on-case}
 use Rattle.step_on.proofs.ReadyLaws.{ready-passed}
 use Rattle.lines.specs.Lines.{frameLine, endLine, refusedLine, pictureLine}
-use Rattle.listing.specs.Listing.{Listing, lineOn, listStep, listFrames, Buffers, listOpened, ROOM, listFront, sized, listPlanned, Planned}
+use Rattle.listing.specs.Listing.{Listing, lineOn, listStep, listFrames, Buffers, listOpened, ROOM, listFront, planSized, listPlanned, Planned}
 use Rattle.changes.proofs.CountLaws.{differing-short}
 use Rattle.record.proofs.RecordRoom.{record-short}
 use Rattle.answers.proofs.InTable.{InTable, InTable.table-refusal, table-number}
@@ -173,7 +173,7 @@ module _ (file : List ℕ) (bytes : Bytes file) where
       frames-short file bytes h n _ (record { left = w; right = w; frame = omega arith; place = p; text = t })
   opened-short h n k (fault m) (table-refusal l) g b = omega (arith, refused-line-short m l)
 
-  pub sized-short : length file ≤ 65_536 → (q : Res ℕ) → InTable q → Short (listPlanned file (record { a = []; b = []; work = []; rec = [] }) (sized q))
+  pub sized-short : length file ≤ 65_536 → (q : Res ℕ) → InTable q → Short (listPlanned file (record { a = []; b = []; work = []; rec = [] }) (planSized q))
   unfolding listFront
   sized-short h (ok n) l =
       pick-case (λ (p : Planned). Short (listPlanned file (record { a = []; b = []; work = []; rec = [] }) p)) (leb n 16_384)

@@ -13,7 +13,7 @@ use lib.Seq.{drop-drop}
 use borrow.Author.Tests.{eq-eqb, ne-eqb, eqb-true, eqb-false, leb-true, leb-false}
 use Rattle.laws.proofs.ResultLaws.{none-some, some-same}
 use Rattle.laws.proofs.StoreLaws.{length-part}
-use Rattle.runs.specs.Runs.{Run, kept, changed, runsOf, First, firstOf, nextRun}
+use Rattle.runs.specs.Runs.{Run, kept, changed, runsOf, FirstRun, firstRun, nextRun}
 use Rattle.runs.specs.Stretch.{stretch}
 use Rattle.runs.proofs.RunLaws.{runs-kept, runs-changed}
 use Rattle.runs.proofs.StretchLaws.{by-test, stretch-more, stretch-stop, stretch-end, stretch-none, stretch-short}
@@ -118,7 +118,7 @@ module _ (old new : List ℕ) (at : ℕ) where
   two-lengths h = simp (ne-eqb _ _ h)
 
   module _ (l : length old ≡ length new) where
-    next-is : nextRun old new at ≡ firstOf (runsOf (drop at old) (drop at new))
+    next-is : nextRun old new at ≡ firstRun (runsOf (drop at old) (drop at new))
     unfolding nextRun
     next-is = simp (eq-eqb _ _ l)
 
@@ -126,17 +126,17 @@ module _ (old new : List ℕ) (at : ℕ) where
     runs-past h = rw (drop-of-length-le old {i = at} h) (unfold runsOf in refl)
 
     pub past-end : length old ≤ at → none ≡ nextRun old new at
-    past-end h = sym (next-is ∙ ap firstOf (runs-past h) ∙ unfold firstOf in refl)
+    past-end h = sym (next-is ∙ ap firstRun (runs-past h) ∙ unfold firstRun in refl)
 
     is-ahead : {gap count : ℕ} → RunAhead old new at gap count → some (record { gap = gap; count = count }) ≡ nextRun old new at
-    is-ahead a = sym (next-is ∙ ap firstOf (a .runs) ∙ unfold firstOf in rw (ahead-length a))
+    is-ahead a = sym (next-is ∙ ap firstRun (a .runs) ∙ unfold firstRun in rw (ahead-length a))
 
     module _ (start : ℕ) (h : at < length old) (e : start ≡ at + stretch true (drop at old) (drop at new)) where
       runs-none : length old ≤ start → runsOf (drop at old) (drop at new) ≡ []
       runs-none k = no-runs (drop at old) (drop at new) (omega (arith, length-drop at old, stretch-short true (drop at old) (drop at new)))
 
       pub nothing-ahead : length old ≤ start → none ≡ nextRun old new at
-      nothing-ahead k = sym (next-is ∙ ap firstOf (runs-none k) ∙ unfold firstOf in refl)
+      nothing-ahead k = sym (next-is ∙ ap firstRun (runs-none k) ∙ unfold firstRun in refl)
 
       ahead-at : (end : ℕ) → start < length old → end ≡ start + stretch false (drop start old) (drop start new) → RunAhead old new at (start - at) (end - start)
       ahead-at end k f =
@@ -147,8 +147,8 @@ module _ (old new : List ℕ) (at : ℕ) where
       run-ahead end k f = is-ahead (ahead-at end k f)
 
 -- what the next run tells of the runs from a place on
-first-none : (rs : List Run) → firstOf rs ≡ none → rs ≡ []
-unfolding firstOf
+first-none : (rs : List Run) → firstRun rs ≡ none → rs ≡ []
+unfolding firstRun
 first-none [] e = refl
 first-none (r ∷ rs) e = none-some (sym e)
 
@@ -165,7 +165,7 @@ module _ (old new : List ℕ) (at : ℕ) where
       same : length old ≡ length new → {g n : ℕ} → RunAhead old new at g n → RunAhead old new at gap count
       same l a =
           let q = some-same (is-ahead old new at l a ∙ e) in
-          rw (← (ap (λ (x : First). x .gap) q), ← (ap (λ (x : First). x .count) q)) a
+          rw (← (ap (λ (x : FirstRun). x .gap) q), ← (ap (λ (x : FirstRun). x .count) q)) a
 
       found : length old ≡ length new → at < length old → RunAhead old new at gap count
       found l h =

@@ -38,20 +38,20 @@ differing (a ∷ old) [] = 0
 differing (a ∷ old) (b ∷ new) = pick (eqb a b) (differing old new) (suc (differing old new))
 
 -- the first of the runs: its gap, and how many elements it has
-pub record First : Type 0 where
+pub record FirstRun : Type 0 where
   pub gap : ℕ
   pub count : ℕ
 
-unfoldable pub firstOf : List Run → Option First
-firstOf [] = none
-firstOf (r ∷ rs) = some (record { gap = r .gap; count = length (r .bytes) })
+unfoldable pub firstRun : List Run → Option FirstRun
+firstRun [] = none
+firstRun (r ∷ rs) = some (record { gap = r .gap; count = length (r .bytes) })
 
 -- the next run from a place on; none for lists of two lengths
-unfoldable pub nextRun : List ℕ → List ℕ → ℕ → Option First
-nextRun old new at = given (eqb (length old) (length new)) >>? λ _. firstOf (runsOf (drop at old) (drop at new))
+unfoldable pub nextRun : List ℕ → List ℕ → ℕ → Option FirstRun
+nextRun old new at = given (eqb (length old) (length new)) >>? λ _. firstRun (runsOf (drop at old) (drop at new))
 
 -- what the answer says of it
-abbrev pub changeOf : Change → Option First
+abbrev pub changeOf : Change → Option FirstRun
 changeOf (Changed gap count) = some (record { gap = gap; count = count })
 changeOf Nothing = none
 
