@@ -13,8 +13,6 @@ returns-2 c = rw (told placeOf (c .before .before .before .row-in .ensures) (c .
 
 pub anim-row-place-spec : {M : Type 1} → statement M
 anim-row-place-spec = tie.close (tie.spec
-    (λ c κs. search needs)
-    (λ c. search needs)
-    (λ c. search needs)
+    (λ c κs. search needs) (λ c. search needs) (λ c. search needs)
     returns
     returns-2)

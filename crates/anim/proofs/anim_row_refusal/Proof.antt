@@ -14,9 +14,6 @@ returns-2 c = rw (told placeOf (c .before .before .row-in .ensures) (c .enum-tol
 pub anim-row-refusal-spec : {M : Type 1} → statement M
 anim-row-refusal-spec =
     tie.close (tie.spec
-    (λ c κs. search needs)
-    (λ c. search needs)
-    (λ c κs. search needs)
-    (λ c. search needs)
+    (λ c κs. search needs) (λ c. search needs) (λ c κs. search needs) (λ c. search needs)
     returns
     returns-2)

@@ -15,6 +15,5 @@ returns-2 c =
 pub row-in-spec : {M : Type 1} → statement M
 row-in-spec = tie.close (tie.spec
     returns
-    (λ c κs. search needs)
-    (λ c κs. search needs)
+    (λ c κs. search needs) (λ c κs. search needs)
     returns-2)

@@ -8,7 +8,5 @@ returns c = rw (c .before .before .number16 .ensures .0, c .before .number162 .e
 
 pub sizes-at-spec : {M : Type 1} → statement M
 sizes-at-spec = tie.close (tie.spec
-    (λ c κs. search needs)
-    (λ c κs. search needs)
-    (λ c κs. search needs)
+    (λ c κs. search needs) (λ c κs. search needs) (λ c κs. search needs)
     returns)

@@ -100,8 +100,7 @@ draw-rows-spec =
     mul-down
     loop-holds
     take-row-requires
-    (λ c. search needs)
-    (λ c. search needs)
+    (λ c. search needs) (λ c. search needs)
     returns
     (λ c. search needs)
     add-plane

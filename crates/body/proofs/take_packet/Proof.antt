@@ -53,10 +53,7 @@ pub take-packet-spec : {M : Type 1} → statement M
 take-packet-spec =
     tie.close
     (tie.spec
-    (λ c κs. search needs)
-    (λ c. search needs)
-    (λ c. search needs)
-    (λ c. search needs)
+    (λ c κs. search needs) (λ c. search needs) (λ c. search needs) (λ c. search needs)
     draw-copy-requires
     (λ c. search needs)
     draw-fill-requires

@@ -72,8 +72,7 @@ unpack-row-spec =
     add-take-packet
     (λ c. search needs)
     take-packet-requires
-    (λ c. search needs)
-    (λ c. search needs)
+    (λ c. search needs) (λ c. search needs)
     returns
     (λ c. search needs)
     add-filled

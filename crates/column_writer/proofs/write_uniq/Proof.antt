@@ -50,13 +50,9 @@ pub write-uniq-spec : {M : Type 1} → statement M
 write-uniq-spec =
     tie.close
     (tie.spec
-    (λ c. search needs)
-    (λ c. search needs)
+    (λ c. search needs) (λ c. search needs)
     slice-write-out
-    (λ c. search needs)
-    (λ c. search needs)
-    (λ c. search needs)
-    (λ c. search needs)
+    (λ c. search needs) (λ c. search needs) (λ c. search needs) (λ c. search needs)
     part-copy-end
     (λ c κs. search needs)
     same-length

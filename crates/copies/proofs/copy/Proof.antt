@@ -9,7 +9,5 @@ returns c = copied-all (c .before .before .copy-front .ensures) (c .before .befo
 
 pub copy-spec : {M : Type 1} → statement M
 copy-spec = tie.close (tie.spec
-    (λ c κs. search needs)
-    (λ c κs. search needs)
-    (λ c. search needs)
+    (λ c κs. search needs) (λ c κs. search needs) (λ c. search needs)
     returns)

@@ -8,7 +8,5 @@ returns-2 c = rw (c .before .if1 .left) (c .list-pointer .ensures)
 
 pub data-pointer-spec : {M : Type 1} → statement M
 data-pointer-spec = tie.close (tie.spec
-    (λ c. search needs)
-    (λ c. search needs)
-    (λ c κs. search needs)
+    (λ c. search needs) (λ c. search needs) (λ c κs. search needs)
     returns-2)

@@ -19,8 +19,7 @@ returns-3 c = simp (← c .before .before .number32 .ensures .0, le-leb _ _ (c .
 
 pub list-pointer-spec : {M : Type 1} → statement M
 list-pointer-spec = tie.close (tie.spec
-    (λ c. search needs)
-    (λ c κs. search needs)
+    (λ c. search needs) (λ c κs. search needs)
     returns
     returns-2
     returns-3)

@@ -67,8 +67,7 @@ take-delta-spec =
     returns
     loop-holds
     take-plane-requires
-    (λ c. search needs)
-    (λ c. search needs)
+    (λ c. search needs) (λ c. search needs)
     returns-2
     (λ c. search needs)
     add-plane

@@ -14,8 +14,6 @@ returns-2 c = λ s. rw (told anhdOf (c .before .before .before .frame-header .en
 pub frame-with-spec : {M : Type 1} → statement M
 frame-with-spec =
     tie.close (tie.spec
-    (λ c κs. search needs)
-    (λ c. search needs)
-    (λ c. search needs)
+    (λ c κs. search needs) (λ c. search needs) (λ c. search needs)
     returns
     returns-2)

@@ -20,9 +20,7 @@ pub or-part-spec : {M : Type 1} → statement M
 or-part-spec =
     tie.close (tie.spec
     returns
-    (λ c. search needs)
-    (λ c. search needs)
-    (λ c. search needs)
+    (λ c. search needs) (λ c. search needs) (λ c. search needs)
     returns-2
     returns-3
     returns-4)

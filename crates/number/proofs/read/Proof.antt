@@ -41,5 +41,4 @@ read-spec = tie.close (tie.spec
     cast-first
     (λ c. search needs)
     returns-2
-    (λ c κs. search needs)
-    (λ c. search needs))
+    (λ c κs. search needs) (λ c. search needs))

@@ -140,7 +140,6 @@ read-groups-spec =
     mul-sum
     add-sum
     mul-weight
-    (λ c. search needs)
-    (λ c. search needs)
+    (λ c. search needs) (λ c. search needs)
     loop-again
     returns-6)

@@ -28,6 +28,5 @@ put-list-spec =
     (λ c. search needs)
     put-number-requires
     put-runs-requires
-    (λ c. search needs)
-    (λ c. search needs)
+    (λ c. search needs) (λ c. search needs)
     returns)

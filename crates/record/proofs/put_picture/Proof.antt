@@ -35,6 +35,5 @@ put-picture-spec =
     put-number-requires
     put-number-requires-2
     put-list-requires
-    (λ c. search needs)
-    (λ c. search needs)
+    (λ c. search needs) (λ c. search needs)
     returns)

@@ -18,10 +18,7 @@ pub run-length-spec : {M : Type 1} → statement M
 run-length-spec =
     tie.close
     (tie.spec
-    (λ c. search needs)
-    (λ c κs. search needs)
-    (λ c. search needs)
-    (λ c κs. search needs)
+    (λ c. search needs) (λ c κs. search needs) (λ c. search needs) (λ c κs. search needs)
     add-result
     add-result-2
     returns)

@@ -43,9 +43,7 @@ pub row-place-spec : {M : Type 1} → statement M
 row-place-spec =
     tie.close
     (tie.spec
-    (λ c κs. search needs)
-    (λ c. search needs)
-    (λ c. search needs)
+    (λ c κs. search needs) (λ c. search needs) (λ c. search needs)
     returns
     returns-2
     mul-t15

@@ -52,9 +52,7 @@ pub look-ahead-spec : {M : Type 1} → statement M
 look-ahead-spec =
     tie.close
     (tie.spec
-    (λ c κs. search needs)
-    (λ c. search needs)
-    (λ c. search needs)
+    (λ c κs. search needs) (λ c. search needs) (λ c. search needs)
     slice-aggregate-anim
     look-requires
     (λ c. search needs)

@@ -12,7 +12,5 @@ returns c =
 
 pub put64-spec : {M : Type 1} → statement M
 put64-spec = tie.close (tie.spec
-    (λ c κs. search needs)
-    (λ c κs. search needs)
-    (λ c. search needs)
+    (λ c κs. search needs) (λ c κs. search needs) (λ c. search needs)
     returns)

@@ -14,6 +14,5 @@ returns-2 c = laid (_ ∷ []) (c .before .before .before .before .if1 .left) (pu
 pub write-number-spec : {M : Type 1} → statement M
 write-number-spec = tie.close (tie.spec
     returns
-    (λ c κs. search needs)
-    (λ c. search needs)
+    (λ c κs. search needs) (λ c. search needs)
     returns-2)

@@ -64,7 +64,6 @@ lists-length-spec =
     plane-length-requires
     add-sum
     add-at
-    (λ c. search needs)
-    (λ c. search needs)
+    (λ c. search needs) (λ c. search needs)
     loop-again
     returns)

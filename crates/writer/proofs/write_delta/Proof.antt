@@ -21,11 +21,7 @@ pub write-delta-spec : {M : Type 1} → statement M
 write-delta-spec =
     tie.close
     (tie.spec
-    (λ c. search needs)
-    (λ c. search needs)
-    (λ c. search needs)
-    (λ c. search needs)
-    (λ c κs. search needs)
+    (λ c. search needs) (λ c. search needs) (λ c. search needs) (λ c. search needs) (λ c κs. search needs)
     (λ c κs. search needs)
     write-planes-requires
     (λ c. search needs)

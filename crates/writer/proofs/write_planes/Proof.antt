@@ -63,8 +63,7 @@ write-planes-spec =
     write-pointer-requires
     add-pointer
     add-at
-    (λ c. search needs)
-    (λ c. search needs)
+    (λ c. search needs) (λ c. search needs)
     loop-again
     (λ c. search needs)
     returns)

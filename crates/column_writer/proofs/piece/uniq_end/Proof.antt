@@ -52,8 +52,7 @@ uniq-end-spec =
     Inv-loop
     μ-loop
     loop-holds
-    (λ c. search needs)
-    (λ c. search needs)
+    (λ c. search needs) (λ c. search needs)
     returns
     group-end-requires
     sub-if2

@@ -18,8 +18,7 @@ returns-2 c = rw (c .before .if1 .left)
 
 pub after-fill-spec : {M : Type 1} → statement M
 after-fill-spec = tie.close (tie.spec
-    (λ c. search needs)
-    (λ c. search needs)
+    (λ c. search needs) (λ c. search needs)
     add-t9
     returns
     add-t10

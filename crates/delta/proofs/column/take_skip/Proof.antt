@@ -15,7 +15,5 @@ pub take-skip-spec : {M : Type 1} → statement M
 take-skip-spec = tie.close (tie.spec
     (λ c. search needs)
     returns
-    (λ c. search needs)
-    (λ c. search needs)
-    (λ c. search needs)
+    (λ c. search needs) (λ c. search needs) (λ c. search needs)
     returns-2)

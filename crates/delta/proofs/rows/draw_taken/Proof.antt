@@ -43,9 +43,7 @@ pub draw-taken-spec : {M : Type 1} → statement M
 draw-taken-spec =
     tie.close
     (tie.spec
-    (λ c. search needs)
-    (λ c. search needs)
-    (λ c. search needs)
+    (λ c. search needs) (λ c. search needs) (λ c. search needs)
     mul-place
     add-place
     draw-rows-requires

@@ -17,8 +17,7 @@ returns-2 c =
 pub stop-spec : {M : Type 1} → statement M
 stop-spec =
     tie.close (tie.spec
-    (λ c κs. search needs)
-    (λ c κs. search needs)
+    (λ c κs. search needs) (λ c κs. search needs)
     returns
     (λ c κs. search needs)
     returns-2)

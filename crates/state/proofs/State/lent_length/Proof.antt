@@ -30,9 +30,7 @@ pub lent-length-spec : {M : Type 1} → statement M
 lent-length-spec =
     tie.close
     (tie.spec
-    (λ c κs. search needs)
-    (λ c. search needs)
-    (λ c. search needs)
+    (λ c κs. search needs) (λ c. search needs) (λ c. search needs)
     returns
     returns-2
     returns-3

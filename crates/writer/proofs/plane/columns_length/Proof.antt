@@ -65,7 +65,6 @@ columns-length-spec =
     add-length-at
     length-at-requires
     add-sum
-    (λ c. search needs)
-    (λ c. search needs)
+    (λ c. search needs) (λ c. search needs)
     loop-again
     returns)

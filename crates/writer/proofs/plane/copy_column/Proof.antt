@@ -75,8 +75,7 @@ copy-column-spec =
     mul-column
     add-column
     shared-slice-read-column
-    (λ c. search needs)
-    (λ c. search needs)
+    (λ c. search needs) (λ c. search needs)
     loop-less
     loop-again
     same-length

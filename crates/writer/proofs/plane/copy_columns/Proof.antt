@@ -40,6 +40,5 @@ copy-columns-spec =
     (λ c. search needs)
     slice-aggregate-copy-column-2
     copy-column-requires-2
-    (λ c. search needs)
-    (λ c. search needs)
+    (λ c. search needs) (λ c. search needs)
     returns)

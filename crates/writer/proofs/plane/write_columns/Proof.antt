@@ -45,8 +45,7 @@ write-columns-spec =
     loop-holds
     add-write-at
     write-at-requires
-    (λ c. search needs)
-    (λ c. search needs)
+    (λ c. search needs) (λ c. search needs)
     loop-again
     (λ c. search needs)
     returns)
