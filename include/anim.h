@@ -56,7 +56,7 @@ extern "C" {
 #endif
 
 /* The version of the interface. It grows by one with every landing that changes the interface. */
-#define ANIM_VERSION 5
+#define ANIM_VERSION 6
 
 /* Limits. */
 #define ANIM_MAX_WIDTH 1024                /* pixels */
@@ -112,17 +112,22 @@ typedef struct anim_state {
     uint64_t end;    /* where FORM ANIM ends, from next to 2147483647 */
 } anim_state;
 
-/* What a step on tells of the frame it reached; it is handed over as its 32 bytes, lent likewise. */
+/*
+ * What a step on tells of the frame it reached; it is handed over as its 40 bytes, lent likewise. Every op
+ * of every list that is read counts, once for each plane, so that there are at most 255 for each column of
+ * each plane that is read.
+ */
 typedef struct anim_report {
     uint64_t method;        /* 2, 3, 5 or 7 */
     uint64_t time;          /* ANHD's relative time, in sixtieths of a second */
     uint64_t changed;       /* how many bytes of the hidden buffer changed */
     uint64_t record_length; /* how many bytes of the record buffer are this step's record */
+    uint64_t ops;           /* methods 5 and 7: how many ops its lists have; methods 2 and 3: 0 */
 } anim_report;
 
 /* These don't compile where a struct has another size than the library reads and writes. */
 typedef char anim_state_has_48_bytes[sizeof(anim_state) == 48 ? 1 : -1];
-typedef char anim_report_has_32_bytes[sizeof(anim_report) == 32 ? 1 : -1];
+typedef char anim_report_has_40_bytes[sizeof(anim_report) == 40 ? 1 : -1];
 
 /* Bytes of a row of a plane. Sizes within the limits fit in every type of 32 bits. */
 #define ANIM_ROW_BYTES(width) (((width) + 15) / 16 * 2)
@@ -132,13 +137,15 @@ typedef char anim_report_has_32_bytes[sizeof(anim_report) == 32 ? 1 : -1];
 
 /*
  * A record buffer's length that is enough for every step, for frames of so many bytes: twice the frame
- * and 16 bytes. This bound is proved (theorem record-short). 320 x 200 x 5: 2 * 40000 + 16 = 80016.
+ * and 12 bytes. It is proved that no step on with a record buffer of this length, or a longer one, is
+ * refused with 51 (theorem never-51). 320 x 200 x 5: 2 * 40000 + 12 = 80012.
  *
- * A record is three numbers of at most five bytes each, and for each run of changed bytes two numbers
- * and the run's old bytes. A shorter buffer does no harm: a step that has no room is refused with 51
- * and changes nothing but the work buffer.
+ * A record is a frame number of at most three bytes, a place of at most five, a number of runs of at
+ * most three, and for each run of changed bytes two numbers and the run's old bytes, in all at most twice
+ * the frame and one byte. A shorter buffer does no harm: a step that has no room is refused with 51 and
+ * changes nothing but the work buffer.
  */
-#define ANIM_RECORD_ROOM(frame_bytes) (2 * (frame_bytes) + 16)
+#define ANIM_RECORD_ROOM(frame_bytes) (2 * (frame_bytes) + 12)
 
 /*
  * A delta buffer's length that is enough for every two pictures: 64 bytes of pointers, and for each
@@ -257,10 +264,10 @@ uint64_t anim_open(const uint8_t *file, size_t file_length,
  * work       exactly a frame long, of any content. The new frame is built here.
  * record     of any length; ANIM_RECORD_ROOM of a frame is always enough. Keep the first
  *            report.record_length bytes for as long as the step may be taken back.
- * report     the 32 bytes of an anim_report.
+ * report     the 40 bytes of an anim_report.
  *
  * Answers ANIM_OK if the step is taken, ANIM_END if no frame is left, or the first of these refusals:
- *   11  the state isn't 48 bytes long, or the report isn't 32
+ *   11  the state isn't 48 bytes long, or the report isn't 40
  *   11  the state is outside the limits (width, height, planes, frame), or not 12 <= next <= end <=
  *       2147483647, or the end place is past the file's length
  *   12  A, B or the work buffer isn't a frame long

@@ -50,7 +50,7 @@ module _ (file : List ℕ) (w : WorldC) where
 
 -- stepping on
 module _ (file : List ℕ) (l : LentC) where
-  module _ {t : Bool} (e : t ≡ (eqb (length (l .world .state)) 48 && eqb (length (l .report)) 32)) where
+  module _ {t : Bool} (e : t ≡ (eqb (length (l .world .state)) 48 && eqb (length (l .report)) 40)) where
     pub on-unsized : {r : ℕ} → t ≡ false → r ≡ 11 → StepsOnC file l r l
     on-unsized f h = rw (sym e ∙ f) (record { answer = h; left = refl })
 

@@ -1,6 +1,6 @@
 -- The C interface (document 01, "Opening, stepping on, stepping back"): the contract of each exported function, which is what it
 -- answers and what it leaves in the buffers. Each has its function's order of arguments: what they hold at entry, the answer, and
--- what the buffers that are written hold at exit. A state is passed as 48 bytes, a report as 32 and a length as 8 (numbers of eight
+-- what the buffers that are written hold at exit. A state is passed as 48 bytes, a report as 40 and a length as 8 (numbers of eight
 -- bytes); a slice for one of them of another length is 11, before everything.
 use Prim.Native.Nat.{ℕ}
 use mathlib.Core.Bool.{Bool, _&&_}
@@ -109,7 +109,7 @@ leftC l o = record {
 -- what stepping on comes to, by the state in its slice
 abbrev pub onC : List ℕ → LentC → After
 onC file l =
-    sizedStep (eqb (length (l .world .state)) 48 && eqb (length (l .report)) 32) (worldIn (l .world))
+    sizedStep (eqb (length (l .world .state)) 48 && eqb (length (l .report)) 40) (worldIn (l .world))
     (stepOn file (worldIn (l .world)) (length (l .work)) (length (l .rec)))
 
 -- stepping on that comes to o

@@ -26,12 +26,12 @@ fn wrong_length() -> u64
 
 // Whether the slices for a state and a report have their lengths.
 fn lengths_ok(state: usize, report: usize) -> bool
-    ensures { λ r. ⌜ r ≡ (eqb state 48 && eqb report 32) ⌝ }
+    ensures { λ r. ⌜ r ≡ (eqb state 48 && eqb report 40) ⌝ }
 {
     if state != 48 {
         return false;
     }
-    report == 32
+    report == 40
 }
 
 // Asks how long A and B must be for a file.

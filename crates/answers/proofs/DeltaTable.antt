@@ -1,5 +1,5 @@
--- Every refusal of a delta has a number of the table.
-use Prim.Native.Nat.{ℕ, zero, suc, _+_, _-_, _*_, _/_}
+-- Every refusal of a delta has a number of the table, and isn't 51.
+use Prim.Native.Nat.{ℕ, zero, suc, _+_, _-_, _*_}
 use mathlib.Core.List.{List}
 use mathlib.Core.Path.{refl}
 use lib.Dec.{leb, ltb, eqb}
@@ -8,12 +8,12 @@ use Rattle.laws.specs.Bytes.{be32}
 use Rattle.laws.specs.Result.{Res, Res.ok, Res.fault, pick}
 use Rattle.laws.proofs.ResultLaws.{pick-both}
 use Rattle.laws.proofs.LoopLaws.{Comes, Comes.comes-next, Comes.comes-done, comes-pick, iterate-holds}
-use Rattle.delta.specs.Reading.{Reading, byteAt, pairAt}
+use Rattle.delta.specs.Reading.{columnsIn, Reading, byteAt, pairAt}
 use Rattle.delta.specs.Column.{skipRows, fill, OpKind, OpKind.same, OpKind.skips, OpKind.uniq, opKindOf, opAs, readOp, readOps, readColumn, readColumns}
 use Rattle.delta.specs.Words.{wordRun, moveOf, wordOp, pastOp, offsetOn, wordStep, readWords}
 use Rattle.delta.specs.Delta.{listPointer, readPlane, readPlanes, readPicture, readDelta}
 use Rattle.delta.specs.declared.Shape.{Shape}
-use Rattle.answers.proofs.InTable.{InTable, InTable.table-value, InTable.table-refusal, table-bind, table-need}
+use Rattle.answers.proofs.InTable.{InTable, Numbered.table-value, Numbered.table-refusal, table-bind, table-need}
 
 module _ (S : Shape) (d : List ℕ) where
   byte-table : (p : ℕ) → InTable (byteAt d p)
@@ -82,7 +82,7 @@ module _ (S : Shape) (d : List ℕ) where
       table-bind
       (pick-both InTable (eqb (be32 d (4 * p)) 0) table-value
       (table-bind (pointer-table p) λ a. table-bind (pick-both InTable (S .inline) table-value (pointer-table (p + 8))) λ b.
-      pick-both InTable (S .words) (words-table (p * S .plane) _) (columns-table (S .row / S .item) (p * S .plane) _)))
+      pick-both InTable (S .words) (words-table (p * S .plane) _) (columns-table (columnsIn S) (p * S .plane) _)))
       λ e. planes-table k (p + 1) e
 
   pub delta-table : InTable (readDelta S d)

@@ -4,3 +4,4 @@ pub mod Table
 pub mod AnswerLaws
 pub mod Answered
 pub mod Never44
+pub mod Never51

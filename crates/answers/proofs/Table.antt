@@ -1,4 +1,5 @@
--- Every refusal of a definition has a number of the table.
+-- Every refusal of a definition has a number of the table; of those here only the writer's may be 51, since what lies ahead of a step has
+-- no record yet.
 use Prim.Native.Nat.{ℕ, zero, suc, _+_, _-_, _*_}
 use mathlib.Core.Bool.{Bool, true, false, _&&_, not}
 use mathlib.Core.List.{List, []}
@@ -10,6 +11,7 @@ use Rattle.laws.specs.Bytes.{be32}
 use Rattle.laws.specs.Result.{Res, Res.ok, Res.fault}
 use Rattle.laws.proofs.ResultLaws.{pick-both}
 use Rattle.laws.proofs.LoopLaws.{Comes, Comes.comes-next, Comes.comes-done, comes-pick, iterate-holds}
+use Rattle.refusal.specs.Number.{isNumber}
 use Rattle.state.specs.declared.Sizes.{Sizes}
 use Rattle.state.specs.declared.State.{State}
 use Rattle.state.specs.State.{within, rowBytes, frameLength, stateLength, lentLength}
@@ -30,7 +32,7 @@ use Rattle.step_on.specs.Step.{ready, change, build, look, lookAhead}
 use Rattle.step_back.specs.Back.{retreat}
 use Rattle.shown.specs.Row.{rowPlace}
 use Rattle.writer.specs.Write.{deltaBytes, written}
-use Rattle.answers.proofs.InTable.{InTable, InTable.table-value, InTable.table-refusal, table-bind, table-need, table-test, table-refuse}
+use Rattle.answers.proofs.InTable.{Numbered, Numbered.table-value, Numbered.table-refusal, InTable, listed, table-bind, table-need, table-test, table-refuse}
 use Rattle.answers.proofs.DeltaTable.{delta-table}
 
 -- chunks
@@ -208,8 +210,8 @@ unfolding rowPlace
 place-table s a b plane row =
     table-bind (lent-table s a b) λ n. table-need (ltb plane (s .sizes .planes)) 14 _ refl (table-need (ltb row (s .sizes .height)) 14 _ refl table-value)
 
--- the writer
-pub written-table : (z : Sizes) (old new : List ℕ) (room : ℕ) → InTable (written room old new z)
+-- the writer, whose last refusal is 51
+pub written-table : (z : Sizes) (old new : List ℕ) (room : ℕ) → Numbered isNumber (written room old new z)
 unfolding written
 written-table z old new room =
-    table-bind (length-table z) λ n. table-need (eqb (length old) n) 12 _ refl (table-need (eqb (length new) n) 12 _ refl (table-need (leb (length (deltaBytes old new z)) room) 51 _ refl table-value))
+    table-bind (listed (length-table z)) λ n. table-need (eqb (length old) n) 12 _ refl (table-need (eqb (length new) n) 12 _ refl (table-need (leb (length (deltaBytes old new z)) room) 51 _ refl table-value))

@@ -7,8 +7,8 @@ use mathlib.Core.Path.{_≡_, refl, sym, _∙_, ap}
 use mathlib.Core.List.{List, []}
 use lib.ListN.{length}
 use borrow.Author.Tests.{eq-eqb, ne-eqb}
-use Rattle.laws.specs.Result.{Res.ok, Res.fault, answer, orKeep}
-use Rattle.laws.proofs.ResultLaws.{false-true, never, answered, answer-refused}
+use Rattle.laws.specs.Result.{Res.ok, Res.fault}
+use Rattle.laws.proofs.ResultLaws.{false-true, never, made-of, made-refused}
 use Rattle.refusal.specs.Number.{numberOf}
 use Rattle.refusal.specs.declared.Refusal.{Refusal}
 use Rattle.state.specs.declared.Sizes.{Sizes}
@@ -23,7 +23,6 @@ use Rattle.delta.specs.declared.Step.the-variants.{Next, Refused}
 use Rattle.delta.specs.Reading.{bytesInPlane, columnShape, wordShape, shapeOf, Op, opsIn}
 use Rattle.delta.specs.Delta.{readPicture, readDelta, draw, readFrame, newFrame, opCount, Applies}
 use Rattle.delta.specs.Walk.{Width, Planes, top, Took, Took.took, Took.refused, Passes, Checked, Checked.passes, Checked.stops}
-use Rattle.delta.proofs.DeltaLaws.{same-answer}
 
 one : Width 1
 one = record { least = omega arith; most = omega arith; not-three = λ e. omega arith }
@@ -164,12 +163,23 @@ module _ {z : Sizes} {i : Items} {d f w : List ℕ} {m : ℕ} (e : m ≡ length 
       → Applies w f d z i (ok (c .ops)) k
   applies-drawn x y s l u = let p = check-next x y in passes-drawn p s (l (p .kept) (p .same)) u
 
--- what was applied
+-- what was applied: why the delta is refused, or the ops that were read, their number and the frame that they make
 module _ {z : Sizes} {i : Items} {d f w g : List ℕ} where
+  pub read-refused : {n : ℕ} → Applies w f d z i (fault n) g → readFrame (length w) (length f) d z i ≡ fault n
+  unfolding opCount
+  read-refused p = made-refused (readFrame (length w) (length f) d z i) (opsIn (shapeOf z i)) (sym (p .counts))
+
+  pub drawn-ops : {c : ℕ} → Applies w f d z i (ok c) g → (ops : List Op) × (readFrame (length w) (length f) d z i ≡ ok ops) × (c ≡ opsIn (shapeOf z i) ops) × (g ≡ draw (shapeOf z i) d ops f)
+  unfolding opCount
+  drawn-ops p =
+      let k = made-of (readFrame (length w) (length f) d z i) (sym (p .counts)) in
+      let q : Applies w f d z i (ok (opsIn (shapeOf z i) (k .0))) (draw (shapeOf z i) d (k .0) f) = applies-ok (k .1) in
+      (k .0, k .1, sym (k .2), p .leaves ∙ sym (q .leaves))
+
   pub new-refused : {n : ℕ} → Applies w f d z i (fault n) g → newFrame (length w) f d z i ≡ fault n
-  new-refused p = answer-refused (newFrame (length w) f d z i) (sym (ap answer (p .counts) ∙ same-answer z i d f (length w)))
+  unfolding newFrame
+  new-refused p = rw (read-refused p)
 
   pub new-drawn : {c : ℕ} → Applies w f d z i (ok c) g → newFrame (length w) f d z i ≡ ok g
-  new-drawn p =
-      let k = answered (newFrame (length w) f d z i) (ap answer (p .counts) ∙ same-answer z i d f (length w)) in
-      k .1 ∙ ap (λ (h : List ℕ). ok h) (sym (p .leaves ∙ ap (orKeep w) (k .1)))
+  unfolding newFrame
+  new-drawn p = let k = drawn-ops p in rw (k .1) (ap (λ (h : List ℕ). ok h) (sym (k .3)))

@@ -1,5 +1,5 @@
 -- Laws of deltas: what one store, one item and one op more make of a frame, and that a delta keeps the frame's length.
-use Prim.Native.Nat.{ℕ, zero, suc, _+_, _-_, _*_, _/_, _<_, _≤_}
+use Prim.Native.Nat.{ℕ, zero, suc, _+_, _-_, _*_, _<_, _≤_}
 use native.Mathlib.Numerals.{add-one}
 use native.Mathlib.Omega.{arith}
 use mathlib.Core.Bool.{true, false}
@@ -16,7 +16,7 @@ use borrow.Author.Tests.{lt-ltb, le-ltb, le-leb, lt-leb, ne-eqb, leb-true}
 use Rattle.state.specs.declared.Sizes.{Sizes}
 use Rattle.anhd.specs.declared.Items.{Items}
 use Rattle.delta.specs.declared.Shape.{Shape}
-use Rattle.delta.specs.Reading.{shapeOf, Op, opsIn, Reading, byteAt}
+use Rattle.delta.specs.Reading.{shapeOf, columnsIn, Op, opsIn, Reading, byteAt}
 use Rattle.delta.specs.Column.{fill, OpKind, OpKind.same, OpKind.skips, OpKind.uniq, opKindOf, opAs, readOp, readOps, readColumn, readColumns}
 use Rattle.delta.specs.Words.{readWords}
 use Rattle.delta.specs.Delta.{listPointer, dataPointer, planeList, readPlane, readPlanes, readPicture, put, draw, readFrame, newFrame, opCount}
@@ -163,7 +163,7 @@ module _ (S : Shape) (d : List ℕ) (p : ℕ) (c : Reading) where
     plane-list e k = rw (ne-eqb (be32 d (4 * p)) 0 h, e, k) refl
 
     pub plane-columns : {a b : ℕ} → listPointer d (S .pointers) p ≡ ok a → dataPointer S d p ≡ ok b → S .words ≡ false
-        → readPlane S d p c ≡ readColumns S d (S .row / S .item) (p * S .plane) (record { opAt = a; itemAt = b; line = 0; ops = c .ops })
+        → readPlane S d p c ≡ readColumns S d (columnsIn S) (p * S .plane) (record { opAt = a; itemAt = b; line = 0; ops = c .ops })
     plane-columns e k w = plane-list e k ∙ rw w
 
     pub plane-words : {a b : ℕ} → listPointer d (S .pointers) p ≡ ok a → dataPointer S d p ≡ ok b → S .words ≡ true

@@ -1,5 +1,5 @@
 -- Laws of one op: its rows and items lie within the frame and the delta, and what it reads and draws.
-use Prim.Native.Nat.{ℕ, _+_, _-_, _*_, _/_, _<_, _≤_}
+use Prim.Native.Nat.{ℕ, _+_, _-_, _*_, _<_, _≤_}
 use native.Mathlib.Nat.{mul-le-mul-right, mul-le-mul-left, div-add-mod'}
 use native.Mathlib.Omega.{arith}
 use mathlib.Core.Bool.{Bool, true, false}
@@ -13,7 +13,7 @@ use Rattle.delta.specs.declared.Shape.{Shape}
 use Rattle.delta.specs.declared.Cursor.{Cursor}
 use Rattle.delta.specs.declared.Taken.{Taken}
 use Rattle.delta.specs.declared.Taken.the-variants.{Rows, Passed, Refused as NotTaken}
-use Rattle.delta.specs.Reading.{Op, Reading}
+use Rattle.delta.specs.Reading.{columnsIn, Op, Reading}
 use Rattle.delta.specs.Column.{noRows, skipRows, fill}
 use Rattle.delta.specs.Delta.{put, draw}
 use Rattle.delta.specs.declared.Step.{Step}
@@ -53,7 +53,7 @@ columns-next v h = record {
 }
 
 -- the columns of a plane
-pub plane-inside : {S : Shape} {n : ℕ} → Planes S n → (p : ℕ) → p < S .planes → Columns S n (p * S .plane) (S .row / S .item)
+pub plane-inside : {S : Shape} {n : ℕ} → Planes S n → (p : ℕ) → p < S .planes → Columns S n (p * S .plane) (columnsIn S)
 plane-inside {S} {n} v p h =
     record {
       column = λ j b. record {
@@ -73,8 +73,8 @@ words-inside {S} {n} v e p h =
       below = omega (arith, v .plane-most, v .fits, mul-le-mul-right (S .plane) h, mul-le-mul-right (S .plane) (v .planes-most));
     }
 
-pub columns-most : {S : Shape} {n : ℕ} → Planes S n → S .row / S .item ≤ 128
-columns-most {S} v = omega (arith, v .row-most, div-add-mod' (S .row) (S .item), mul-le-mul-left (S .row / S .item) (v .width .least))
+pub columns-most : {S : Shape} {n : ℕ} → Planes S n → columnsIn S ≤ 128
+columns-most {S} v = omega (arith, v .row-most, div-add-mod' (S .row) (S .item), mul-le-mul-left (columnsIn S) (v .width .least))
 
 -- a Skip
 skip-past : (S : Shape) (c : Reading) (n : ℕ) → S .height < c .line + n → skipRows S c n ≡ fault 43

@@ -4,3 +4,4 @@ pub mod FillLaws
 pub mod WordLaws
 pub mod ApplyLaws
 pub mod NoneLaws
+pub mod CountLaws

@@ -16,7 +16,7 @@ use Rattle.delta.specs.declared.Shape.{Shape}
 use Rattle.delta.specs.None.{Fills, MovesNothing, Adds}
 
 module _ (S : Shape) (d : List ℕ) (base : ℕ) (c : Reading) where
-  fill-reads : (p n size step : ℕ) → Each (Fills S c p n size) (fill S d base c p n size step)
+  pub fill-reads : (p n size step : ℕ) → Each (Fills S c p n size) (fill S d base c p n size step)
   unfolding fill
   fill-reads p n size step =
       each-need (leb (c .line + n) (S .height)) 43 _ λ _. each-need (leb (pick (S .inline) p (c .itemAt) + size) (length d)) 42 _ λ _.

@@ -22,10 +22,10 @@ pub pick-same : (t : Bool) (f : List ℕ) → f ≡ pick t f f
 pick-same t f = pick-both (λ (g : List ℕ). f ≡ g) t refl refl
 
 -- how many ops there are
-in-none : (t : Bool) → pick t 0 (length {A = Op} []) ≡ 0
+pub in-none : (t : Bool) → pick t 0 (length {A = Op} []) ≡ 0
 in-none t = pick-both (λ (n : ℕ). n ≡ 0) t refl refl
 
-in-more : (t : Bool) (xs ys : List Op) → pick t 0 (length (xs ++ ys)) ≡ pick t 0 (length xs) + pick t 0 (length ys)
+pub in-more : (t : Bool) (xs ys : List Op) → pick t 0 (length (xs ++ ys)) ≡ pick t 0 (length xs) + pick t 0 (length ys)
 in-more true xs ys = refl
 in-more false xs ys = length-append xs ys
 

@@ -1,6 +1,6 @@
 -- A whole DLTA of methods 2, 3, 5 and 7 (document 01, "Deltas"; document 02, E5): what its planes' lists say, or the first fault in the
 -- paper's order, and what that makes of a frame.
-use Prim.Native.Nat.{ℕ, zero, suc, _+_, _*_, _/_}
+use Prim.Native.Nat.{ℕ, zero, suc, _+_, _*_}
 use mathlib.Core.List.{List, [], _∷_}
 use mathlib.Core.Path.{_≡_}
 use lib.Dec.{leb, eqb}
@@ -13,7 +13,7 @@ use Rattle.state.specs.State.{rowBytes, frameLength}
 use Rattle.state.specs.declared.Sizes.{Sizes}
 use Rattle.anhd.specs.declared.Items.{Items}
 use Rattle.anhd.specs.Anhd.{columnsOk}
-use Rattle.delta.specs.Reading.{shapeOf, Op, opsIn, Reading}
+use Rattle.delta.specs.Reading.{shapeOf, columnsIn, Op, opsIn, Reading}
 use Rattle.delta.specs.Column.{readColumns}
 use Rattle.delta.specs.Words.{readWords}
 use Rattle.delta.specs.declared.Shape.{Shape}
@@ -33,7 +33,7 @@ dataPointer S d p = pick (S .inline) (ok 0) (listPointer d (S .pointers) (p + 8)
 
 -- what a plane's list says: words, or columns from left to right
 abbrev pub planeList : Shape → List ℕ → ℕ → Reading → Res Reading
-planeList S d base c = pick (S .words) (readWords S d base c) (readColumns S d (S .row / S .item) base c)
+planeList S d base c = pick (S .words) (readWords S d base c) (readColumns S d (columnsIn S) base c)
 
 -- plane p: its pointers, then its list from row 0 on; a list pointer of 0 means that it doesn't change
 unfoldable pub readPlane : Shape → List ℕ → ℕ → Reading → Res Reading

@@ -4,3 +4,4 @@ pub mod Words
 pub mod Delta
 pub mod Walk
 pub mod None
+pub mod Count

@@ -51,6 +51,10 @@ shapeOf z Longs = columnShape z 4 false
 shapeOf z ShortWords = wordShape z 2
 shapeOf z LongWords = wordShape z 4
 
+-- the columns of a plane
+abbrev pub columnsIn : Shape → ℕ
+columnsIn S = S .row / S .item
+
 -- an op: count rows, the first at a place of the frame, get the items from a place of DLTA on, each step bytes after the one
 -- before; a Same has a step of 0; a Uniq, a Same or a run of none has a count of 0, and a place for items all the same
 pub record Op : Type 0 where

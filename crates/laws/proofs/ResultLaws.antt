@@ -37,6 +37,10 @@ pub made-of : {A B : Type 0} (r : Res A) {f : A → B} {b : B} → (r >>= λ a. 
 made-of (ok a) e = (a, refl, ok-same e)
 made-of (fault n) e = ok-fault e
 
+pub made-refused : {A B : Type 0} (r : Res A) (f : A → B) {n : ℕ} → (r >>= λ a. ok (f a)) ≡ fault n → r ≡ fault n
+made-refused (ok a) f e = never (cc)
+made-refused (fault m) f {n} e = let q : m ≡ n = cc in rw q
+
 -- a result is the value that it comes to
 pub each-self : {A : Type 0} (r : Res A) → Each (λ (a : A). r ≡ ok a) r
 each-self (ok a) = each refl

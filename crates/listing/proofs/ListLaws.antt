@@ -7,7 +7,7 @@ use mathlib.Core.Option.{Option, none, some}
 use mathlib.Core.Path.{_≡_, refl, sym, ap, _∙_}
 use lib.ListN.{length, take, length-take}
 use Rattle.laws.specs.Result.{Res.ok}
-use Rattle.laws.proofs.ResultLaws.{Each, Each.each, All, All.all-some, All.all-none, each-any, each-bind, each-self, each-some, never}
+use Rattle.laws.proofs.ResultLaws.{Each, Each.each, All, All.all-some, All.all-none, each-bind, each-self, each-some, never}
 use Rattle.laws.specs.Loop.{Step.next, Step.done}
 use Rattle.laws.proofs.LoopLaws.{Going, starts, turns, stops}
 use Rattle.state.specs.declared.State.{State}
@@ -17,9 +17,10 @@ use Rattle.frame.proofs.FrameLaws.{frame-rises}
 use Rattle.step_on.specs.declared.SteppedOn.{SteppedOn}
 use Rattle.state.specs.World.{World, shownIn, hiddenIn, withHidden}
 use Rattle.state.specs.After.{Answer, Lent, lent, After, lentAfter}
-use Rattle.step_on.specs.Step.{change, Built, build, look, lookAhead, stepOn, onOf, MeetsOn}
+use Rattle.step_on.specs.Step.{Built, build, look, lookAhead, stepOn, onOf, MeetsOn}
 use Rattle.step_on.proofs.ReadyLaws.{ready-passed}
 use Rattle.step_on.proofs.CaseLaws.{on-case}
+use Rattle.step_on.proofs.StepLaws.{change-next}
 use Rattle.lines.specs.Lines.{pictureLine, Adds}
 use Rattle.lines.proofs.TextLaws.{adds-then, adds-at, adds-room, adds-size, adds-front}
 use Rattle.listing.specs.Listing.{Listing, addLine, stepLine, taken, lineOn, listStep, listFrames, Lists}
@@ -33,10 +34,9 @@ build-raises : (file : List ℕ) (s : State) (shown hidden : List ℕ) → s .en
     → Each (All (Raises (length file) s)) (build (s .sizes) shown hidden o)
 build-raises file s shown hidden h none e = each all-none
 build-raises file s shown hidden h (some x) e =
-    each-any (change (s .sizes) x shown hidden) λ f.
     let k = frame-rises (take (s .end) file) (rowBytes (s .sizes .width)) (s .next) x e in
     let l : x .next ≤ length file = omega (arith, k .ends, length-take (s .end) file) in
-    each (all-some (record { rises = k .rises; ends = l }))
+    each-bind (change-next (s .sizes) x shown hidden) λ y p. each (all-some (record { rises = rw p (k .rises); ends = rw p l }))
 
 ahead-raises : (file : List ℕ) (w : World) (work : ℕ) → Each (All (Raises (length file) (w .state))) (lookAhead file w work)
 unfolding lookAhead look
@@ -54,7 +54,7 @@ pub on-raises : (file : List ℕ) (w : World) (size room : ℕ) → taken (stepO
 unfolding withHidden
 on-raises file w size room =
     on-case (λ (o : After). taken (o .answer) ≡ true → Raised (length file) (w .state) (o .world .state)) w room file size
-    (λ n q e. never (cc)) (λ q e. never (cc)) (λ x q e. let k = each-some q (ahead-raises file w size) in record { rises = k .rises; ends = k .ends }) (λ x q e. never (cc))
+    (λ n q e. never (cc)) (λ q e. never (cc)) (λ x q e. let k = each-some q (ahead-raises file w size) in record { rises = k .rises; ends = k .ends }) (λ x q f e. never (cc))
 
 -- while the frames of a file are listed: the text so far stands in `out`, and what is left comes to the whole
 pub record Showing (file : List ℕ) (size room : ℕ) (start : Listing) (out₀ a b work rec out : List ℕ) (s : State) (at : ℕ) : Type 0 where

@@ -78,8 +78,8 @@ listOpened file size room l (fault n) = addLine (unlisted l) (refusedLine n)
 unfoldable pub listFilm : List ℕ → Buffers → Listing
 listFilm file l = listOpened file (length (l .work)) (length (l .rec)) l (opening file (length (l .a)) (length (l .b)))
 
--- the length of the record buffer: a record has at most twice the frame's bytes and 16 more (`record-short`), 32,784 for the longest
--- frame, so that no longer buffer makes a difference (`room-enough`)
+-- the length of the record buffer: a record has at most twice the frame's bytes and 12 more (`record-room`), 32,780 for the longest
+-- frame, so that no step is refused with 51 (`room-enough`)
 abbrev pub ROOM : ℕ
 ROOM = 65_536
 

@@ -21,7 +21,7 @@ pub const FILE: usize = 65536;
 // The longest frame that is listed, and the length that A, B and the work buffer need.
 pub const FRAME: usize = 16384;
 
-// The length that the record buffer needs: every record of such a frame fits, with at most 2 * FRAME + 16 bytes.
+// The length that the record buffer needs: every record of such a frame fits, with at most 2 * FRAME + 12 bytes.
 pub const RECORD: usize = 65536;
 
 // The line of a step on.

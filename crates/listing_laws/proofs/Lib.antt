@@ -1,4 +1,3 @@
-pub mod RoomLaws
 pub mod RoomEnough
 pub mod ShortLaws
 pub mod TextRoom

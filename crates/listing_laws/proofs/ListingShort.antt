@@ -9,6 +9,7 @@ use Rattle.laws.specs.Bytes.{Bytes}
 use Rattle.laws.proofs.ResultLaws.{pick-case}
 use Rattle.opening.specs.Open.{frameSize}
 use Rattle.listing.specs.Listing.{planFor, listPlanned, listFile, listing, Planned}
+use Rattle.answers.proofs.InTable.{listed}
 use Rattle.answers.proofs.Table.{size-table}
 use Rattle.listing_laws.proofs.TextRoom.{Short, sized-short}
 
@@ -18,4 +19,4 @@ module _ (file : List ℕ) (bytes : Bytes file) where
   unfolding listing listFile planFor
   listing-short =
       pick-case (λ (p : Planned). Short (listPlanned file (record { a = []; b = []; work = []; rec = [] }) p)) (leb (length file) 65_536)
-      (λ e. sized-short file bytes (leb-true (length file) 65_536 e) (frameSize file) (size-table file)) (λ e. omega arith)
+      (λ e. sized-short file bytes (leb-true (length file) 65_536 e) (frameSize file) (listed (size-table file))) (λ e. omega arith)

@@ -1,6 +1,5 @@
 -- Each frame takes at least 100 bytes of the file, and its line has at most 68: how long the text is after each frame.
 use Prim.Native.Nat.{ℕ, suc, _+_, _-_, _*_, _<_, _≤_}
-use native.Mathlib.Nat.{le-trans}
 use native.Mathlib.Omega.{arith}
 use mathlib.Core.List.{List, [], _++_}
 use mathlib.Core.Option.{Option, none, some}
@@ -14,13 +13,14 @@ use Rattle.laws.specs.Result.{Res, Res.ok, Res.fault}
 use Rattle.laws.proofs.ResultLaws.{Each, Each.each, Each.no-value, All, All.all-some, All.all-none, each-self, each-bind, each-is, all-value, pick-both, pick-case, each-some}
 use Rattle.laws.specs.Loop.{Step}
 use Rattle.laws.proofs.LoopLaws.{Comes, Comes.comes-next, Comes.comes-done, iterate-holds}
+use Rattle.refusal.specs.Number.{isNumber}
 use Rattle.state.specs.declared.Report.{Report}
-use Rattle.state.specs.declared.Sizes.{Sizes}
 use Rattle.state.specs.declared.State.{State}
 use Rattle.state.specs.State.{rowBytes, Sound}
 use Rattle.state.proofs.StateLaws.{sizes-sound}
 use Rattle.form.specs.Form.{chunksOf}
 use Rattle.delta.specs.Reading.{shapeOf}
+use Rattle.delta.specs.Delta.{draw}
 use Rattle.delta.proofs.DeltaLaws.{draw-length}
 use Rattle.frame.specs.Frame.{Frame, frameAt}
 use Rattle.frame.proofs.FrameLaws.{frame-rises}
@@ -35,8 +35,8 @@ use Rattle.step_on.proofs.ReadyLaws.{ready-passed}
 use Rattle.lines.specs.Lines.{frameLine, endLine, refusedLine, pictureLine}
 use Rattle.listing.specs.Listing.{Listing, lineOn, listStep, listFrames, Buffers, listOpened, ROOM, listFront, planSized, listPlanned, Planned}
 use Rattle.changes.proofs.CountLaws.{differing-short}
-use Rattle.record.proofs.RecordRoom.{record-short}
-use Rattle.answers.proofs.InTable.{InTable, InTable.table-refusal, table-number}
+use Rattle.record.proofs.RecordRoom.{record-room}
+use Rattle.answers.proofs.InTable.{Numbered, Numbered.table-refusal, listed, table-number}
 use Rattle.answers.proofs.Table.{opening-table, on-table}
 use Rattle.listing_laws.proofs.ShortLaws.{Holds, frame-holds, pointers-least, delta-long, Tells, frame-line-short, end-line-short, refused-line-short, picture-line-short}
 
@@ -50,38 +50,31 @@ record Steps (file : ℕ) (s : State) (hidden : List ℕ) (x : Built) : Type 0 w
   rises : s .next + 100 ≤ x .next
   ends : x .next ≤ file
   picture : Small (x .picture)
-  tells : Tells (reportOf s hidden (x .header) (x .picture))
-
--- what a delta that is well formed makes
-record Changes (x : Frame) (f : List ℕ) : Type 0 where
-  long : 32 ≤ length (x .dlta)
-  small : Small f
-
-change-holds : (z : Sizes) (x : Frame) (shown hidden : List ℕ) → Small shown → Small hidden → Each (Changes x) (change z x shown hidden)
-unfolding change
-change-holds z x shown hidden p q =
-    each-bind (delta-long z (x .header .items) (x .dlta)) λ ops h.
-    each (record {
-      long = le-trans (pointers-least z (x .header .items)) h;
-      small = rw (draw-length (shapeOf z (x .header .items)) (x .dlta) ops (basis (x .header) shown hidden)) (pick-both Small (eqb (x .header .interleave) 1) p q);
-    })
+  tells : Tells (reportOf s hidden x)
 
 module _ (file : List ℕ) (s : State) (shown hidden : List ℕ) (bytes : Bytes file) (shown-small : Small shown) (hidden-small : Small hidden) (few : s .frame < 1_000_000) (inside : s .end ≤ length file) where
+  change-holds : (x : Frame) → frameAt (take (s .end) file) (s .next) (rowBytes (s .sizes .width)) ≡ ok (some x) → Holds (s .next) x → Each (Steps (length file) s hidden) (change (s .sizes) x shown hidden)
+  unfolding change
+  change-holds x e h =
+      let k = frame-rises (take (s .end) file) (rowBytes (s .sizes .width)) (s .next) x e in
+      each-bind (delta-long (s .sizes) (x .header .items) (x .dlta)) λ ops l.
+      let f : List ℕ = draw (shapeOf (s .sizes) (x .header .items)) (x .dlta) ops (basis (x .header) shown hidden) in
+      each (record {
+        few = few;
+        rises = omega (arith, h .takes, pointers-least (s .sizes) (x .header .items));
+        ends = omega (arith, k .ends, length-take (s .end) file);
+        picture = rw (draw-length (shapeOf (s .sizes) (x .header .items)) (x .dlta) ops (basis (x .header) shown hidden)) (pick-both Small (eqb (x .header .interleave) 1) shown-small hidden-small);
+        tells = record {
+          method = omega (arith, h .method);
+          time = omega (arith, h .time);
+          changed = omega (arith, differing-short hidden f);
+          record-length = omega (arith, record-room (suc (s .frame)) (s .next) hidden f few (omega arith));
+        };
+      })
+
   build-holds : (o : Option Frame) → frameAt (take (s .end) file) (s .next) (rowBytes (s .sizes .width)) ≡ ok o → All (Holds (s .next)) o → Each (All (Steps (length file) s hidden)) (build (s .sizes) shown hidden o)
   build-holds none e h = each all-none
-  build-holds (some x) e h =
-      let t = all-value h in
-      let k = frame-rises (take (s .end) file) (rowBytes (s .sizes .width)) (s .next) x e in
-      let n : x .next ≤ length file = omega (arith, k .ends, length-take (s .end) file) in
-      each-bind (change-holds (s .sizes) x shown hidden shown-small hidden-small) λ f c.
-      let r : s .next + 100 ≤ x .next = omega (arith, t .takes, c .long) in
-      let q : Tells (reportOf s hidden (x .header) f) = record {
-        method = omega (arith, t .method);
-        time = omega (arith, t .time);
-        changed = omega (arith, differing-short hidden f);
-        record-length = omega (arith, record-short (suc (s .frame)) (s .next) hidden f);
-      } in
-      each (all-some (record { few = few; rises = r; ends = n; picture = c .small; tells = q }))
+  build-holds (some x) e h = each-bind (change-holds x e (all-value h)) λ y k. each (all-some k)
 
   look-holds : Each (All (Steps (length file) s hidden)) (look (take (s .end) file) s shown hidden)
   unfolding look
@@ -117,7 +110,7 @@ module _ (file : List ℕ) (bytes : Bytes file) (short : length file ≤ 65_536)
   stepped : (c : Listing) → Roomy c → (x : Built) → Steps (length file) (c .lent .world .state) (hiddenIn (c .lent .world)) x → Comes Roomy Short (told c (stepTo (c .lent .world) x))
   unfolding lentAfter withHidden
   stepped c h x k =
-      let r : Report = reportOf (c .lent .world .state) (hiddenIn (c .lent .world)) (x .header) (x .picture) in
+      let r : Report = reportOf (c .lent .world .state) (hiddenIn (c .lent .world)) x in
       let n : suc (c .lent .world .state .frame) < 10_000_000 = omega (arith, k .few) in
       let f : suc (c .lent .world .state .frame) ≤ 1_000_000 = omega (arith, k .few) in
       let p : x .next ≤ 65_536 = omega (arith, k .ends) in
@@ -141,9 +134,9 @@ module _ (file : List ℕ) (bytes : Bytes file) (short : length file ≤ 65_536)
       unfold lookAhead in
       each-bind (ready-passed (length file) (w .state) (length (w .a)) (length (w .b)) size) λ _ p. look-holds file (w .state) (shownIn w) (hiddenIn w) bytes s i (p .onA .few) (p .inFile) in
       on-case (λ (o : After). Comes Roomy Short (told c o)) w ROOM file size
-      (λ n e. comes-done (last-short c h (refusedLine n) (refused-line-short n (table-number (on-table file w size) e))))
+      (λ n e. comes-done (last-short c h (refusedLine n) (refused-line-short n (table-number (listed (on-table file w size)) e))))
       (λ e. comes-done (last-short c h (endLine (w .state .frame)) (end-line-short (w .state .frame) (omega (arith, h .frame)))))
-      (λ x e. stepped c h x (each-some e k)) (λ x e. comes-done (last-short c h (refusedLine 51) (refused-line-short 51 refl)))
+      (λ x e. stepped c h x (each-some e k)) (λ x e q. comes-done (last-short c h (refusedLine 51) (refused-line-short 51 refl)))
 
   frames-short : (c : Listing) → Roomy c → Short (listFrames file size ROOM c)
   unfolding listFrames
@@ -164,7 +157,7 @@ opening-begins file n =
 
 -- the text of any file of bytes
 module _ (file : List ℕ) (bytes : Bytes file) where
-  opened-short : length file ≤ 65_536 → (n : ℕ) → n ≤ 16_384 → (q : Res Film) → InTable q → Each (Begins file n) q → (l : Buffers) → Short (listOpened file n ROOM l q)
+  opened-short : length file ≤ 65_536 → (n : ℕ) → n ≤ 16_384 → (q : Res Film) → Numbered isNumber q → Each (Begins file n) q → (l : Buffers) → Short (listOpened file n ROOM l q)
   unfolding listOpened
   opened-short h n k (ok F) l (each g) m =
       let w : Small (F .first) = omega (arith, g .first) in
@@ -173,9 +166,9 @@ module _ (file : List ℕ) (bytes : Bytes file) where
       frames-short file bytes h n _ (record { left = w; right = w; frame = omega arith; place = p; text = t })
   opened-short h n k (fault m) (table-refusal l) g b = omega (arith, refused-line-short m l)
 
-  pub sized-short : length file ≤ 65_536 → (q : Res ℕ) → InTable q → Short (listPlanned file (record { a = []; b = []; work = []; rec = [] }) (planSized q))
+  pub sized-short : length file ≤ 65_536 → (q : Res ℕ) → Numbered isNumber q → Short (listPlanned file (record { a = []; b = []; work = []; rec = [] }) (planSized q))
   unfolding listFront
   sized-short h (ok n) l =
       pick-case (λ (p : Planned). Short (listPlanned file (record { a = []; b = []; work = []; rec = [] }) p)) (leb n 16_384)
-      (λ e. opened-short h n (leb-true n 16_384 e) (opening file n n) (opening-table file n n) (opening-begins file n) _) (λ e. omega arith)
+      (λ e. opened-short h n (leb-true n 16_384 e) (opening file n n) (listed (opening-table file n n)) (opening-begins file n) _) (λ e. omega arith)
   sized-short h (fault m) (table-refusal l) = omega (arith, refused-line-short m l)

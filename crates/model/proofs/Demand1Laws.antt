@@ -30,8 +30,8 @@ not-taken-on file w work room =
     on-case (λ (o : After). ((r : Report) → o .answer ≡ tookOn r → ⊥) → Untouched w o) w room file work
     (λ n e h. record { world = refl; bytes = refl; work = λ _. refl })
     (λ e h. record { world = refl; bytes = refl; work = λ _. refl })
-    (λ x e h. absurd (h (reportOf (w .state) (hiddenIn w) (x .header) (x .picture)) refl))
-    (λ x e h. record { world = refl; bytes = refl; work = λ k. absurd (k refl) })
+    (λ x e h. absurd (h (reportOf (w .state) (hiddenIn w) x) refl))
+    (λ x e q h. record { world = refl; bytes = refl; work = λ k. absurd (k refl) })
 
 pub not-taken-back : (w : World) (bytes : List ℕ) → (stepBack w bytes .answer ≡ tookBack → ⊥) → Untouched w (stepBack w bytes)
 unfolding stepBack settleBack

@@ -15,9 +15,10 @@ use Rattle.step_on.specs.declared.SteppedOn.{SteppedOn}
 use Rattle.state.specs.World.{World, shownIn, hiddenIn, withHidden}
 use Rattle.state.specs.After.{Answer.refused, After, lent, workAfter, lentAfter}
 use Rattle.step_on.specs.Step.{stepOn, onOf, MeetsOn}
+use Rattle.step_on.proofs.CaseLaws.{stepTo}
 use Rattle.model.specs.Demands.{Free, deltaOps, basisOf, newOf, recordTo, Takes}
 use Rattle.model.proofs.Laws.{on-world, on-work, on-rec}
-use Rattle.model.proofs.Demand2Laws.{malformed, takenAs, change-new, taken, shown-new, shown-kept, unfit}
+use Rattle.model.proofs.Demand2Laws.{malformed, builtBy, taken, shown-new, shown-kept, unfit}
 
 -- demand 2, of a step on that met its contract
 module _ (file : List ℕ) (w : World) (work rec : List ℕ) (r : SteppedOn) (a b work′ rec′ : List ℕ) (m : MeetsOn file (record { world = w; work = work; rec = rec }) r (lent a b (r .state) work′ rec′))
@@ -28,16 +29,16 @@ module _ (file : List ℕ) (w : World) (work rec : List ℕ) (r : SteppedOn) (a 
       let g = malformed file w (length work) (length rec) x n f e in
       (m .answer ∙ ap (λ (o : After). o .answer) g, m .left ∙ ap (lentAfter (record { world = w; work = work; rec = rec })) g)
 
-  pub demand-2-taken : (ops : List Op) → deltaOps w x ≡ ok ops → length (recordTo w (newOf w x ops)) ≤ length rec → Takes w rec x (newOf w x ops) (onOf (r .answer)) (lent a b (r .state) work′ rec′)
-  unfolding takenAs withHidden
+  pub demand-2-taken : (ops : List Op) → deltaOps w x ≡ ok ops → length (recordTo w (newOf w x ops)) ≤ length rec → Takes w rec x ops (newOf w x ops) (onOf (r .answer)) (lent a b (r .state) work′ rec′)
+  unfolding withHidden
   demand-2-taken ops e h =
-      let g : stepOn file w (length work) (length rec) ≡ takenAs w x (newOf w x ops) = taken file w (length work) (length rec) x (newOf w x ops) f (change-new w x ops e) h in
+      let g : stepOn file w (length work) (length rec) ≡ stepTo w (builtBy w x ops) = taken file w (length work) (length rec) x ops f e h in
       let k = on-world m ∙ ap (λ (o : After). o .world) g in
       record {
         answer = m .answer ∙ ap (λ (o : After). o .answer) g;
         state = ap (λ (v : World). v .state) k;
-        shown = ap shownIn k ∙ shown-new w x (newOf w x ops);
-        hidden = ap hiddenIn k ∙ shown-kept w x (newOf w x ops);
+        shown = ap shownIn k ∙ shown-new w (builtBy w x ops);
+        hidden = ap hiddenIn k ∙ shown-kept w (builtBy w x ops);
         drawn = on-work m ∙ ap (λ (o : After). workAfter work (o .work)) g;
         written = on-rec m ∙ ap (λ (o : After). o .bytes ++ drop (length (o .bytes)) rec) g;
       }
@@ -45,14 +46,14 @@ module _ (file : List ℕ) (w : World) (work rec : List ℕ) (r : SteppedOn) (a 
   -- one whose record doesn't fit is refused with 51, and leaves the new picture in the work buffer
   pub demand-2-no-room : (ops : List Op) → deltaOps w x ≡ ok ops → length rec < length (recordTo w (newOf w x ops)) → (onOf (r .answer) ≡ refused 51) × (work′ ≡ newOf w x ops)
   demand-2-no-room ops e h =
-      let g = unfit file w (length work) (length rec) x (newOf w x ops) f (change-new w x ops e) h in
+      let g = unfit file w (length work) (length rec) x ops f e h in
       (m .answer ∙ ap (λ (o : After). o .answer) g, on-work m ∙ ap (λ (o : After). workAfter work (o .work)) g)
 
   -- a delta that `writer::write` wrote for the picture that the frame builds on and a new one leads to the new one
   pub demand-2-written : (new out out′ : List ℕ) (n : ℕ) → Writes out (basisOf w x) new (w .state .sizes) (ok n) out′ → x .header .items ≡ Bytes → x .dlta ≡ take n out′
-      → length (recordTo w new) ≤ length rec → Takes w rec x new (onOf (r .answer)) (lent a b (r .state) work′ rec′)
+      → length (recordTo w new) ≤ length rec → (ops : List Op) × (deltaOps w x ≡ ok ops) × Takes w rec x ops new (onOf (r .answer)) (lent a b (r .state) work′ rec′)
   demand-2-written new out out′ n g j d h =
       let t = delta-makes (w .state .sizes) (basisOf w x) new out n out′ g in
       let e : deltaOps w x ≡ ok (t .0) = rw (j, d) (t .1) in
       let i : newOf w x (t .0) ≡ new = rw (j, d) (t .2) in
-      rw i at (demand-2-taken (t .0) e (rw i h))
+      (t .0, e, rw i at (demand-2-taken (t .0) e (rw i h)))

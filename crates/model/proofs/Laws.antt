@@ -1,25 +1,30 @@
--- Laws that the demands are proved from: a delta keeps the pictures' length, parity alternates, and what a step that met its contract
--- hands on.
+-- Laws that the demands are proved from: a delta keeps the pictures' length, its ops are counted by the method, parity alternates, and what
+-- a step that met its contract hands on.
 use Prim.Native.Nat.{ℕ, zero, suc, _%_}
 use native.Mathlib.Omega.{arith}
-use mathlib.Core.Bool.{not}
+use mathlib.Core.Bool.{Bool, not}
 use mathlib.Core.List.{List, _++_}
+use mathlib.Core.Option.{some}
 use mathlib.Core.Path.{_≡_, refl, ap, _∙_}
 use lib.Dec.{eqb}
 use lib.ListN.{length, drop}
 use borrow.Author.Tests.{eq-eqb, ne-eqb}
-use Rattle.laws.specs.Result.{Res.ok}
+use Rattle.laws.specs.Result.{Res.ok, pick}
 use Rattle.laws.proofs.ResultLaws.{Each.each, each-any, each-is, pick-both}
-use Rattle.delta.specs.Reading.{shapeOf}
+use Rattle.anhd.specs.declared.Items.{Items}
+use Rattle.delta.specs.Reading.{shapeOf, Op, opsIn}
 use Rattle.delta.specs.Delta.{readDelta}
 use Rattle.delta.proofs.DeltaLaws.{draw-length}
-use Rattle.frame.specs.Frame.{Frame}
+use Rattle.delta.proofs.CountLaws.{words-method}
+use Rattle.frame.specs.Frame.{Frame, frameAt}
+use Rattle.frame.proofs.FrameLaws.{frame-items}
+use Rattle.state.specs.declared.Sizes.{Sizes}
 use Rattle.state.specs.World.{isOdd}
 use Rattle.state.specs.After.{After, Lent, workAfter, lentAfter}
 use Rattle.state.specs.Film.{Film}
 use Rattle.step_on.specs.declared.SteppedOn.{SteppedOn}
 use Rattle.step_on.specs.Step.{LeavesOn}
-use Rattle.model.specs.Model.{named, built}
+use Rattle.model.specs.Model.{named, built, opsCounted}
 
 -- what a frame's delta makes of two pictures of one length has that length too
 pub built-length : (F : Film) (x : Frame) (one two g : List ℕ) {n : ℕ} → length one ≡ n → length two ≡ n → built F x one two ≡ ok g → length g ≡ n
@@ -28,6 +33,12 @@ built-length F x one two g {n} p q e =
     each-is {P = λ (l : List ℕ). length l ≡ n} e
     (each-any (readDelta (shapeOf (F .sizes) (x .header .items)) (x .dlta)) λ ops.
     each (draw-length (shapeOf (F .sizes) (x .header .items)) (x .dlta) ops (named x one two) ∙ pick-both (λ (l : List ℕ). length l ≡ n) (eqb (x .header .interleave) 1) p q))
+
+-- the ops that are reported, by the shape of the lists and by the frame's method
+pub ops-same : (s : List ℕ) (B at : ℕ) (x : Frame) → frameAt s at B ≡ ok (some x) → (z : Sizes) (ops : List Op) → opsIn (shapeOf z (x .header .items)) ops ≡ opsCounted x ops
+ops-same s B at x e z ops =
+    let k = frame-items s B at x e in
+    ap (λ (t : Bool). pick t 0 (length ops)) (ap (λ (i : Items). shapeOf z i .words) (k .1) ∙ words-method z (x .header .method) (k .0))
 
 pub odd-suc : (n : ℕ) → isOdd (suc n) ≡ not (isOdd n)
 unfolding isOdd

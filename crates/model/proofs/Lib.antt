@@ -3,6 +3,7 @@ pub mod Demand1Laws
 pub mod Demand1
 pub mod Demand2Laws
 pub mod Demand2
+pub mod OpsReported
 pub mod Demand2FirstLaws
 pub mod Demand2First
 pub mod Opened

@@ -3,20 +3,24 @@ use Prim.Native.Nat.{ℕ, suc, _<_}
 use mathlib.Core.Bool.{Bool, true, false}
 use mathlib.Core.List.{List}
 use mathlib.Core.Option.{Option, none, some}
-use mathlib.Core.Path.{_≡_, refl, _∙_}
+use mathlib.Core.Path.{_≡_, refl, sym, _∙_}
 use lib.Dec.{leb, ltb, eqb}
 use lib.ListN.{length, take}
 use borrow.Author.Tests.{le-leb, eq-eqb, ltb-true}
 use Rattle.laws.specs.Result.{Res, Res.ok, Res.fault, _>>=_, need, pick}
+use Rattle.laws.proofs.ResultLaws.{made-of, made-refused}
 use Rattle.state.specs.State.{rowBytes, lentLength, moved}
+use Rattle.delta.specs.declared.Shape.{Shape}
+use Rattle.delta.specs.Reading.{shapeOf, Op}
+use Rattle.delta.specs.Delta.{readDelta, draw}
 use Rattle.frame.specs.Frame.{Frame, frameAt}
 use Rattle.state.specs.World.{isOdd, hiddenIn, withHidden}
 use Rattle.state.specs.After.{Answer, Answer.refused, Answer.ended, Answer.tookOn, After}
 use Rattle.step_on.specs.Step.{ready, change, Built, build, look, lookAhead, recordOf, settle, stepOn}
 use Rattle.step_on.proofs.CaseLaws.{commit-case}
 use Rattle.state.specs.Film.{Film}
-use Rattle.model.specs.Model.{here, built, builtAt, placeAt, picture, recordAt, stands, reportAt, answerAt, answerOn, numberAfter, recordAfter}
-use Rattle.model.proofs.Laws.{odd-suc}
+use Rattle.model.specs.Model.{here, named, built, builtAt, opsAt, placeAt, picture, recordAt, stands, reportAt, answerAt, answerOn, numberAfter, recordAfter}
+use Rattle.model.proofs.Laws.{ops-same, odd-suc}
 use Rattle.model.proofs.Opened.{Opened, size}
 use Rattle.model.proofs.Reached.{Reached, place-next, picture-next, Good, good, state-good, hidden-is, shown-is, left-long, right-long, Comes, Reached.next, pick-left, pick-right}
 
@@ -45,20 +49,30 @@ ahead-is F o m k work =
     go true false = refl
     go false t = refl
 
-pub built-is : (F : Film) (m : ℕ) (x : Frame) → builtThere F m (some x) ≡ (builtAt F m x >>= λ f. ok (some (record { picture = f; next = x .next; header = x .header })))
-unfolding builtThere built change
-built-is F m x = refl
-
 pub built-fault : (F : Film) (m : ℕ) (x : Frame) (n : ℕ) → builtAt F m x ≡ fault n → builtThere F m (some x) ≡ fault n
-built-fault F m x n c = built-is F m x ∙ rw c
+unfolding builtThere built change
+built-fault F m x n c = rw (made-refused (readDelta (shapeOf (F .sizes) (x .header .items)) (x .dlta)) _ c)
 
 -- frame m + 2 as it is built
 pub nextBuilt : Film → ℕ → Frame → Built
-nextBuilt F m x = record { picture = picture F (suc (suc m)); next = placeAt F (suc m); header = x .header }
+nextBuilt F m x = record { picture = picture F (suc (suc m)); next = placeAt F (suc m); header = x .header; ops = opsAt F x }
 
 pub built-ok : (F : Film) (m : ℕ) (x : Frame) (g : List ℕ) → here F (placeAt F m) ≡ ok (some x) → builtAt F m x ≡ ok g → builtThere F m (some x) ≡ ok (some (nextBuilt F m x))
-unfolding nextBuilt
-built-ok F m x g e c = built-is F m x ∙ rw c (rw (picture-next F m x g e c, place-next F m x e) refl)
+unfolding builtThere built change nextBuilt opsAt
+built-ok F m x g e c = go (made-of (readDelta (shapeOf (F .sizes) (x .header .items)) (x .dlta)) c)
+  where
+    S : Shape
+    S = shapeOf (F .sizes) (x .header .items)
+
+    go : ((ops : List Op) × (readDelta S (x .dlta) ≡ ok ops) × (draw S (x .dlta) ops (named x (picture F (suc m)) (picture F m)) ≡ g)) → builtThere F m (some x) ≡ ok (some (nextBuilt F m x))
+    go (ops, r, d) =
+        rw r
+        (λ i. ok (some (record {
+          picture = (d ∙ sym (picture-next F m x g e c)) i;
+          next = sym (place-next F m x e) i;
+          header = x .header;
+          ops = ops-same _ _ _ x e (F .sizes) ops i;
+        })))
 
 -- its record
 pub record-is : (F : Film) (m : ℕ) → recordOf (stands F m .state) (hiddenIn (stands F m)) (picture F (suc (suc m))) ≡ recordAt F m

@@ -1,5 +1,6 @@
--- What demands 1 and 2 speak of (document 01, "Refusal numbers", "Deltas" and "Opening, stepping on, stepping back", and document 02, E1, E5 and E7).
-use Prim.Native.Nat.{ℕ, suc}
+-- What demands 1 and 2 speak of (document 01, "Refusal numbers", "Deltas" and "Opening, stepping on, stepping back", and document 02, E1, E5,
+-- E7 and E8).
+use Prim.Native.Nat.{ℕ, suc, _≤_}
 use mathlib.Core.Bool.{true, false}
 use mathlib.Core.List.{List, [], _++_}
 use mathlib.Core.Option.{Option, none, some}
@@ -10,6 +11,7 @@ use Rattle.laws.specs.Result.{Res, Res.ok, Res.fault, pick}
 use Rattle.state.specs.declared.Sizes.{Sizes}
 use Rattle.state.specs.State.{rowBytes, frameBytes, zeros}
 use Rattle.state.specs.declared.State.{State}
+use Rattle.state.specs.declared.Report.{Report}
 use Rattle.state.specs.World.{World, shownIn, hiddenIn}
 use Rattle.state.specs.After.{Answer, Answer.refused, Answer.ended, Answer.tookOn, Answer.tookBack, Lent, lent}
 use Rattle.iff.specs.Ids.{ANHD, DLTA}
@@ -20,6 +22,7 @@ use Rattle.anhd.specs.declared.FrameHeader.{FrameHeader}
 use Rattle.anhd.specs.Anhd.{frameHeader}
 use Rattle.delta.specs.Reading.{Op, shapeOf}
 use Rattle.delta.specs.Delta.{readDelta, draw}
+use Rattle.delta.specs.Count.{opsMost}
 use Rattle.runs.specs.Runs.{differing}
 use Rattle.record.specs.Record.{recordBytes}
 use Rattle.frame.specs.Frame.{Frame, frameAt}
@@ -31,6 +34,7 @@ use Rattle.step_back.specs.declared.SteppedBack.{SteppedBack}
 use Rattle.step_back.specs.Back.{backOf, MeetsBack}
 use Rattle.writer.specs.declared.Delta.{Delta}
 use Rattle.writer.specs.Write.{deltaOf, Writes}
+use Rattle.model.specs.Model.{opsCounted}
 
 -- the number with which a step is refused, if it is
 abbrev pub refusalOf : Answer → Option ℕ
@@ -85,15 +89,35 @@ newOf w x ops = draw (shapeOf (w .state .sizes) (x .header .items)) (x .dlta) op
 abbrev pub recordTo : World → List ℕ → List ℕ
 recordTo w f = recordBytes (suc (w .state .frame)) (w .state .next) (hiddenIn w) f
 
--- what a taken step to frame x, whose picture is f, answers and leaves: f is in the hidden buffer, which is now the shown one, and in the
--- work buffer; the shown picture doesn't change; the record stands at the front of its buffer, and the bytes past it stay
-pub record Takes (w : World) (rec : List ℕ) (x : Frame) (f : List ℕ) (y : Answer) (l : Lent) : Type 0 where
-  pub answer : y ≡ tookOn (record { method = x .header .method; time = x .header .time; changed = differing (hiddenIn w) f; record_length = length (recordTo w f) })
+-- what is reported of a taken step to frame x, whose delta has these ops and whose picture is f
+abbrev pub reportTo : World → Frame → List Op → List ℕ → Report
+reportTo w x ops f = record {
+  method = x .header .method;
+  time = x .header .time;
+  changed = differing (hiddenIn w) f;
+  record_length = length (recordTo w f);
+  ops = opsCounted x ops;
+}
+
+-- what such a step answers and leaves: f is in the hidden buffer, which is now the shown one, and in the work buffer; the shown picture
+-- doesn't change; the record stands at the front of its buffer, and the bytes past it stay
+pub record Takes (w : World) (rec : List ℕ) (x : Frame) (ops : List Op) (f : List ℕ) (y : Answer) (l : Lent) : Type 0 where
+  pub answer : y ≡ tookOn (reportTo w x ops f)
   pub state : l .world .state ≡ record { sizes = w .state .sizes; frame = suc (w .state .frame); next = x .next; end = w .state .end }
   pub shown : shownIn (l .world) ≡ f
   pub hidden : hiddenIn (l .world) ≡ shownIn w
   pub drawn : l .work ≡ f
   pub written : l .rec ≡ recordTo w f ++ drop (length (recordTo w f)) rec
+
+-- n is what a step on from w reports of its ops: the number of them in the delta of the next frame from the next place on, at most 255 for
+-- each column of each plane that is read
+pub record OpsRead (file : List ℕ) (w : World) (n : ℕ) : Type 0 where
+  pub frame : Frame
+  pub there : frameAt (take (w .state .end) file) (w .state .next) (rowBytes (w .state .sizes .width)) ≡ ok (some frame)
+  pub ops : List Op
+  pub read : deltaOps w frame ≡ ok ops
+  pub counted : n ≡ opsCounted frame ops
+  pub most : n ≤ opsMost (shapeOf (w .state .sizes) (frame .header .items)) (frame .dlta)
 
 -- an opening that only its delta (41 to 43, 45) can refuse: the walk found a first frame at p (13, 21 to 23), without a BODY but with an
 -- ANHD (31) and a good BMHD z (24), A and B have a frame's length (12), and h is a good header (32, 33, 35, 36)

@@ -1,10 +1,11 @@
--- The model of demand 3 (document 01, "Opening, stepping on, stepping back", and document 02, E1, E5 and E7). It is fed the file and the calls in order, and holds
--- a number n, at first 1. Here m is n − 1: picture m + 1 is shown at n, and picture m hidden, where picture 0 is picture 1 too.
+-- The model of demand 3 (document 01, "Opening, stepping on, stepping back", and document 02, E1, E5, E7 and E8). It is fed the file and the
+-- calls in order, and holds a number n, at first 1. Here m is n − 1: picture m + 1 is shown at n, and picture m hidden, where picture 0 is
+-- picture 1 too.
 -- With opening and the steps it shares the readings of chunks, BMHD, BODY, ANHD, deltas and records, what ops draw, the bytes of a record,
 -- the lengths of a row and of a frame, how many bytes differ, what an odd number is, the ids of chunks, and the types of what a file
 -- fixes, of what is handed on and of what is answered; and nothing of what an opening or a step comes to.
 use Prim.Native.Nat.{ℕ, zero, suc}
-use mathlib.Core.Bool.{true}
+use mathlib.Core.Bool.{true, _||_}
 use mathlib.Core.List.{List, [], _∷_}
 use mathlib.Core.Option.{Option, none, some}
 use lib.Dec.{leb, ltb, eqb}
@@ -20,7 +21,7 @@ use Rattle.bmhd.specs.Header.{bitmapHeader}
 use Rattle.bmhd.specs.declared.Header.{Header}
 use Rattle.body.specs.Body.{body}
 use Rattle.anhd.specs.Anhd.{frameHeader}
-use Rattle.delta.specs.Reading.{shapeOf}
+use Rattle.delta.specs.Reading.{shapeOf, Op}
 use Rattle.delta.specs.Delta.{readDelta, draw}
 use Rattle.runs.specs.Runs.{differing}
 use Rattle.record.specs.Record.{recordBytes, Past, pastOf}
@@ -101,6 +102,14 @@ picture F zero = F .first
 picture F (suc zero) = F .first
 picture F (suc (suc k)) = drawn F (picture F (suc k)) (picture F k) (here F (placeAt F k))
 
+-- how many ops of a frame count: each op of each list that is read, once for each plane; those of words, methods 2 and 3, don't
+abbrev pub opsCounted : Frame → List Op → ℕ
+opsCounted x ops = pick (eqb (x .header .method) 2 || eqb (x .header .method) 3) 0 (length ops)
+
+-- how many ops of a frame's delta count
+unfoldable pub opsAt : Film → Frame → ℕ
+opsAt F x = orKeep 0 (readDelta (shapeOf (F .sizes) (x .header .items)) (x .dlta) >>= λ ops. ok (opsCounted x ops))
+
 -- what the delta of x, frame m + 2, makes of picture m + 1 or m
 abbrev pub builtAt : Film → ℕ → Frame → Res (List ℕ)
 builtAt F m x = built F x (picture F (suc m)) (picture F m)
@@ -124,6 +133,7 @@ reportAt F m x = record {
   time = x .header .time;
   changed = differing (picture F m) (picture F (suc (suc m)));
   record_length = length (recordAt F m);
+  ops = opsAt F x;
 }
 
 -- a step on from frame m + 1, by the frame at the next place and what its delta comes to: it is taken if its record fits

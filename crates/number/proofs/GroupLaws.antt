@@ -77,13 +77,20 @@ pub groups-short : (k n : ℕ) → length (writeGroups k n) ≤ 1 + n / 128
 groups-short zero n = unfold writeGroups in omega arith
 groups-short (suc k) n = let ih = groups-short k (n / 128) in written-case (λ (s : List ℕ). length s ≤ 1 + n / 128) k n (λ h. omega arith) (λ h. omega arith)
 
+-- without its last seven bits a number below 128 ^ suc (suc k) is below 128 ^ suc k
+pub high-below : (k n : ℕ) → n < 128 ^ suc (suc k) → n / 128 < 128 ^ suc k
+high-below k n h = div-lt-iff-lt-mul (lit< tt) .1 (rw (← (pow-suc 128 (suc k))) h)
+
+-- a number below 128 ^ suc j takes at most suc j bytes
+pub groups-few : (k j n : ℕ) → n < 128 ^ suc j → length (writeGroups k n) ≤ suc j
+groups-few zero j n h = unfold writeGroups in omega arith
+groups-few (suc k) zero n h = let l : n < 128 = omega arith in rw (last-written (suc k) n l) (omega arith)
+groups-few (suc k) (suc j) n h = let ih = groups-few k j (n / 128) (high-below j n h) in written-case (λ (s : List ℕ). length s ≤ suc (suc j)) k n (λ l. omega arith) (λ l. omega arith)
+
 -- bytes that are n in shortest form, at most suc k of them
 pub data Encoded : ℕ → ℕ → List ℕ → Type 0 where
   encoded-last : {k n : ℕ} → n < 128 → Encoded k n (n ∷ [])
   encoded-more : {k n : ℕ} {bytes : List ℕ} → 128 ≤ n → Encoded k (n / 128) bytes → Encoded (suc k) n ((128 + n % 128) ∷ bytes)
-
-pub high-below : (k n : ℕ) → n < 128 ^ suc (suc k) → n / 128 < 128 ^ suc k
-high-below k n h = div-lt-iff-lt-mul (lit< tt) .1 (rw (← (pow-suc 128 (suc k))) h)
 
 pub encoded : (k n : ℕ) → n < 128 ^ suc k → Encoded k n (writeGroups k n)
 encoded zero n h = let l : n < 128 = omega arith in rw (last-written 0 n l) (encoded-last l)

@@ -15,7 +15,7 @@ use Rattle.laws.proofs.BytesLaws.{bytes-drop}
 use Rattle.number.specs.Number.{Value, readNumber, writeNumber, readOf, Within, ReadAt, fits, after, laid}
 use Rattle.number.specs.declared.Parsed.{Parsed}
 use Rattle.number.specs.declared.Parsed.the-variants.{Number, Malformed}
-use Rattle.number.proofs.GroupLaws.{last-written, more-written, groups-most, groups-short, high-below, Encoded, encoded, encoded-is, wider, encoded-length, read-back, Decoded, decoded, Front, decoded-front, decoded-taken}
+use Rattle.number.proofs.GroupLaws.{last-written, more-written, groups-most, groups-short, groups-few, high-below, Encoded, encoded, encoded-is, wider, encoded-length, read-back, Decoded, decoded, Front, decoded-front, decoded-taken}
 
 -- one group of a number that is written
 pub write-last : (n : ℕ) → n < 128 → writeNumber n ≡ n ∷ []
@@ -51,6 +51,11 @@ write-most n = groups-most 4 n
 pub write-short : (n : ℕ) → length (writeNumber n) ≤ 1 + n / 128
 unfolding writeNumber
 write-short n = groups-short 4 n
+
+-- a number below 128 ^ suc k takes at most suc k bytes
+pub write-few : (k n : ℕ) → n < 128 ^ suc k → length (writeNumber n) ≤ suc k
+unfolding writeNumber
+write-few k n h = groups-few 4 k n h
 
 -- what is written is read back
 pub read-write : (n : ℕ) (s : List ℕ) → n < 2 ^ 32 → readNumber (writeNumber n ++ s) ≡ some (record { value = n; rest = s })

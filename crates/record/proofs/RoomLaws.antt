@@ -1,11 +1,11 @@
 -- How many bytes runs are written in at most.
-use Prim.Native.Nat.{ℕ, suc, _+_, _-_, _*_, _/_, _≤_}
+use Prim.Native.Nat.{ℕ, suc, _+_, _-_, _*_, _/_, _^_, _<_, _≤_}
 use native.Mathlib.Nat.{suc-add}
 use native.Mathlib.Omega.{arith}
 use mathlib.Core.List.{List, [], _∷_}
 use mathlib.Core.Path.{_≡_, refl, ap, _∙_}
 use lib.ListN.{length, length-append}
-use Rattle.number.proofs.NumberLaws.{write-most, write-short}
+use Rattle.number.proofs.NumberLaws.{write-short, write-few}
 use Rattle.number.specs.Number.{writeNumber}
 use Rattle.runs.specs.Runs.{Run, kept, changed, runsOf, differing}
 use Rattle.runs.proofs.PatchLaws.{Fit, by-runs, by-changed, fit-old}
@@ -57,6 +57,10 @@ few room (r ∷ rs) f = let h = few-later (room - (r .gap + length (r .bytes))) 
 runs-short : (old new : List ℕ) → length (runsBytes (runsOf old new)) ≤ 2 * length old + 1
 runs-short old new = let h = few (length old) (runsOf old new) (fit-old old new) in omega (arith, room-of 0 (length old) (runsOf old new) (fit-old old new), h .0, h .1)
 
-pub list-short : (old new : List ℕ) → length (listBytes (runsOf old new)) ≤ 2 * length old + 6
+-- a run list: the number of runs takes suc k bytes at most
+pub list-short : (k : ℕ) (old new : List ℕ) → length old + 1 < 2 * 128 ^ suc k → length (listBytes (runsOf old new)) ≤ 2 * length old + 1 + suc k
 unfolding listBytes
-list-short old new = let n : ℕ = length (runsOf old new) in omega (arith, length-append (writeNumber n) (runsBytes (runsOf old new)), write-most n, runs-short old new)
+list-short k old new h =
+    let n : ℕ = length (runsOf old new) in
+    let f = few (length old) (runsOf old new) (fit-old old new) in
+    omega (arith, length-append (writeNumber n) (runsBytes (runsOf old new)), write-few k n (omega arith), runs-short old new)

@@ -1,3 +1,4 @@
 pub mod RunList
 pub mod Record
+pub mod Room
 pub mod Walk

@@ -18,12 +18,13 @@ pub struct State {
     pub end: usize,
 }
 
-// What a taken step on reports: the method, the relative time, how many bytes changed, and the record's length.
+// What a taken step on reports: the method, the relative time, how many bytes changed, the record's length, and how many ops were read.
 pub struct Report {
     pub method: usize,
     pub time: usize,
     pub changed: usize,
     pub record_length: usize,
+    pub ops: usize,
 }
 
 // How many bytes a frame has, or that the sizes or the state are outside the limits.

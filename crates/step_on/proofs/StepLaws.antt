@@ -8,17 +8,19 @@ use lib.Dec.{leb, eqb}
 use lib.ListN.{length, take}
 use borrow.Author.Tests.{eq-eqb, le-leb}
 use Rattle.laws.specs.Result.{Res, Res.ok, Res.fault, _>>=_, need, leaves}
-use Rattle.laws.proofs.ResultLaws.{Each, each-is, each-bind, each-map, each-self, pick-both, never}
+use Rattle.laws.proofs.ResultLaws.{Each, Each.each, each-any, each-is, each-bind, each-map, each-self, pick-both, never}
 use Rattle.refusal.specs.Number.{numberOf}
 use Rattle.refusal.specs.declared.Refusal.{Refusal}
+use Rattle.state.specs.declared.Sizes.{Sizes}
 use Rattle.state.specs.declared.State.{State}
 use Rattle.state.specs.State.{rowBytes, moved}
 use Rattle.state.specs.World.{World, isOdd, shownIn, hiddenIn, withHidden}
 use Rattle.state.specs.After.{Lent, lent, After, lentAfter}
 use Rattle.anhd.specs.Anhd.{columnsOk}
 use Rattle.anhd.specs.declared.FrameHeader.{FrameHeader}
-use Rattle.delta.specs.Delta.{newFrame, Applies}
-use Rattle.delta.proofs.ApplyLaws.{frame-delta, new-refused, new-drawn}
+use Rattle.delta.specs.Reading.{shapeOf}
+use Rattle.delta.specs.Delta.{readDelta, readFrame, Applies}
+use Rattle.delta.proofs.ApplyLaws.{frame-delta, read-refused, drawn-ops, new-refused}
 use Rattle.frame.specs.Frame.{Frame, frameAt}
 use Rattle.record.specs.Record.{Measure, measure, written, Commits}
 use Rattle.step_on.specs.declared.Ahead.{Ahead}
@@ -30,22 +32,29 @@ use Rattle.step_on.specs.Parts.{Fits, frameOf, picturesAfter, CommitsHid
 use Rattle.step_on.proofs.ReadyLaws.{Passed, ready-passed}
 use Rattle.step_on.proofs.CaseLaws.{commit-case}
 
+-- what is built has the frame's next place
+pub change-next : (z : Sizes) (x : Frame) (shown hidden : List ℕ) → Each (λ (y : Built). y .next ≡ x .next) (change z x shown hidden)
+unfolding change
+change-next z x shown hidden = each-any (readDelta (shapeOf z (x .header .items)) (x .dlta)) λ ops. each refl
+
 -- building frame x
 module _ (s : State) (x : Frame) (shown hidden work : List ℕ) (j : Fits s (length shown) (length work)) (k : Fits s (length hidden) (length work)) (c : columnsOk (x .header .items) (rowBytes (s .sizes .width)) ≡ true) where
   basis-length : length (basis (x .header) shown hidden) ≡ length hidden
   basis-length = pick-both (λ (f : List ℕ). length f ≡ length hidden) (eqb (x .header .interleave) 1) (sym (j .same) ∙ k .same) refl
 
-  change-is : change (s .sizes) x shown hidden ≡ newFrame (length work) (basis (x .header) shown hidden) (x .dlta) (s .sizes) (x .header .items)
-  unfolding change newFrame
-  change-is = rw (frame-delta (s .sizes) (x .header .items) (x .dlta) (length (basis (x .header) shown hidden)) (length work) (k .sizes) basis-length (k .same) c)
+  -- the delta is read for these buffers
+  read-is : readDelta (shapeOf (s .sizes) (x .header .items)) (x .dlta) ≡ readFrame (length work) (length (basis (x .header) shown hidden)) (x .dlta) (s .sizes) (x .header .items)
+  read-is = sym (frame-delta (s .sizes) (x .header .items) (x .dlta) (length (basis (x .header) shown hidden)) (length work) (k .sizes) basis-length (k .same) c)
 
   pub build-refused : {why : Refusal} {work′ : List ℕ} → Applies work (basis (x .header) shown hidden) (x .dlta) (s .sizes) (x .header .items) (fault (numberOf why)) work′
       → Looks (build (s .sizes) shown hidden (some x)) work (AheadRefused why) work′
-  build-refused p = let e = new-refused p in rw (change-is, e) (record { answer = refl; drawn = p .leaves ∙ rw e })
+  unfolding change
+  build-refused p = rw (read-is, read-refused p) (record { answer = refl; drawn = p .leaves ∙ rw (new-refused p) })
 
   pub build-drawn : {n : ℕ} {work′ : List ℕ} → Applies work (basis (x .header) shown hidden) (x .dlta) (s .sizes) (x .header .items) (ok n) work′
-      → Looks (build (s .sizes) shown hidden (some x)) work (AheadBuilt (x .next) (x .header)) work′
-  build-drawn p = rw (change-is, new-drawn p) (record { answer = refl; drawn = refl })
+      → Looks (build (s .sizes) shown hidden (some x)) work (AheadBuilt (x .next) (x .header) n) work′
+  unfolding change
+  build-drawn p = let k = drawn-ops p in rw (read-is, k .1) (record { answer = λ j. ok (some (record { picture = k .3 j; next = x .next; header = x .header; ops = k .2 j })); drawn = k .3 })
 
 -- the next frame of FORM ANIM
 module _ (anim : List ℕ) (s : State) (shown hidden work : List ℕ) where
@@ -82,9 +91,14 @@ pub ahead-passed : (file : List ℕ) (w : World) (work : ℕ) → Each (λ _. Pa
 unfolding lookAhead
 ahead-passed file w work = each-bind (ready-passed (length file) (w .state) (length (w .a)) (length (w .b)) work) λ t p. each-map (λ o q. p) (each-self (look (take (w .state .end) file) (w .state) (shownIn w) (hiddenIn w)))
 
-pub ahead-fits : (file : List ℕ) (w : World) (work : List ℕ) {next : ℕ} {header : FrameHeader} {work′ : List ℕ} → Looks (lookAhead file w (length work)) work (AheadBuilt next header) work′ → length work ≡ length work′
+pub ahead-fits : (file : List ℕ) (w : World) (work : List ℕ) {next ops : ℕ} {header : FrameHeader} {work′ : List ℕ} → Looks (lookAhead file w (length work)) work (AheadBuilt next header ops) work′ → length work ≡ length work′
     → Fits (w .state) (length (w .a)) (length work′) × Fits (w .state) (length (w .b)) (length work′)
 ahead-fits file w work k l = let p = each-is (sym (k .answer)) (ahead-passed file w (length work)) in (rw l at (p .onA), rw l at (p .onB))
+
+-- where A and B fit, so does the hidden picture
+pub hidden-fits : (w : World) {work : ℕ} → Fits (w .state) (length (w .a)) work → Fits (w .state) (length (w .b)) work → Fits (w .state) (length (hiddenIn w)) work
+unfolding hiddenIn
+hidden-fits w {work} j k = pick-both (λ (f : List ℕ). Fits (w .state) (length f) work) (isOdd (w .state .frame)) k j
 
 module _ (w : World) (f rec : List ℕ) {q : Res Measure} {rec′ p : List ℕ} {n : ℕ} (en : n ≡ suc (w .state .frame)) where
   pub hidden-odd : isOdd (w .state .frame) ≡ true → Commits rec n (w .state .next) (w .b) f q rec′ p → CommitsHidden w f rec q (w .a) p rec′
@@ -111,13 +125,9 @@ module _ (w : World) (x : Built) (rec : List ℕ) (j : Fits (w .state) (length (
   writes : ℕ → Res Measure
   writes room = written room (suc (w .state .frame)) (w .state .next) (hiddenIn w) (x .picture)
 
-  hidden-fits : Fits (w .state) (length (hiddenIn w)) (length (x .picture))
-  unfolding hiddenIn
-  hidden-fits = pick-both (λ (f : List ℕ). Fits (w .state) (length f) (length (x .picture))) (isOdd (w .state .frame)) k j
-
   writes-is : (room : ℕ) → writes room ≡ (need (leb (length bytes) room) 51 >>= λ _. ok (measure (suc (w .state .frame)) (w .state .next) (hiddenIn w) (x .picture)))
   unfolding written writes bytes
-  writes-is room = simp (eq-eqb (length (hiddenIn w)) (length (x .picture)) (sym (hidden-fits .same)), le-leb (length (hiddenIn w)) 1_048_576 (hidden-fits .short))
+  writes-is room = let h = hidden-fits w j k in simp (eq-eqb (length (hiddenIn w)) (length (x .picture)) (sym (h .same)), le-leb (length (hiddenIn w)) 1_048_576 (h .short))
 
   module _ {a b rec′ : List ℕ} where
     pub commit-unfit : {why : Refusal} → CommitsHidden w (x .picture) rec (fault (numberOf why)) a b rec′
@@ -134,12 +144,12 @@ module _ (w : World) (x : Built) (rec : List ℕ) (j : Fits (w .state) (length (
 
     pub commit-fit : {size count : ℕ} {s : State} → CommitsHidden w (x .picture) rec (ok (record { length = size; changed = count })) a b rec′ → s ≡ moved (w .state) (suc (w .state .frame)) (x .next)
         → LeavesOn (commit w (length rec) x) (lent (w .a) (w .b) (w .state) (x .picture) rec)
-        (record { answer = Taken (record { method = x .header .method; time = x .header .time; changed = count; record_length = size }); state = s }) (lent a b s (x .picture) rec′)
+        (record { answer = Taken (record { method = x .header .method; time = x .header .time; changed = count; record_length = size; ops = x .ops }); state = s }) (lent a b s (x .picture) rec′)
     unfolding writes bytes commit lentAfter measure withHidden
     commit-fit {size} {count} {s} c es =
         let e : writes (length rec) ≡ ok (record { length = size; changed = count }) = sym (c .answer) in
         commit-case (λ (o : After). LeavesOn o (lent (w .a) (w .b) (w .state) (x .picture) rec)
-        (record { answer = Taken (record { method = x .header .method; time = x .header .time; changed = count; record_length = size }); state = s }) (lent a b s (x .picture) rec′)) w (length rec) x
+        (record { answer = Taken (record { method = x .header .method; time = x .header .time; changed = count; record_length = size; ops = x .ops }); state = s }) (lent a b s (x .picture) rec′)) w (length rec) x
         (λ q.
         let v : writes (length rec) ≡ ok (measure (suc (w .state .frame)) (w .state .next) (hiddenIn w) (x .picture)) = writes-is (length rec) ∙ rw q in
         let n : record { length = size; changed = count } ≡ measure (suc (w .state .frame)) (w .state .next) (hiddenIn w) (x .picture) = cc in
@@ -166,13 +176,13 @@ module _ (file : List ℕ) (w : World) (work rec : List ℕ) {work′ : List ℕ
       let d : work′ ≡ work = rw e at (k .drawn) in
       rw e (record { answer = refl; left = ap (λ (f : List ℕ). lent (w .a) (w .b) (w .state) f rec) d })
 
-  pub on-built : {next : ℕ} {header : FrameHeader} {r : SteppedOn} {l : Lent} → Looks (lookAhead file w (length work)) work (AheadBuilt next header) work′
-      → LeavesOn (commit w (length rec) (record { picture = work′; next = next; header = header })) (lent (w .a) (w .b) (w .state) work′ rec) r l
+  pub on-built : {next ops : ℕ} {header : FrameHeader} {r : SteppedOn} {l : Lent} → Looks (lookAhead file w (length work)) work (AheadBuilt next header ops) work′
+      → LeavesOn (commit w (length rec) (record { picture = work′; next = next; header = header; ops = ops })) (lent (w .a) (w .b) (w .state) work′ rec) r l
       → MeetsOn file (lent (w .a) (w .b) (w .state) work rec) r l
   unfolding stepOn settle
-  on-built {next} {header} k c =
+  on-built {next} {ops} {header} k c =
       rw (sym (k .answer)) (record {
         answer = c .answer;
         left = c .left ∙ commit-case (λ (o : After). lentAfter (lent (w .a) (w .b) (w .state) work′ rec) o ≡ lentAfter (lent (w .a) (w .b) (w .state) work rec) o) w (length rec)
-            (record { picture = work′; next = next; header = header }) (λ _. unfold lentAfter in refl) (λ _. unfold lentAfter in refl);
+            (record { picture = work′; next = next; header = header; ops = ops }) (λ _. unfold lentAfter in refl) (λ _. unfold lentAfter in refl);
       })

@@ -1,5 +1,5 @@
--- Stepping on (document 01, "Opening, stepping on, stepping back" and "Refusal numbers", and document 02, E7), in two parts: what lies ahead,
--- and the step to it, which is recorded and shown.
+-- Stepping on (document 01, "Opening, stepping on, stepping back" and "Refusal numbers", and document 02, E7 and E8), in two parts: what lies
+-- ahead, and the step to it, which is recorded and shown.
 use Prim.Native.Nat.{ℕ, suc}
 use mathlib.Core.List.{List}
 use mathlib.Core.Option.{Option, none, some}
@@ -17,7 +17,7 @@ use Rattle.state.specs.After.{Answer, Answer.refused, Answer.ended, Answer.took
 use Rattle.runs.specs.Runs.{differing}
 use Rattle.record.specs.Record.{recordBytes}
 use Rattle.anhd.specs.declared.FrameHeader.{FrameHeader}
-use Rattle.delta.specs.Reading.{shapeOf}
+use Rattle.delta.specs.Reading.{shapeOf, opsIn}
 use Rattle.delta.specs.Delta.{readDelta, draw}
 use Rattle.frame.specs.Frame.{Frame, frameAt}
 use Rattle.step_on.specs.declared.Ahead.{Ahead}
@@ -38,22 +38,28 @@ ready file s a b work =
 abbrev pub basis : FrameHeader → List ℕ → List ℕ → List ℕ
 basis h shown hidden = pick (eqb (h .interleave) 1) shown hidden
 
--- what a frame makes of the shown and the hidden picture
-unfoldable pub change : Sizes → Frame → List ℕ → List ℕ → Res (List ℕ)
-change z x shown hidden =
-    readDelta (shapeOf z (x .header .items)) (x .dlta) >>= λ ops.
-    ok (draw (shapeOf z (x .header .items)) (x .dlta) ops (basis (x .header) shown hidden))
-
--- a frame that was built: its picture, the place past it and its header
+-- a frame that was built: its picture, the place past it, its header, and the number of ops that were read
 pub record Built : Type 0 where
   pub picture : List ℕ
   pub next : ℕ
   pub header : FrameHeader
+  pub ops : ℕ
+
+-- what a frame makes of the shown and the hidden picture
+unfoldable pub change : Sizes → Frame → List ℕ → List ℕ → Res Built
+change z x shown hidden =
+    readDelta (shapeOf z (x .header .items)) (x .dlta) >>= λ ops.
+    ok (record {
+      picture = draw (shapeOf z (x .header .items)) (x .dlta) ops (basis (x .header) shown hidden);
+      next = x .next;
+      header = x .header;
+      ops = opsIn (shapeOf z (x .header .items)) ops;
+    })
 
 -- a frame, if there is one, is built
 abbrev pub build : Sizes → List ℕ → List ℕ → Option Frame → Res (Option Built)
 build z shown hidden none = ok none
-build z shown hidden (some x) = change z x shown hidden >>= λ f. ok (some (record { picture = f; next = x .next; header = x .header }))
+build z shown hidden (some x) = change z x shown hidden >>= λ y. ok (some y)
 
 -- the frame at the next place of FORM ANIM is built
 unfoldable pub look : List ℕ → State → List ℕ → List ℕ → Res (Option Built)
@@ -65,19 +71,26 @@ lookAhead file w work =
     ready (length file) (w .state) (length (w .a)) (length (w .b)) work >>= λ _.
     look (take (w .state .end) file) (w .state) (shownIn w) (hiddenIn w)
 
--- the record of a step to a frame whose picture is f, and what is reported of it
+-- the record of a step to a frame whose picture is f
 abbrev pub recordOf : State → List ℕ → List ℕ → List ℕ
 recordOf s hidden f = recordBytes (suc (s .frame)) (s .next) hidden f
 
-abbrev pub reportOf : State → List ℕ → FrameHeader → List ℕ → Report
-reportOf s hidden h f = record { method = h .method; time = h .time; changed = differing hidden f; record_length = length (recordOf s hidden f) }
+-- what is reported of a step to a frame that was built
+abbrev pub reportOf : State → List ℕ → Built → Report
+reportOf s hidden x = record {
+  method = x .header .method;
+  time = x .header .time;
+  changed = differing hidden (x .picture);
+  record_length = length (recordOf s hidden (x .picture));
+  ops = x .ops;
+}
 
 -- a step to a frame that was built: a record that doesn't fit is 51, and leaves the frame in the work buffer
 unfoldable pub commit : World → ℕ → Built → After
 commit w room x =
     pick (leb (length (recordOf (w .state) (hiddenIn w) (x .picture))) room)
     (record {
-      answer = tookOn (reportOf (w .state) (hiddenIn w) (x .header) (x .picture));
+      answer = tookOn (reportOf (w .state) (hiddenIn w) x);
       world = withHidden w (x .picture) (moved (w .state) (suc (w .state .frame)) (x .next));
       bytes = recordOf (w .state) (hiddenIn w) (x .picture);
       work = some (x .picture);
@@ -96,7 +109,7 @@ stepOn file w work room = settle w room (lookAhead file w work)
 
 -- what the answers say in the paper's terms; a frame that was built stands in the work buffer
 abbrev pub aheadOf : Ahead → List ℕ → Res (Option Built)
-aheadOf (AheadBuilt next header) work = ok (some (record { picture = work; next = next; header = header }))
+aheadOf (AheadBuilt next header ops) work = ok (some (record { picture = work; next = next; header = header; ops = ops }))
 aheadOf AheadEnd work = ok none
 aheadOf (AheadRefused why) work = fault (numberOf why)
 

@@ -20,9 +20,14 @@ use state::Report;
 use state::Sizes;
 use state::State;
 
-// What lies ahead: a frame that stands in the work buffer, the place past it and its header; or none; or why there is none.
+// What lies ahead: a frame that stands in the work buffer, the place past it, its header and how many ops were read; or none; or why
+// there is none.
 pub enum Ahead {
-    Built { next: usize, header: FrameHeader },
+    Built {
+        next: usize,
+        header: FrameHeader,
+        ops: usize,
+    },
     End,
     Refused(Refusal),
 }
@@ -105,7 +110,7 @@ fn build(
     let d = apply_frame(header, dlta, state.sizes, shown, hidden, work);
     match d {
         Applied::Refused(why) => Ahead::Refused(why),
-        Applied::Drawn { ops: _ } => Ahead::Built { next, header },
+        Applied::Drawn { ops } => Ahead::Built { next, header, ops },
     }
 }
 
@@ -170,6 +175,7 @@ fn commit(
     state: State,
     next: usize,
     header: FrameHeader,
+    ops: usize,
     a: &mut [u8],
     b: &mut [u8],
     work: &[u8],
@@ -178,7 +184,7 @@ fn commit(
     requires { ⌜ Fits state (length (now a)) (length (now work)) × Fits state (length (now b)) (length (now work)) ⌝ }
     ensures { λ r. ⌜ LeavesOn
         (commit (record { a = now (a .entry); b = now (b .entry); state = state }) (length (now (rec .entry)))
-        (record { picture = now (work .entry); next = next; header = header }))
+        (record { picture = now (work .entry); next = next; header = header; ops = ops }))
         (lent (now (a .entry)) (now (b .entry)) state (now (work .entry)) (now (rec .entry))) r
         (lent (now (a .exit)) (now (b .exit)) (r .state) (now (work .entry)) (now (rec .exit))) ⌝ }
 {
@@ -194,6 +200,7 @@ fn commit(
                 time: header.time,
                 changed,
                 record_length: length,
+                ops,
             }),
             state: state.moved(state.frame + 1, next),
         },
@@ -222,6 +229,6 @@ pub fn step_on(
             answer: On::End,
             state,
         },
-        Ahead::Built { next, header } => commit(state, next, header, a, b, work, rec),
+        Ahead::Built { next, header, ops } => commit(state, next, header, ops, a, b, work, rec),
     }
 }

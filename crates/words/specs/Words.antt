@@ -38,9 +38,9 @@ readState s =
 unfoldable pub stateWords : State → List ℕ
 stateWords x = x .sizes .width ∷ x .sizes .height ∷ x .sizes .planes ∷ x .frame ∷ x .next ∷ x .end ∷ []
 
--- the four numbers of a report
+-- the five numbers of a report
 unfoldable pub reportWords : Report → List ℕ
-reportWords r = r .method ∷ r .time ∷ r .changed ∷ r .record_length ∷ []
+reportWords r = r .method ∷ r .time ∷ r .changed ∷ r .record_length ∷ r .ops ∷ []
 
 -- numbers laid into a buffer of their length; a buffer of another length stays
 unfoldable pub lay : List ℕ → List ℕ → List ℕ

@@ -45,17 +45,18 @@ pub fn write_state(out: &mut [u8], state: State)
     put64(out, sixth, state.end);
 }
 
-// Writes a report into a buffer of 32 bytes.
+// Writes a report into a buffer of 40 bytes.
 pub fn write_report(out: &mut [u8], report: Report)
     ensures { λ _. ⌜ now (out .exit) ≡ lay (now (out .entry)) (reportWords report) ⌝ }
 {
-    if out.len() != 32 {
+    if out.len() != 40 {
         return;
     }
     let second = put64(out, 0, report.method);
     let third = put64(out, second, report.time);
     let fourth = put64(out, third, report.changed);
-    put64(out, fourth, report.record_length);
+    let fifth = put64(out, fourth, report.record_length);
+    put64(out, fifth, report.ops);
 }
 
 // Writes one number into a buffer of eight bytes.

@@ -1,10 +1,11 @@
 -- `delta::take_plane`: the pointers are the definition's, and its words or columns lie within the frame.
-use Prim.Native.Nat.{_/_, _*_, _≤_}
+use Prim.Native.Nat.{_*_, _≤_}
 use native.Mathlib.Nat.{mul-le-mul-right}
 use mathlib.Core.Bool.{false}
 use mathlib.Core.Path.{_≡_, refl, sym, _∙_}
 use Rattle.laws.proofs.ResultLaws.{told, each-is}
 use Rattle.refusal.specs.declared.Refusal.the-variants.{BadPointer}
+use Rattle.delta.specs.Reading.{columnsIn}
 use Rattle.delta.specs.Column.{readColumns}
 use Rattle.delta.specs.Words.{readWords}
 use Rattle.delta.proofs.DeltaLaws.{plane-same, plane-bad, plane-bad-data, plane-columns, plane-words, pointer-most, data-pointer-most}
@@ -75,7 +76,7 @@ returns-5 c =
     let u = t .before .before .before .before .before in
     let v = u .before .before .before .before .before in
     let b = v .before .before .before .before in
-    took-as {whole′ = readColumns (b .args .shape) (b .args .d .now) (b .args .shape .row / b .args .shape .item) (b .args .plane * b .args .shape .plane)} (c .before .before .take-columns .ensures)
+    took-as {whole′ = readColumns (b .args .shape) (b .args .d .now) (columnsIn (b .args .shape)) (b .args .plane * b .args .shape .plane)} (c .before .before .take-columns .ensures)
     (λ ops. plane-columns (b .args .shape) (b .args .d .now) (b .args .plane) (reading (b .args .c) ops) (λ e. v .if1 .left (v .before .number32 .ensures .0 ∙ e))
     (told pointerOf (u .before .before .before .before .list-pointer .ensures) (u .before .before .list .given .1)) (told pointerOf (u .data-pointer .ensures) (t .before .before .before .items .given .1)) (t .if2 .left)) refl (omega (arith, columns-most (b .pre .0)))
 

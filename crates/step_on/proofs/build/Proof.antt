@@ -14,10 +14,10 @@ returns c =
 
 returns-2 : tie.Need-returns-2
 returns-2 c =
-    let d = c .before .before .before .before in
+    let d = c .before .before .before .before .before in
     let s = d .before .before .before .before .before .before in
     let k = s .args in
-    build-drawn (k .state) (frameOf (k .next) (k .header) (k .dlta .now)) (k .shown .now) (k .hidden .now) (k .work .now) (s .pre .0) (s .pre .1) (s .pre .2) (rw (c .enum-told .given .1) at (d .apply-frame .ensures))
+    build-drawn (k .state) (frameOf (k .next) (k .header) (k .dlta .now)) (k .shown .now) (k .hidden .now) (k .work .now) (s .pre .0) (s .pre .1) (s .pre .2) (rw (c .before .d2 .given .1) at (d .apply-frame .ensures))
 
 pub build-spec : {M : Type 1} → statement M
 build-spec =

@@ -11,14 +11,14 @@ returns c =
     let h = c .before .before .before .before .before .before .before .before .before in
     let s = h .before .before .before .before .before .before .before .before in
     let k = s .args in
-    commit-unfit (record { a = k .a .now; b = k .b .now; state = k .state }) (record { picture = k .work .now; next = k .next; header = k .header }) (k .rec .now) (s .pre .0) (s .pre .1) (rw (c .before .w .given .1) at (h .commit-hidden .ensures))
+    commit-unfit (record { a = k .a .now; b = k .b .now; state = k .state }) (record { picture = k .work .now; next = k .next; header = k .header; ops = k .ops }) (k .rec .now) (s .pre .0) (s .pre .1) (rw (c .before .w .given .1) at (h .commit-hidden .ensures))
 
 returns-2 : tie.Need-returns-2
 returns-2 c =
     let h = c .before .before .before .before .before .before .before .before .before .before .before in
     let s = h .before .before .before .before .before .before .before .before in
     let k = s .args in
-    commit-fit (record { a = k .a .now; b = k .b .now; state = k .state }) (record { picture = k .work .now; next = k .next; header = k .header }) (k .rec .now) (s .pre .0) (s .pre .1) (rw (c .before .before .before .w2 .given .1) at (h .commit-hidden .ensures)) (c .moved .ensures ∙ rw (add-one _))
+    commit-fit (record { a = k .a .now; b = k .b .now; state = k .state }) (record { picture = k .work .now; next = k .next; header = k .header; ops = k .ops }) (k .rec .now) (s .pre .0) (s .pre .1) (rw (c .before .before .before .w2 .given .1) at (h .commit-hidden .ensures)) (c .moved .ensures ∙ rw (add-one _))
 
 pub commit-spec : {M : Type 1} → statement M
 commit-spec =
