@@ -1,4 +1,4 @@
-/* Tries what anim.h holds besides the library's functions: limits, rooms, which buffer is shown, and the texts. */
+/* Tries what anim.h holds besides the library's functions: limits, rooms, the report, which buffer is shown, and the texts. */
 #include "anim.h"
 
 #include <stdio.h>
@@ -25,11 +25,20 @@ static void expect(int holds, const char *what) {
 static void numbers(void) {
     uint64_t width = 320, height = 200, planes = 5, frame = 40000;
     expect(ANIM_MAX_FILE + 1 == (uint64_t)1 << 31, "ANIM_MAX_FILE and 1 is 2147483648");
-    expect(sizeof(record_buffer) == 80016, "a record buffer for 40000 bytes");
+    expect(ANIM_RECORD_ROOM(2) == 16 && sizeof(record_buffer) == 80012, "record buffers for 2 and for 40000 bytes");
     expect(sizeof(delta_buffer) == 60464, "a delta buffer for 320 x 200 x 5");
-    expect(ANIM_RECORD_ROOM(frame++) == 80016 && frame == 40001, "ANIM_RECORD_ROOM evaluates its argument once");
+    expect(ANIM_RECORD_ROOM(frame++) == 80012 && frame == 40001, "ANIM_RECORD_ROOM evaluates its argument once");
     expect(ANIM_DELTA_ROOM(width++, height++, planes++) == 60464, "ANIM_DELTA_ROOM of what is counted on");
     expect(width == 321 && height == 201 && planes == 6, "ANIM_DELTA_ROOM evaluates its arguments once");
+}
+
+/* The report's numbers, of eight bytes each, stand in their order. */
+static void reports(void) {
+    const anim_report report = {5, 3, 2, 9, 1};
+    const uint64_t wanted[] = {5, 3, 2, 9, 1};
+    expect(sizeof report == sizeof wanted && memcmp(&report, wanted, sizeof wanted) == 0, "a report is five numbers");
+    expect(report.method == 5 && report.time == 3 && report.changed == 2, "a report's first three numbers");
+    expect(report.record_length == 9 && report.ops == 1, "a report's last two numbers");
 }
 
 static void pictures(void) {
@@ -57,6 +66,7 @@ static void texts(void) {
 
 int main(void) {
     numbers();
+    reports();
     pictures();
     texts();
     return failed;

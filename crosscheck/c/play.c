@@ -60,13 +60,23 @@ static uint64_t open_file(struct player *p) {
     return anim_open_typed(p->file, p->file_length, &p->state, p->a, p->b, p->frame);
 }
 
+/* Lists of words have no ops that count, and columns have at most 255 each. */
+static void check_ops(const struct player *p) {
+    uint64_t columns = p->report.method < 5 ? 0 : ANIM_ROW_BYTES(p->state.width) / (p->report.method == 7 ? 2 : 1);
+    if (p->report.ops > 255 * columns * p->state.planes)
+        stop("too many ops");
+}
+
 /* Steps on and keeps the record in memory of its own length. */
 static uint64_t step_on(struct player *p) {
     struct kept *k;
     uint64_t answer = anim_step_on_typed(p->file, p->file_length, &p->state, p->a, p->b, p->work, p->frame,
                                          p->record, p->room, &p->report);
+    if (answer == ANIM_NO_ROOM)
+        stop("a record has no room");
     if (answer != ANIM_OK)
         return answer;
+    check_ops(p);
     k = (struct kept *)malloc(sizeof *k);
     if (k == NULL)
         stop("no memory");

@@ -8,8 +8,10 @@ pub mod large;
 pub mod limits;
 pub mod listings;
 pub mod none;
+pub mod ops;
 pub mod orders;
 pub mod records;
+pub mod room;
 pub mod words;
 pub mod writer;
 
@@ -38,11 +40,10 @@ pub fn on_and_back(check: &mut Check, mut player: Player) -> Checked<()> {
     let mut past = Vec::new();
     loop {
         let before = (player.a.bytes().to_vec(), player.b.bytes().to_vec(), player.now());
-        match player.step_on(&mut check.pair)? {
-            0 => past.push((player.written(), before)),
-            51 => return Err("a record buffer of the length of anim.h is too short".into()),
-            _ => break,
+        if player.step_on(&mut check.pair)? != 0 {
+            break;
         }
+        past.push((player.written(), before));
     }
     for (record, (a, b, state)) in past.into_iter().rev() {
         if player.step_back(&mut check.pair, &record)? != 0 {

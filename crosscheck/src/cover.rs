@@ -1,12 +1,18 @@
 //! The rules of the C interface over the plain functions: states, reports and lengths are numbers of eight bytes, low byte first.
-use crate::plain::{self, Answer, State};
+use crate::faults::broken;
+use crate::plain::{self, Answer, Report, State};
 
 /// The number of a state, report or length slice of a wrong length.
 const WRONG_LENGTH: u64 = 11;
 const END: u64 = 1;
 
+/// The number at such a place of numbers of eight bytes.
+pub fn number_at(bytes: &[u8], k: usize) -> u64 {
+    u64::from_le_bytes(bytes[8 * k..8 * k + 8].try_into().expect("eight bytes"))
+}
+
 pub fn state_in(bytes: &[u8]) -> State {
-    let n = |k: usize| u64::from_le_bytes(bytes[8 * k..8 * k + 8].try_into().expect("eight bytes"));
+    let n = |k| number_at(bytes, k);
     State { width: n(0), height: n(1), planes: n(2), frame: n(3), next: n(4), end: n(5) }
 }
 
@@ -39,19 +45,35 @@ pub fn open(file: &[u8], state: &mut [u8], a: &mut [u8], b: &mut [u8]) -> u64 {
 }
 
 pub fn step_on(file: &[u8], state: &mut [u8], a: &mut [u8], b: &mut [u8], work: &mut [u8], record: &mut [u8], report: &mut [u8]) -> u64 {
-    if state.len() != 48 || report.len() != 32 {
+    if state.len() != 48 || !is_report(report.len()) {
         return WRONG_LENGTH;
     }
     let mut now = state_in(state);
     match plain::step_on(file, &mut now, a, b, work, record) {
         Ok(Some(r)) => {
             state.copy_from_slice(&state_bytes(now));
-            report.copy_from_slice(&numbers(&[r.method, r.time, r.changed, r.record_length]));
+            report.copy_from_slice(&report_bytes(r)[..report.len()]);
             0
         }
         Ok(None) => END,
         Err(refusal) => refusal.number(),
     }
+}
+
+/// Whether a report has so many bytes.
+fn is_report(length: usize) -> bool {
+    match length {
+        32 => broken("report-of-32"),
+        40 => !broken("report-of-40-refused"),
+        _ => false,
+    }
+}
+
+fn report_bytes(r: Report) -> Vec<u8> {
+    if broken("ops-before-record-length") {
+        return numbers(&[r.method, r.time, r.changed, r.ops, r.record_length]);
+    }
+    numbers(&[r.method, r.time, r.changed, r.record_length, r.ops])
 }
 
 pub fn step_back(state: &mut [u8], a: &mut [u8], b: &mut [u8], record: &[u8]) -> u64 {

@@ -1,4 +1,4 @@
-//! Deliberate errors of the plain side, each by its name; without the feature `faults` there are none.
+//! Deliberate errors of the plain side, and two of the checker's own bounds, each by its name; without the feature `faults` there are none.
 
 /// Each name and what it breaks.
 pub const NAMES: &[(&str, &str)] = &[
@@ -147,6 +147,26 @@ pub const NAMES: &[(&str, &str)] = &[
     ("full-record-hides-frame", "51 leaves the work buffer as it was"),
     ("first-delta-only", "after frame 2 a step only counts on"),
     ("back-counts-only", "a step back only lowers the frame number"),
+    ("report-of-32", "a report of 32 bytes is taken, without the ops"),
+    ("report-of-40-refused", "a report of 40 bytes is refused"),
+    ("ops-before-record-length", "a report has the ops before the record's length"),
+    ("ops-one-less", "one op too few is reported"),
+    ("ops-wrap", "the number of ops wraps at 65,536"),
+    ("ops-by-rows", "an op counts as often as it has rows"),
+    ("ops-of-no-change", "a step that changes nothing reports no ops"),
+    ("ops-without-skips", "Skips aren't counted"),
+    ("ops-without-uniqs-of-none", "Uniqs of none aren't counted"),
+    ("ops-without-sames-of-none", "Sames of none aren't counted"),
+    ("ops-without-last-column", "the ops of a plane's last column aren't counted"),
+    ("ops-without-last-plane", "the ops of the last plane aren't counted"),
+    ("ops-of-pointer-0", "a plane that isn't read counts as one op"),
+    ("ops-of-columns-not-read", "a plane that isn't read counts as an op for each of its columns"),
+    ("ops-of-planes-not-there", "a pointer of a plane that the picture doesn't have counts as one op"),
+    ("ops-of-shared-list-once", "a list that planes share is counted once"),
+    ("ops-of-overlap-once", "an op that stands in several lists is counted once"),
+    ("ops-of-words", "the ops of lists of words are counted"),
+    ("most-ops-254", "the checker takes a column's most ops to be 254"),
+    ("room-of-8", "the checker takes the room for every record to be twice the frame and 8 bytes"),
     ("long-numbers", "a record's number need not be in its shortest form"),
     ("wide-numbers", "a record's number may reach 2^32"),
     ("zero-gap", "two runs of a record may touch"),
@@ -167,7 +187,7 @@ pub const NAMES: &[(&str, &str)] = &[
 #[cfg(feature = "faults")]
 static CHOSEN: std::sync::OnceLock<String> = std::sync::OnceLock::new();
 
-/// Breaks the plain side from now on; false if there is no such fault or the feature is off.
+/// Breaks the plain side, or a bound, from now on; false if there is no such fault or the feature is off.
 pub fn choose(name: &str) -> bool {
     #[cfg(feature = "faults")]
     {
@@ -180,7 +200,7 @@ pub fn choose(name: &str) -> bool {
     }
 }
 
-/// Whether the plain side is broken in this way.
+/// Whether the plain side, or a bound, is broken in this way.
 #[inline(always)]
 pub fn broken(name: &str) -> bool {
     #[cfg(feature = "faults")]

@@ -1,7 +1,8 @@
 //! Makers of chunks, pictures, deltas and whole files, well formed or damaged.
+pub mod columns;
 pub mod words;
 
-use crate::pair::delta_room;
+use crate::bounds::delta_room;
 use crate::plain::{self, Sizes};
 use crate::random::Random;
 
@@ -219,7 +220,7 @@ fn set_pointer(delta: &mut [u8], pointer: usize, place: u32) {
 }
 
 /// Sets a plane's pointers to its lists; lists of words have no data list beside them.
-fn set_pointers(delta: &mut [u8], method: Method, plane: usize, (ops, data): (u32, u32)) {
+pub fn set_pointers(delta: &mut [u8], method: Method, plane: usize, (ops, data): (u32, u32)) {
     set_pointer(delta, plane, ops);
     if !method.of_words() {
         set_pointer(delta, plane + 8, data);
@@ -367,7 +368,8 @@ fn method_7_whole(new: &[u8], sizes: Sizes, items: usize) -> Vec<u8> {
     out
 }
 
-fn place_lists(out: &mut Vec<u8>, plane: usize, ops: &[u8], data: &[u8]) {
+/// Puts a plane's two lists behind a delta, and sets its pointers to them.
+pub fn place_lists(out: &mut Vec<u8>, plane: usize, ops: &[u8], data: &[u8]) {
     let at = out.len() as u32;
     set_pointer(out, plane, at);
     set_pointer(out, plane + 8, at + ops.len() as u32);

@@ -1,4 +1,5 @@
 //! The proved library held against a plain Rust program that was written from the same papers.
+pub mod bounds;
 pub mod checks;
 pub mod cover;
 pub mod faults;

@@ -1,4 +1,5 @@
 //! Each call made on both sides, and everything compared after it.
+use crate::bounds::{self, record_room};
 use crate::plain::{self, State};
 use crate::random::Random;
 use crate::{cover, library};
@@ -10,7 +11,7 @@ pub type Checked<T> = Result<T, String>;
 const GUARD: usize = 16;
 
 /// A buffer of each side, with guard bytes around what is lent.
-#[derive(Clone)]
+#[derive(Clone, Default)]
 pub struct Twin {
     name: &'static str,
     library: Vec<u8>,
@@ -134,7 +135,7 @@ impl Player {
             b: Twin::new("b", &random.bytes(frame)),
             work: Twin::new("work", &random.bytes(frame)),
             record: Twin::new("record", &random.bytes(record_room(frame))),
-            report: Twin::new("report", &random.bytes(32)),
+            report: Twin::new("report", &random.bytes(40)),
         }
     }
 
@@ -175,10 +176,24 @@ impl Player {
         pair.compare("anim_open", x, y, &[&self.file, &self.state, &self.a, &self.b])
     }
 
+    /// Steps on in the player's file.
     pub fn step_on(&mut self, pair: &mut Pair) -> Checked<u64> {
+        let file = std::mem::take(&mut self.file);
+        let answer = self.step_on_by(pair, [file.bytes(), file.plain_bytes()], Some(&file));
+        self.file = file;
+        answer
+    }
+
+    /// Steps on in a file that is lent to both sides, too long for a copy each.
+    pub fn step_on_in(&mut self, pair: &mut Pair, file: &[u8]) -> Checked<u64> {
+        self.step_on_by(pair, [file, file], None)
+    }
+
+    /// Steps on by a file for each side; where they are copies they are compared too.
+    fn step_on_by(&mut self, pair: &mut Pair, files: [&[u8]; 2], copies: Option<&Twin>) -> Checked<u64> {
         let before = self.state.bytes().to_vec();
         let x = library::step_on(
-            self.file.bytes(),
+            files[0],
             self.state.library(),
             self.a.library(),
             self.b.library(),
@@ -186,17 +201,13 @@ impl Player {
             self.record.library(),
             self.report.library(),
         );
-        let y = cover::step_on(
-            self.file.plain_bytes(),
-            self.state.plain(),
-            self.a.plain(),
-            self.b.plain(),
-            self.work.plain(),
-            self.record.plain(),
-            self.report.plain(),
-        );
-        let buffers = [&self.file, &self.state, &self.a, &self.b, &self.work, &self.record, &self.report];
-        pair.compare("anim_step_on", x, y, &buffers).map_err(|e| from_state(e, &before))
+        let y =
+            cover::step_on(files[1], self.state.plain(), self.a.plain(), self.b.plain(), self.work.plain(), self.record.plain(), self.report.plain());
+        let lent = [&self.state, &self.a, &self.b, &self.work, &self.record, &self.report];
+        let buffers: Vec<&Twin> = copies.into_iter().chain(lent).collect();
+        let answer = pair.compare("anim_step_on", x, y, &buffers).map_err(|e| from_state(e, &before))?;
+        bounds::step_on(answer, files[0], &before, self.record.len(), self.report.bytes()).map_err(|e| from_state(e, &before))?;
+        Ok(answer)
     }
 
     pub fn step_back(&mut self, pair: &mut Pair, record: &[u8]) -> Checked<u64> {
@@ -223,19 +234,14 @@ impl Player {
 
     /// The record that the last step on wrote.
     pub fn written(&self) -> Vec<u8> {
-        let length = u64::from_le_bytes(self.report.bytes()[24..32].try_into().expect("eight bytes"));
+        let length = cover::number_at(self.report.bytes(), 3);
         self.record.bytes()[..length as usize].to_vec()
     }
-}
 
-/// A record buffer that is long enough for every step, as include/anim.h works it out.
-pub fn record_room(frame: usize) -> usize {
-    2 * frame + 16
-}
-
-/// A delta buffer that is long enough for every delta, as include/anim.h works it out.
-pub fn delta_room(sizes: plain::Sizes) -> usize {
-    64 + sizes.row() * sizes.planes * (sizes.height * 3 / 2 + 2)
+    /// How many ops the last step on reported.
+    pub fn ops(&self) -> u64 {
+        cover::number_at(self.report.bytes(), 4)
+    }
 }
 
 fn from_state(difference: String, before: &[u8]) -> String {

@@ -4,6 +4,7 @@
 mod delta;
 mod iff;
 mod list;
+mod ops;
 mod picture;
 mod record;
 mod words;
@@ -132,6 +133,8 @@ pub struct Report {
     pub time: u64,
     pub changed: u64,
     pub record_length: u64,
+    /// The ops of the lists that were read; 0 where they are of words.
+    pub ops: u64,
 }
 
 /// Opens a file: A and B get its first picture.
@@ -192,8 +195,9 @@ pub fn step_on(file: &[u8], state: &mut State, a: &mut [u8], b: &mut [u8], work:
         work.copy_from_slice(basis);
         delta::draw(dlta, sizes, header.items, work)?;
     }
+    let mut ops = 0;
     if !(broken("first-delta-only") && state.frame > 1) {
-        delta::check(dlta, sizes, header.items)?;
+        ops = delta::check(dlta, sizes, header.items)?;
         if broken("full-record-hides-frame") {
             let mut drawn = basis.to_vec();
             delta::draw(dlta, sizes, header.items, &mut drawn)?;
@@ -210,7 +214,20 @@ pub fn step_on(file: &[u8], state: &mut State, a: &mut [u8], b: &mut [u8], work:
     }
     state.frame += 1;
     state.next = form.next as u64;
-    Ok(Some(Report { method: header.method, time: header.time, changed: written.changed, record_length: written.length }))
+    if broken("ops-of-no-change") && written.changed == 0 {
+        ops = 0;
+    }
+    Ok(Some(Report { method: header.method, time: header.time, changed: written.changed, record_length: written.length, ops }))
+}
+
+/// The most ops that the lists of the next frame can have, by its header and its pointers; `None` if there is no frame.
+pub fn most_ops(file: &[u8], state: &State) -> Answer<Option<u64>> {
+    let sizes = state.sizes()?;
+    let Some(form) = iff::next_frame(&file[..state.end as usize], state.next as usize)? else {
+        return Ok(None);
+    };
+    let (header, dlta) = delta::find(form.contents, sizes)?;
+    Ok(Some(ops::most(dlta, sizes, header.items)))
 }
 
 /// Steps back with the record of the step that led here.

@@ -6,8 +6,8 @@
 //! library / plain Rust; with --times microseconds stand beside them.
 //! With --only a case is run if it has all the words: open or step or write, the width, light or heavy or noise,
 //! the method's items (1, 2 or 4 bytes, long-words, short-words) and one-back or two-back; for opening packed or plain, or delta and the items.
+use crosscheck::bounds::{delta_room, record_room};
 use crosscheck::files::{self, Method, BYTES, LONGS, LONG_WORDS, SHORTS, SHORT_WORDS};
-use crosscheck::pair::{delta_room, record_room};
 use crosscheck::plain::{self, Sizes, State};
 use crosscheck::random::Random;
 use crosscheck::{cover, library};
@@ -159,7 +159,7 @@ fn opening(least: usize, file: &[u8], sizes: Sizes) -> Best {
 fn steps(least: usize, file: &[u8], sizes: Sizes) -> (Best, Best) {
     let (mut on, mut back) = (Best::new(), Best::new());
     let (mut l, mut p) = (Side::new(sizes), Side::new(sizes));
-    let (mut state, mut report) = ([0; 48], [0; 32]);
+    let (mut state, mut report) = ([0; 48], [0; 40]);
     assert_eq!(library::open(file, &mut state, &mut l.a, &mut l.b), 0);
     let mut now: State = plain::open(file, &mut p.a, &mut p.b).expect("it opens");
     for _ in turns(least) {

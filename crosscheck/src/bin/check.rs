@@ -1,7 +1,9 @@
 //! Makes calls on both sides until they differ or the time is over.
 //!
 //!     check [--seed N] [--seconds N] [--broken NAME] [--names]
-use crosscheck::checks::{calls, damaged, fences, first, interleaves, large, limits, listings, none, orders, records, words, writer, Check};
+use crosscheck::checks::{
+    calls, damaged, fences, first, interleaves, large, limits, listings, none, ops, orders, records, room, words, writer, Check,
+};
 use crosscheck::faults;
 use crosscheck::pair::{Checked, Pair};
 use crosscheck::random::Random;
@@ -16,6 +18,7 @@ const ONCE: &[Group] = &[
     ("lists of words", words::run),
     ("interleaves", interleaves::run),
     ("first pictures given as deltas", first::run),
+    ("ops of a step", ops::run),
     ("the outside listings", listings::run),
     ("buffers of wrong lengths", limits::lengths),
     ("states around each limit", limits::states),
@@ -35,6 +38,7 @@ const ONCE: &[Group] = &[
     ("files cut at every byte", damaged::cut),
     ("every bit of a file changed", damaged::flipped),
     ("one long list of calls", calls::long_list),
+    ("room for a record", room::run),
     ("the largest pictures", large::run),
     ("buffers between fences", fences::run),
     ("things wrong at once: opening by a delta", orders::delta_openings),

@@ -1,9 +1,10 @@
 //! Calls with every buffer between two pages that may not be touched; a touch stops the program.
 use super::damaged::{one_frame, two_frames};
 use super::Check;
+use crate::bounds::{self, delta_room, record_room};
 use crate::fence::{Fenced, Side};
 use crate::files::{self, HARMS, WORDS};
-use crate::pair::{delta_room, record_room, Checked};
+use crate::pair::Checked;
 use crate::plain::{self, Sizes};
 use crate::{cover, library};
 
@@ -33,40 +34,75 @@ fn words(check: &mut Check, sizes: Sizes, side: Side) -> Checked<()> {
     play(check, &one_frame(sizes, method, &delta), side)
 }
 
-/// Opens a file and plays it to its end and back.
+/// A player's buffers: the state, A, B, the work buffer, the record's and the report.
+type Buffers<T> = [T; 6];
+
+/// Opens a file and plays it to its end and back, with the plain side beside it.
 fn play(check: &mut Check, file: &[u8], side: Side) -> Checked<()> {
     let length = plain::frame_length(file).unwrap_or(4);
-    let lend = |bytes: &[u8]| Fenced::new(bytes, side);
-    let (file, mut a, mut b, mut work) = (lend(file), lend(&vec![1; length]), lend(&vec![2; length]), lend(&vec![3; length]));
-    let (mut record, mut state, mut report) = (lend(&vec![4; record_room(length)]), lend(&[5; 48]), lend(&[6; 32]));
-    let (mut plain_a, mut plain_b, mut plain_state) = (vec![1; length], vec![2; length], vec![5; 48]);
-    let opened = library::open(file.bytes(), state.bytes_mut(), a.bytes_mut(), b.bytes_mut());
+    let lengths = [48, length, length, length, record_room(length), 40];
+    let mut plain: Buffers<Vec<u8>> = std::array::from_fn(|k| vec![k as u8; lengths[k]]);
+    let mut fenced = plain.each_ref().map(|bytes| Fenced::new(bytes, side));
+    let file = Fenced::new(file, side);
+    let [state, a, b, ..] = fenced.each_mut().map(Fenced::bytes_mut);
+    let opened = library::open(file.bytes(), state, a, b);
     check.pair.count("anim_open", opened);
-    if opened != cover::open(file.bytes(), &mut plain_state, &mut plain_a, &mut plain_b) || state.bytes() != plain_state {
-        return Err("anim_open between fences differs".into());
+    let [state, a, b, ..] = plain.each_mut().map(Vec::as_mut_slice);
+    equal("anim_open", opened, cover::open(file.bytes(), state, a, b), &fenced, &plain)?;
+    if opened == 0 {
+        on_and_back(check, &file, &mut fenced, &mut plain, side)?;
     }
+    Ok(())
+}
+
+/// Steps on to the end or the first refusal, and takes every step back with a record that lies between fences too.
+fn on_and_back(check: &mut Check, file: &Fenced, fenced: &mut Buffers<Fenced>, plain: &mut Buffers<Vec<u8>>, side: Side) -> Checked<()> {
+    let opened = plain[..3].to_vec();
     let mut past = Vec::new();
-    let mut answer = opened;
-    while answer == 0 {
-        answer =
-            library::step_on(file.bytes(), state.bytes_mut(), a.bytes_mut(), b.bytes_mut(), work.bytes_mut(), record.bytes_mut(), report.bytes_mut());
+    loop {
+        let before = plain[0].clone();
+        let [state, a, b, work, record, report] = fenced.each_mut().map(Fenced::bytes_mut);
+        let answer = library::step_on(file.bytes(), state, a, b, work, record, report);
         check.pair.count("anim_step_on", answer);
-        if answer == 0 {
-            let length = u64::from_le_bytes(report.bytes()[24..].try_into().expect("eight bytes")) as usize;
-            past.push(lend(&record.bytes()[..length]));
+        let [state, a, b, work, record, report] = plain.each_mut().map(Vec::as_mut_slice);
+        equal("anim_step_on", answer, cover::step_on(file.bytes(), state, a, b, work, record, report), fenced, plain)?;
+        bounds::step_on(answer, file.bytes(), &before, plain[4].len(), &plain[5])?;
+        row(check, fenced, plain)?;
+        if answer != 0 {
+            break;
         }
-        let now = cover::state_in(state.bytes());
-        library::row_place(now.planes.wrapping_sub(1), now.height.wrapping_sub(1), state.bytes(), a.bytes(), b.bytes());
-        check.pair.calls += 1;
+        let length = cover::number_at(&plain[5], 3) as usize;
+        past.push(Fenced::new(&plain[4][..length], side));
     }
     while let Some(record) = past.pop() {
-        let answer = library::step_back(state.bytes_mut(), a.bytes_mut(), b.bytes_mut(), record.bytes());
+        let [state, a, b, ..] = fenced.each_mut().map(Fenced::bytes_mut);
+        let answer = library::step_back(state, a, b, record.bytes());
         check.pair.count("anim_step_back", answer);
+        let [state, a, b, ..] = plain.each_mut().map(Vec::as_mut_slice);
+        equal("anim_step_back", answer, cover::step_back(state, a, b, record.bytes()), fenced, plain)?;
     }
-    if (a.bytes(), b.bytes(), state.bytes()) != (&plain_a, &plain_b, &plain_state) {
+    if plain[..3] != opened {
         return Err("steps on and back between fences lead elsewhere".into());
     }
     Ok(())
+}
+
+/// Asks both sides for the last row of the last plane.
+fn row(check: &mut Check, fenced: &Buffers<Fenced>, buffers: &Buffers<Vec<u8>>) -> Checked<()> {
+    let [state, a, b, ..] = fenced.each_ref().map(Fenced::bytes);
+    let now = cover::state_in(state);
+    let (plane, row) = (now.planes.wrapping_sub(1), now.height.wrapping_sub(1));
+    let place = library::row_place(plane, row, state, a, b);
+    check.pair.calls += 1;
+    equal("anim_row_place", place, cover::row(plane, row, &buffers[0], &buffers[1], &buffers[2]).0, fenced, buffers)
+}
+
+/// Both sides gave the same answer and left the same bytes.
+fn equal(call: &str, library: u64, plain: u64, fenced: &Buffers<Fenced>, buffers: &Buffers<Vec<u8>>) -> Checked<()> {
+    if library == plain && fenced.iter().zip(buffers).all(|(fenced, plain)| fenced.bytes() == plain) {
+        return Ok(());
+    }
+    Err(format!("{call} between fences differs: library {library}, plain {plain}, or a buffer"))
 }
 
 /// Writes a delta into a buffer that is just long enough.

@@ -2,7 +2,7 @@
 use super::{play, Check};
 use crate::pair::{Checked, Player};
 use crate::plain::Sizes;
-use crate::{files, plain, vectors};
+use crate::{cover, files, plain, vectors};
 
 const TOO_LARGE: &str = "too large\n";
 
@@ -54,7 +54,7 @@ fn listed(check: &mut Check, sizes: Sizes, chunks: &[&[u8]], length: usize, want
 fn list(check: &mut Check, file: &[u8]) -> Checked<String> {
     let mut player = Player::fitting(&mut check.random, file);
     let (refused, frame) = player.frame_size(&mut check.pair, 8)?;
-    if file.len() > 65_536 || refused == 0 && number(&frame, 0) > 16_384 {
+    if file.len() > 65_536 || refused == 0 && cover::number_at(&frame, 0) > 16_384 {
         return Ok(TOO_LARGE.into());
     }
     let opened = player.open(&mut check.pair)?;
@@ -68,16 +68,11 @@ fn list(check: &mut Check, file: &[u8]) -> Checked<String> {
         let frame = player.now().frame;
         match answer {
             0 => {
-                let n = |k| number(player.report.bytes(), k);
+                let n = |k| cover::number_at(player.report.bytes(), k);
                 lines += &format!("frame {frame} method {} time {} changed {} record {}\n", n(0), n(1), n(2), n(3));
             }
             1 => return Ok(lines + &format!("end {frame}\n")),
             refusal => return Ok(lines + &format!("refused {refusal}\n")),
         }
     }
-}
-
-/// The number at such a place of numbers of eight bytes.
-fn number(bytes: &[u8], k: usize) -> u64 {
-    u64::from_le_bytes(bytes[8 * k..8 * k + 8].try_into().expect("eight bytes"))
 }

@@ -269,7 +269,7 @@ fn step_around(check: &mut Check, file: &[u8], set: u32) -> Checked<()> {
         player.record.set(&[8; 2]);
     }
     if has(set, 4) {
-        player.report.set(&[6; 31]);
+        player.report.set(&[6; 39]);
     }
     player.step_on(&mut check.pair).map(drop)
 }

@@ -7,7 +7,7 @@ use crate::pair::Checked;
 use crate::plain::Sizes;
 
 /// An op: how many words it moves on by, and the count if it is a run.
-type Op = (usize, Option<usize>);
+pub type Op = (usize, Option<usize>);
 
 /// Widths and heights of small pictures of one plane with a method: with no whole word; with one, alone and with a rest behind it; with two, each in a
 /// row of its own, one of them over two rows with a rest behind it, and with short ones; with three, one of them over two rows, and with short ones.
@@ -43,7 +43,7 @@ pub fn run(check: &mut Check) -> Checked<()> {
 }
 
 /// The bytes of a list; its words are of bytes 1, 2, 3 and so on, and of an op's words there are no more than so many.
-fn list(ops: &[Op], item: usize, most: usize) -> Vec<u8> {
+pub fn list(ops: &[Op], item: usize, most: usize) -> Vec<u8> {
     let (mut out, mut byte) = (Vec::new(), 0u8);
     for &(by, count) in ops {
         match count {
@@ -60,7 +60,7 @@ fn list(ops: &[Op], item: usize, most: usize) -> Vec<u8> {
 }
 
 /// A delta of one list.
-fn delta_of(list: &[u8]) -> Vec<u8> {
+pub fn delta_of(list: &[u8]) -> Vec<u8> {
     let mut delta = vec![0; 32];
     delta[3] = 32;
     delta.extend_from_slice(list);

@@ -1,8 +1,9 @@
 //! The writer on pictures that are equal, differ in one bit, or are random, striped or noisy, most of them tall.
 use super::damaged::two_frames;
 use super::Check;
+use crate::bounds::delta_room;
 use crate::files;
-use crate::pair::{delta_room, Checked, Player, Twin};
+use crate::pair::{Checked, Player, Twin};
 use crate::plain::Sizes;
 use crate::random::Random;
 

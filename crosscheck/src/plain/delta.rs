@@ -1,4 +1,5 @@
 //! ANHD, the deltas of methods 5 and 7, and which deltas are of words.
+use super::ops::Count;
 use super::{be32, iff, need, words, Answer, Refusal, Refusal::*, Sizes};
 use crate::faults::broken;
 
@@ -35,6 +36,16 @@ impl Items {
     /// Whether they are words, as in methods 2 and 3.
     pub fn are_words(self) -> bool {
         matches!(self, Items::LongWords | Items::ShortWords)
+    }
+
+    /// How many columns a plane has; lists of words go down none.
+    pub fn columns(self, sizes: Sizes) -> usize {
+        match self {
+            Items::Bytes => sizes.row(),
+            Items::Shorts => sizes.row() / 2,
+            Items::Longs => sizes.row() / 4,
+            Items::LongWords | Items::ShortWords => 0,
+        }
     }
 }
 
@@ -129,8 +140,8 @@ pub fn length_first(dlta: &[u8], refusal: Refusal, fault: &str) -> Refusal {
     }
 }
 
-/// Walks the whole delta and finds its first fault.
-pub fn check(dlta: &[u8], sizes: Sizes, items: Items) -> Answer<()> {
+/// Walks the whole delta and finds its first fault, or how many ops its lists have; those of words aren't counted.
+pub fn check(dlta: &[u8], sizes: Sizes, items: Items) -> Answer<u64> {
     match items {
         Items::Bytes => walk::<1>(dlta, sizes, |_| ()),
         Items::Shorts => walk::<2>(dlta, sizes, |_| ()),
@@ -159,7 +170,7 @@ enum Put<'a> {
 
 fn draw_items<const W: usize>(dlta: &[u8], sizes: Sizes, frame: &mut [u8]) -> Answer<()> {
     let down = if broken("one-byte-down") { 1 } else { sizes.row() };
-    walk::<W>(dlta, sizes, |put| match put {
+    let walked = walk::<W>(dlta, sizes, |put| match put {
         Put::Uniq { mut at, items } => {
             for item in items.chunks_exact(W) {
                 frame[at..at + W].copy_from_slice(item);
@@ -173,21 +184,26 @@ fn draw_items<const W: usize>(dlta: &[u8], sizes: Sizes, frame: &mut [u8]) -> An
                 at += down;
             }
         }
-    })
+    });
+    walked.map(drop)
 }
 
-/// Walks every list of a vertical delta of items of W bytes.
-fn walk<'a, const W: usize>(dlta: &'a [u8], sizes: Sizes, mut put: impl FnMut(Put<'a>)) -> Answer<()> {
+/// Walks every list of a vertical delta of items of W bytes, and answers how many ops they have.
+fn walk<'a, const W: usize>(dlta: &'a [u8], sizes: Sizes, mut put: impl FnMut(Put<'a>)) -> Answer<u64> {
     need(dlta.len() >= 64, BadPointer)?;
+    let mut count = Count::default();
     for plane in 0..sizes.planes {
         if be32(&dlta[4 * plane..]) == 0 {
+            count.not_read(sizes.row() / W);
             continue;
         }
         let ops = list_at(dlta, plane)?;
         let data = if W == 1 { &[] } else { list_at(dlta, plane + 8)? };
-        walk_plane::<W>(ops, data, sizes, plane * sizes.plane(), &mut put)?;
+        count.list(dlta.len() - ops.len(), plane + 1 == sizes.planes);
+        walk_plane::<W>(ops, data, sizes, plane * sizes.plane(), &mut count, &mut put)?;
     }
-    Ok(())
+    count.not_there(&dlta[4 * sizes.planes..32]);
+    Ok(count.total())
 }
 
 /// What stands from a pointer's place on.
@@ -199,8 +215,15 @@ fn list_at(dlta: &[u8], pointer: usize) -> Answer<&[u8]> {
     Ok(&dlta[at..])
 }
 
-/// Walks the list of a plane that begins at a place of the frame.
-fn walk_plane<'a, const W: usize>(mut ops: &'a [u8], mut data: &'a [u8], sizes: Sizes, at: usize, put: &mut impl FnMut(Put<'a>)) -> Answer<()> {
+/// Walks the list of a plane that begins at a place of the frame, and counts its ops.
+fn walk_plane<'a, const W: usize>(
+    mut ops: &'a [u8],
+    mut data: &'a [u8],
+    sizes: Sizes,
+    at: usize,
+    count: &mut Count,
+    put: &mut impl FnMut(Put<'a>),
+) -> Answer<()> {
     let row = sizes.row();
     let all_data = data;
     for column in 0..row / W {
@@ -216,6 +239,7 @@ fn walk_plane<'a, const W: usize>(mut ops: &'a [u8], mut data: &'a [u8], sizes: 
                 1..=127 => op,
                 _ => op - 128,
             };
+            count.op(op, rows, column + 1 == row / W, ops.len());
             left += u8::from(rows == 0 && broken("none-not-counted"));
             if rows == 0 && none_misread::<W>(op, &mut ops, &mut data, &mut y, sizes.height)? {
                 continue;

@@ -1,4 +1,5 @@
-//! The bench examples of document 01 that are about parts, ops of none, first pictures given as deltas, lists of words, and the outside listings.
+//! The bench examples of document 01 that are about parts, ops of none, first pictures given as deltas, lists of words, ops counted, and the outside
+//! listings.
 use super::delta::{check, draw, Items};
 use super::*;
 use crate::files;
@@ -206,6 +207,46 @@ fn planes_of_words() {
     assert_eq!(words_drawn(&dlta, sizes, Items::ShortWords), Err(BadPointer));
     assert_eq!(words_drawn(&[0; 32], sizes, Items::LongWords), Ok(vec![0; 12]));
     assert_eq!(words_drawn(&[0; 31], sizes, Items::LongWords), Err(BadPointer));
+}
+
+/// How many ops a list of method 5 has for a picture with two columns of two rows.
+fn ops_of(list: &[u8]) -> Answer<u64> {
+    check(&delta_of(list), SMALL, Items::Bytes)
+}
+
+#[test]
+fn ops_of_a_list() {
+    assert_eq!(ops_of(&[0, 0]), Ok(0));
+    assert_eq!(ops_of(&[1, 0x82, 0xaa, 0xbb, 0]), Ok(1));
+    assert_eq!(ops_of(&[0, 2, 1, 0x81, 0xdd]), Ok(2));
+    assert_eq!(ops_of(&[3, 0x80, 0, 0, 7, 1, 1, 0, 2, 9]), Ok(4));
+    assert_eq!(ops_of(&[2, 2, 1, 0]), Err(OpPastLastRow));
+    assert_eq!(ops_of(&[&[255][..], &[0x80; 255], &[255], &[0x80; 255]].concat()), Ok(510));
+}
+
+#[test]
+fn ops_of_planes() {
+    let sizes = Sizes { planes: 4, ..SMALL };
+    let mut dlta = delta_of(&[2, 1, 0x81, 0xdd, 0, 1, 1]);
+    (dlta[7], dlta[11], dlta[19]) = (64, 68, 64);
+    assert_eq!(check(&dlta, sizes, Items::Bytes), Ok(2 + 2 + 1));
+    assert_eq!(ops::most(&dlta, sizes, Items::Bytes), 255 * 2 * 3);
+    assert_eq!(check(&[0; 64], sizes, Items::Shorts), Ok(0));
+    assert_eq!(ops::most(&dlta, sizes, Items::Shorts), 255 * 3);
+    assert_eq!(check(&words_of(&[&[1, 0x102, END]]), SMALL, Items::ShortWords), Ok(0));
+    assert_eq!(ops::most(&dlta, sizes, Items::ShortWords), 0);
+}
+
+#[test]
+fn ops_of_a_step() {
+    let later = files::delta_form(files::BYTES, 0, 3, &delta_of(&[1, 0x82, 0xaa, 0xbb, 1, 0x80]));
+    let file = files::form(b"ANIM", &[files::picture_form(SMALL, 0, &[0; 4]), later]);
+    let ([mut a, mut b, mut work], mut rec) = ([[0; 4]; 3], [0; 20]);
+    let mut state = open(&file, &mut a, &mut b).unwrap();
+    assert_eq!(most_ops(&file, &state), Ok(Some(510)));
+    let report = step_on(&file, &mut state, &mut a, &mut b, &mut work, &mut rec);
+    assert_eq!(report, Ok(Some(Report { method: 5, time: 3, changed: 2, record_length: 9, ops: 2 })));
+    assert_eq!(most_ops(&file, &state), Ok(None));
 }
 
 #[test]

@@ -10,9 +10,11 @@ const END: usize = 0xffff;
 /// The first offset that is negative, -32,768.
 const NEGATIVE: usize = 0x8000;
 
-/// Walks the whole delta of words of W bytes and finds its first fault.
-pub fn check<const W: usize>(dlta: &[u8], sizes: Sizes) -> Answer<()> {
-    walk::<W>(dlta, sizes, |_, _| ())
+/// Walks the whole delta of words of W bytes and finds its first fault, or that it has no ops that count.
+pub fn check<const W: usize>(dlta: &[u8], sizes: Sizes) -> Answer<u64> {
+    let mut ops = 0;
+    walk::<W>(dlta, sizes, |_, _| ops += 1)?;
+    Ok(if broken("ops-of-words") { ops } else { 0 })
 }
 
 /// Draws the delta of words of W bytes into a frame up to its first fault.

@@ -1,0 +1,213 @@
+//! Records that are as long as they can be, with the room for every step, with buffers that are just as long, and with one byte less.
+use super::Check;
+use crate::bounds::record_room;
+use crate::files::{self, Method, BYTES, SHORTS, SHORT_WORDS};
+use crate::pair::{Checked, Player};
+use crate::plain::{Sizes, State, FIRST_PLACE, MAX_FILE, MAX_FRAME};
+
+/// Frame numbers at the ends of their forms, of one to three bytes.
+const FRAMES: [u64; 6] = [2, 0x7f, 0x80, 0x3fff, 0x4000, MAX_FRAME];
+/// Places at the ends of their forms, of one to five bytes; the last is as far in the file as the frame can stand.
+const PLACES: [u64; 10] = [FIRST_PLACE, 0x7f, 0x80, 0x3fff, 0x4000, 0x1f_ffff, 0x20_0000, 0xfff_ffff, 0x1000_0000, MAX_FILE];
+/// The shortest and the longest frame number with its place.
+const ENDS: [(u64, u64); 2] = [(2, FIRST_PLACE), (MAX_FRAME, MAX_FILE)];
+
+/// The bytes of the longest frame number and place.
+const LONGEST_HEAD: usize = 3 + 5;
+/// Frames up to this length have their longest list of runs searched for.
+const SEARCHED: usize = 130;
+/// Frames up to this length are changed in every way.
+const EVERY_WAY: usize = 8;
+/// Frames up to this length have their only run of two bytes at every place.
+const EVERY_PLACE: usize = 32;
+
+pub fn run(check: &mut Check) -> Checked<()> {
+    longest_records()?;
+    // Zeros that take no memory; both sides read only where a frame stands.
+    let mut file = vec![0; MAX_FILE as usize];
+    for bytes in (2..=EVERY_WAY).step_by(2) {
+        every_way(check, &mut file, bytes)?;
+    }
+    // From 256 bytes on the number of runs has two bytes.
+    for bytes in (2..=SEARCHED).step_by(2).chain([252, 254, 256, 258]) {
+        longest(check, &mut file, bytes)?;
+    }
+    largest(check, &mut file)
+}
+
+/// The bytes of a number in groups of seven bits.
+fn number_length(n: usize) -> usize {
+    1 + n.checked_ilog2().unwrap_or(0) as usize / 7
+}
+
+/// The bytes of the list of runs where these bytes change.
+fn list_length(changed: &[bool]) -> usize {
+    let (mut length, mut runs, mut gap) = (0, 0, 0);
+    for stretch in changed.chunk_by(|x, y| x == y) {
+        if stretch[0] {
+            length += number_length(gap) + number_length(stretch.len()) + stretch.len();
+            runs += 1;
+        }
+        gap = stretch.len();
+    }
+    number_length(runs) + length
+}
+
+/// The longest list of runs for a frame of so many bytes, an even number: half as many runs, each of one byte, but one of two.
+fn longest_list(bytes: usize) -> usize {
+    number_length(bytes / 2) + bytes / 2 * 3 + 1
+}
+
+/// The longest list of runs for frames of each length, by all choices of gaps and counts.
+fn searched_lists() -> Vec<usize> {
+    let mut longest = vec![1; SEARCHED + 1];
+    // How long so many runs can be, of which the last ends at a place.
+    let mut ending = vec![None; SEARCHED + 1];
+    ending[0] = Some(0);
+    for runs in 1..=SEARCHED / 2 {
+        let mut next = vec![None; SEARCHED + 1];
+        for (from, length) in ending.iter().enumerate().filter_map(|(from, length)| length.map(|length: usize| (from, length))) {
+            for start in from + usize::from(runs > 1)..SEARCHED {
+                for count in 1..=SEARCHED - start {
+                    let length = length + number_length(start - from) + number_length(count) + count;
+                    next[start + count] = next[start + count].max(Some(length));
+                }
+            }
+        }
+        for (end, length) in next.iter().enumerate().filter_map(|(end, length)| length.map(|length| (end, length))) {
+            longest[end..].iter_mut().for_each(|longest| *longest = (*longest).max(number_length(runs) + length));
+        }
+        ending = next;
+    }
+    longest
+}
+
+/// The longest list of every frame is what it is worked out to be, and the record with it at most twice the frame and 12 bytes: 13 of 16 for 2 bytes, 16
+/// of 20 for 4, and so on, ever farther away.
+fn longest_records() -> Checked<()> {
+    let searched = searched_lists();
+    for bytes in (2..=SEARCHED).step_by(2) {
+        let record = LONGEST_HEAD + searched[bytes];
+        is_longest(bytes, record)?;
+        if record > 2 * bytes + 12 {
+            return Err(format!("a record for a frame of {bytes} bytes can have {record}"));
+        }
+    }
+    Ok(())
+}
+
+/// Sizes of pictures with so many bytes in all: rows of two bytes, with every number of planes that there can be, and one row in one plane.
+fn shapes(bytes: usize) -> impl Iterator<Item = Sizes> {
+    let narrow = (1..=8).filter(move |planes| (bytes / 2).is_multiple_of(*planes));
+    let narrow = narrow.map(move |planes| Sizes { width: 16, height: bytes / 2 / planes, planes });
+    narrow.chain((3..=128).contains(&bytes).then_some(Sizes { width: 8 * bytes, height: 1, planes: 1 }))
+}
+
+/// Every set of bytes changed, with every number of planes, and every length of the frame number and the place; one of the records is the longest.
+fn every_way(check: &mut Check, file: &mut [u8], bytes: usize) -> Checked<()> {
+    let mut most = 0;
+    for set in 0..1 << bytes {
+        let changed: Vec<bool> = (0..bytes).map(|k| set >> k & 1 == 1).collect();
+        for (k, sizes) in shapes(bytes).enumerate() {
+            let step = Step::new(check, sizes, BYTES, &changed);
+            most = most.max(step.at_each(check, file, k == 0)?);
+        }
+    }
+    is_longest(bytes, most)
+}
+
+/// A record of so many bytes is the longest that a frame of so many can have.
+fn is_longest(bytes: usize, record: usize) -> Checked<()> {
+    if record == LONGEST_HEAD + longest_list(bytes) {
+        return Ok(());
+    }
+    Err(format!("the longest record for a frame of {bytes} bytes has {record}, with a list of {}", longest_list(bytes)))
+}
+
+/// Records of the longest list: runs of one byte with one between them, and one of two, the first or the last or at every place.
+fn longest(check: &mut Check, file: &mut [u8], bytes: usize) -> Checked<()> {
+    let methods = [BYTES, SHORTS, SHORT_WORDS].into_iter().cycle();
+    for two in (0..bytes / 2).filter(|two| bytes <= EVERY_PLACE || [0, bytes / 2 - 1].contains(two)) {
+        let changed = one_of_two(bytes, two);
+        for ((k, sizes), method) in shapes(bytes).enumerate().zip(methods.clone()) {
+            let step = Step::new(check, sizes, method, &changed);
+            is_longest(bytes, step.at_each(check, file, k == 0)?)?;
+        }
+    }
+    Ok(())
+}
+
+/// Every second byte changed, the first and the last among them, where such a run has two bytes.
+fn one_of_two(bytes: usize, two: usize) -> Vec<bool> {
+    (0..bytes).map(|k| k % 2 == usize::from(k > 2 * two)).collect()
+}
+
+/// The largest picture with every second byte changed, every third one, all of them, all but the first and the last, none, and the longest list.
+fn largest(check: &mut Check, file: &mut [u8]) -> Checked<()> {
+    let sizes = Sizes { width: 1_024, height: 1_024, planes: 8 };
+    let bytes = sizes.frame();
+    let ways: [&dyn Fn(usize) -> bool; 5] = [&|k| k % 2 == 0, &|k| k % 3 == 1, &|_| true, &|k| k > 0 && k < bytes - 1, &|_| false];
+    let ways = ways.map(|way| (0..bytes).map(way).collect::<Vec<bool>>());
+    let mut most = 0;
+    for changed in ways.iter().chain([&one_of_two(bytes, bytes / 4)]) {
+        most = most.max(Step::new(check, sizes, BYTES, changed).at_each(check, file, false)?);
+    }
+    is_longest(bytes, most)
+}
+
+/// A step on from any picture, of which some bytes change.
+struct Step {
+    player: Player,
+    form: Vec<u8>,
+    new: Vec<u8>,
+    list: usize,
+}
+
+impl Step {
+    fn new(check: &mut Check, sizes: Sizes, method: Method, changed: &[bool]) -> Step {
+        let mut player = Player::new(&mut check.random, &[], sizes.frame());
+        let old = player.a.bytes().to_vec();
+        let new: Vec<u8> = old.iter().zip(changed).map(|(byte, changed)| if *changed { !byte } else { *byte }).collect();
+        player.b.set(&old);
+        let [width, height, planes] = [sizes.width as u64, sizes.height as u64, sizes.planes as u64];
+        player.set_state(State { width, height, planes, frame: 1, next: 0, end: 0 });
+        let delta = files::delta_between(&old, &new, sizes, method);
+        Step { player, form: files::delta_form(method, 0, 1, &delta), new, list: list_length(changed) }
+    }
+
+    /// Takes the step with every length of the frame number and the place, or with the shortest and the longest; answers the longest record's length.
+    fn at_each(&self, check: &mut Check, file: &mut [u8], all: bool) -> Checked<usize> {
+        let heads = FRAMES.into_iter().flat_map(|frame| PLACES.map(|place| (frame, place)));
+        let heads: Vec<(u64, u64)> = if all { heads.collect() } else { ENDS.to_vec() };
+        let mut most = 0;
+        for (frame, place) in heads {
+            most = most.max(self.at(check, file, frame, place.min(MAX_FILE - self.form.len() as u64))?);
+        }
+        Ok(most)
+    }
+
+    /// Takes the step to a frame number, from a place of the file; answers the record's length.
+    fn at(&self, check: &mut Check, file: &mut [u8], frame: u64, place: u64) -> Checked<usize> {
+        let part = place as usize..place as usize + self.form.len();
+        file[part.clone()].copy_from_slice(&self.form);
+        let state = State { frame: frame - 1, next: place, end: part.end as u64, ..self.player.now() };
+        let length = number_length(frame as usize) + number_length(place as usize) + self.list;
+        for (room, wanted) in [(record_room(self.new.len()), 0), (length, 0), (length - 1, 51)] {
+            let mut player = self.player.clone();
+            player.set_state(state);
+            player.record.set(&vec![0x6b; room]);
+            let answer = player.step_on_in(&mut check.pair, file)?;
+            let written = if answer == 0 { player.written().len() } else { length };
+            if answer != wanted || written != length || player.work.bytes() != self.new {
+                return Err(format!(
+                    "{state:?}: a step with a record of {length} bytes and a buffer of {room} answers {answer}, with a record of {written}"
+                ));
+            }
+        }
+        if file[part.clone()] != self.form {
+            return Err("a step on changes the file".into());
+        }
+        file[part].fill(0);
+        Ok(length)
+    }
+}
