@@ -17,7 +17,7 @@ use Rattle.record.specs.Room.{recordRoom}
 use Rattle.record.proofs.RecordRoom.{record-room}
 use Rattle.step_on.specs.declared.SteppedOn.{SteppedOn}
 use Rattle.step_on.specs.Step.{Built, lookAhead, stepOn, onOf, MeetsOn}
-use Rattle.step_on.proofs.CaseLaws.{fits, on-case}
+use Rattle.step_on.proofs.CaseLaws.{recordFits, on-case}
 use Rattle.step_on.proofs.StepLaws.{ahead-passed, hidden-fits}
 use Rattle.words.specs.Words.{readState}
 use Rattle.anim.specs.Export.{worldIn, answerNumber, LentC, StepsOnC}
@@ -26,7 +26,7 @@ use Rattle.answers.proofs.Table.{on-table}
 use Rattle.answers.proofs.AnswerLaws.{on-sized}
 
 -- the record of a frame that lies ahead fits
-ahead-room : (file : List ℕ) (w : World) (work room : ℕ) (x : Built) → recordRoom (frameBytes (w .state .sizes)) ≤ room → lookAhead file w work ≡ ok (some x) → fits w room x ≡ true
+ahead-room : (file : List ℕ) (w : World) (work room : ℕ) (x : Built) → recordRoom (frameBytes (w .state .sizes)) ≤ room → lookAhead file w work ≡ ok (some x) → recordFits w room x ≡ true
 ahead-room file w work room x h e =
     let p = each-is e (ahead-passed file w work) in
     let k = hidden-fits w (p .onA) (p .onB) in
@@ -43,6 +43,7 @@ never-51 file w work room h =
 pub never-51-met : (file : List ℕ) (l : Lent) (r : SteppedOn) (l′ : Lent) → MeetsOn file l r l′ → recordRoom (frameBytes (l .world .state .sizes)) ≤ length (l .rec) → onOf (r .answer) ≡ refused 51 → ⊥
 never-51-met file l r l′ m h e = never-51 file (l .world) (length (l .work)) (length (l .rec)) h (sym (m .answer) ∙ e)
 
+-- C's 51 is the step's
 number-51 : (x : Answer) → answerNumber x ≡ 51 → x ≡ refused 51
 number-51 (refused n) e = ap refused e
 number-51 ended e = absurd (omega arith)

@@ -18,7 +18,8 @@ pub struct State {
     pub end: usize,
 }
 
-// What a taken step on reports: the method, the relative time, how many bytes changed, the record's length, and how many ops were read.
+// What a taken step on reports: the method, the relative time, how many bytes changed, the record's length, and the number of ops, 0 for
+// lists of words.
 pub struct Report {
     pub method: usize,
     pub time: usize,

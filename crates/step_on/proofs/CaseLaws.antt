@@ -23,25 +23,25 @@ stepTo w x = record {
 }
 
 -- whether the record of such a step fits
-abbrev pub fits : World → ℕ → Built → Bool
-fits w room x = leb (length (recordOf (w .state) (hiddenIn w) (x .picture))) room
+abbrev pub recordFits : World → ℕ → Built → Bool
+recordFits w room x = leb (length (recordOf (w .state) (hiddenIn w) (x .picture))) room
 
 module _ (P : After → Type 0) (w : World) (room : ℕ) where
-  pub commit-case : (x : Built) → (fits w room x ≡ true → P (stepTo w x)) → (fits w room x ≡ false → P (kept w (refused 51) (some (x .picture)))) → P (commit w room x)
+  pub commit-case : (x : Built) → (recordFits w room x ≡ true → P (stepTo w x)) → (recordFits w room x ≡ false → P (kept w (refused 51) (some (x .picture)))) → P (commit w room x)
   unfolding commit
-  commit-case x p q = pick-case P (fits w room x) p q
+  commit-case x p q = pick-case P (recordFits w room x) p q
 
   pub on-case : (file : List ℕ) (work : ℕ)
       → ((n : ℕ) → lookAhead file w work ≡ fault n → P (kept w (refused n) none))
       → (lookAhead file w work ≡ ok none → P (kept w ended none))
       → ((x : Built) → lookAhead file w work ≡ ok (some x) → P (stepTo w x))
-      → ((x : Built) → lookAhead file w work ≡ ok (some x) → fits w room x ≡ false → P (kept w (refused 51) (some (x .picture))))
+      → ((x : Built) → lookAhead file w work ≡ ok (some x) → recordFits w room x ≡ false → P (kept w (refused 51) (some (x .picture))))
       → P (stepOn file w work room)
   unfolding stepOn
   on-case file work f e t u = go (lookAhead file w work) f e t u
     where
       go : (q : Res (Option Built)) → ((n : ℕ) → q ≡ fault n → P (kept w (refused n) none)) → (q ≡ ok none → P (kept w ended none))
-          → ((x : Built) → q ≡ ok (some x) → P (stepTo w x)) → ((x : Built) → q ≡ ok (some x) → fits w room x ≡ false → P (kept w (refused 51) (some (x .picture)))) → P (settle w room q)
+          → ((x : Built) → q ≡ ok (some x) → P (stepTo w x)) → ((x : Built) → q ≡ ok (some x) → recordFits w room x ≡ false → P (kept w (refused 51) (some (x .picture)))) → P (settle w room q)
       go (fault n) f e t u = unfold settle in f n refl
       go (ok none) f e t u = unfold settle in e refl
       go (ok (some x)) f e t u = unfold settle in commit-case x (λ _. t x refl) (u x refl)

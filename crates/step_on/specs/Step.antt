@@ -38,7 +38,7 @@ ready file s a b work =
 abbrev pub basis : FrameHeader → List ℕ → List ℕ → List ℕ
 basis h shown hidden = pick (eqb (h .interleave) 1) shown hidden
 
--- a frame that was built: its picture, the place past it, its header, and the number of ops that were read
+-- a frame that was built: its picture, the place past it, its header, and the number of its ops, as `opsIn` counts them
 pub record Built : Type 0 where
   pub picture : List ℕ
   pub next : ℕ

@@ -20,8 +20,8 @@ use state::Report;
 use state::Sizes;
 use state::State;
 
-// What lies ahead: a frame that stands in the work buffer, the place past it, its header and how many ops were read; or none; or why
-// there is none.
+// What lies ahead: a frame that stands in the work buffer, the place past it, its header and the number of its ops; or none; or why there
+// is none.
 pub enum Ahead {
     Built {
         next: usize,
