@@ -34,15 +34,15 @@ module _ (file : List ℕ) (w : WorldC) where
   pub open-unsized : {r : ℕ} → r ≡ 11 → (length (w .state) ≡ 48 → ⊥) → OpensC file w r w
   open-unsized e h =
       let k : w .state ≡ lay (w .state) (stateWords zeros) = unfold stateWords in not-laid _ h in
-      rw (ne-eqb (length (w .state)) 48 h) (record { answer = e; left = λ i. record { state = k i; a = w .a; b = w .b } })
+      rw (ne-eqb (length (w .state)) 48 h) (record { answer = e; left = λ i. record { state = k i; a = w .a; b = w .b; map = w .map } })
 
-  pub open-sized : {o : OpenedFile} {r : ℕ} {state a b : List ℕ} → length (w .state) ≡ 48 → MeetsOpen file (w .a) (w .b) o (record { a = a; b = b; state = o .state })
-      → state ≡ lay (w .state) (stateWords (o .state)) → {x : Opening} → o .answer ≡ x → r ≡ numberOr (openingOf x) → OpensC file w r (record { state = state; a = a; b = b })
+  pub open-sized : {o : OpenedFile} {r : ℕ} {state a b map : List ℕ} → length (w .state) ≡ 48 → MeetsOpen file (w .a) (w .b) (w .map) o (record { a = a; b = b; map = map; state = o .state })
+      → state ≡ lay (w .state) (stateWords (o .state)) → {x : Opening} → o .answer ≡ x → r ≡ numberOr (openingOf x) → OpensC file w r (record { state = state; a = a; b = b; map = map })
   open-sized {o} h m s {x} e k =
       let l = m .left in
       let t = s ∙ ap (λ (v : World). lay (w .state) (stateWords (v .state))) l in
       rw (eq-eqb (length (w .state)) 48 h)
-      (record { answer = k ∙ ap (λ (y : Opening). numberOr (openingOf y)) (sym e) ∙ ap numberOr (m .answer) ∙ whole (opening file (length (w .a)) (length (w .b))); left = λ i. record { state = t i; a = l i .a; b = l i .b } })
+      (record { answer = k ∙ ap (λ (y : Opening). numberOr (openingOf y)) (sym e) ∙ ap numberOr (m .answer) ∙ whole (opening file (length (w .a)) (length (w .b)) (length (w .map))); left = λ i. record { state = t i; a = l i .a; b = l i .b; map = l i .map } })
     where
       whole : {A : Type 0} (q : Res A) → numberOr (answer q) ≡ numberOr q
       whole (ok y) = refl
@@ -54,9 +54,9 @@ module _ (file : List ℕ) (l : LentC) where
     pub on-unsized : {r : ℕ} → t ≡ false → r ≡ 11 → StepsOnC file l r l
     on-unsized f h = rw (sym e ∙ f) (record { answer = h; left = refl })
 
-    module _ {o : SteppedOn} {a b work rec : List ℕ} (m : MeetsOn file (record { world = worldIn (l .world); work = l .work; rec = l .rec }) o (lent a b (o .state) work rec)) where
+    module _ {o : SteppedOn} {a b map work rec : List ℕ} (m : MeetsOn file (record { world = worldIn (l .world); work = l .work; rec = l .rec }) o (lent a b map (o .state) work rec)) where
       pub on-sized : {r : ℕ} {state report : List ℕ} → t ≡ true → HandsOn o (l .world .state) (l .report) r state report
-          → StepsOnC file l r (record { world = record { state = state; a = a; b = b }; work = work; rec = rec; report = report })
+          → StepsOnC file l r (record { world = record { state = state; a = a; b = b; map = map }; work = work; rec = rec; report = report })
       unfolding lentAfter
       on-sized f q =
           let k = m .left in
@@ -64,7 +64,7 @@ module _ (file : List ℕ) (l : LentC) where
           let s = q .stateOut ∙ ap (λ (y : Answer). stateLeft y (o .state) (l .world .state)) n ∙ ap (λ (v : Lent). stateLeft (stepOn file (worldIn (l .world)) (length (l .work)) (length (l .rec)) .answer) (v .world .state) (l .world .state)) k in
           let t = q .reportOut ∙ ap (λ (y : Answer). reportLeft y (l .report)) n in
           rw (sym e ∙ f)
-          (record { answer = q .answer ∙ rw n; left = λ i. record { world = record { state = s i; a = k i .world .a; b = k i .world .b }; work = k i .work; rec = k i .rec; report = t i } })
+          (record { answer = q .answer ∙ rw n; left = λ i. record { world = record { state = s i; a = k i .world .a; b = k i .world .b; map = k i .world .map }; work = k i .work; rec = k i .rec; report = t i } })
 
 -- what is handed over of a step on, by its answer
 pub hands-on : {o : SteppedOn} {state report : List ℕ} {x : On} {r : ℕ} {state′ report′ : List ℕ} → o .answer ≡ x → r ≡ answerNumber (onOf x) → state′ ≡ stateLeft (onOf x) (o .state) state → report′ ≡ reportLeft (onOf x) report
@@ -76,13 +76,13 @@ module _ (w : WorldC) (rec : List ℕ) where
   pub back-unsized : {r : ℕ} → r ≡ 11 → (length (w .state) ≡ 48 → ⊥) → StepsBackC w rec r w
   back-unsized e h = rw (ne-eqb (length (w .state)) 48 h) (record { answer = e; left = refl })
 
-  pub back-sized : {o : SteppedBack} {a b : List ℕ} → length (w .state) ≡ 48 → MeetsBack (worldIn w) rec o (record { a = a; b = b; state = o .state })
-      → {x : Back} {r : ℕ} {state : List ℕ} → o .answer ≡ x → r ≡ answerNumber (backOf x) → state ≡ stateLeft (backOf x) (o .state) (w .state) → StepsBackC w rec r (record { state = state; a = a; b = b })
+  pub back-sized : {o : SteppedBack} {a b map : List ℕ} → length (w .state) ≡ 48 → MeetsBack (worldIn w) rec o (record { a = a; b = b; map = map; state = o .state })
+      → {x : Back} {r : ℕ} {state : List ℕ} → o .answer ≡ x → r ≡ answerNumber (backOf x) → state ≡ stateLeft (backOf x) (o .state) (w .state) → StepsBackC w rec r (record { state = state; a = a; b = b; map = map })
   back-sized {o} h m {x} e n s =
       let k : backOf x ≡ stepBack (worldIn w) rec .answer = rw e at (m .answer) in
       let l = m .left in
       let t = s ∙ ap (λ (y : Answer). stateLeft y (o .state) (w .state)) k ∙ ap (λ (v : World). stateLeft (stepBack (worldIn w) rec .answer) (v .state) (w .state)) l in
-      rw (eq-eqb (length (w .state)) 48 h) (record { answer = n ∙ rw k; left = λ i. record { state = t i; a = l i .a; b = l i .b } })
+      rw (eq-eqb (length (w .state)) 48 h) (record { answer = n ∙ rw k; left = λ i. record { state = t i; a = l i .a; b = l i .b; map = l i .map } })
 
 -- a row
 module _ (plane row : ℕ) (state : List ℕ) (a b : ℕ) where

@@ -1,15 +1,16 @@
--- The C interface (document 01, "Opening, stepping on, stepping back"): the contract of each exported function, which is what it
--- answers and what it leaves in the buffers. Each has its function's order of arguments: what they hold at entry, the answer, and
+-- The C interface (document 01, "Opening, stepping on, stepping back", and document 02, E6): the contract of each exported function, which is
+-- what it answers and what it leaves in the buffers. Each has its function's order of arguments: what they hold at entry, the answer, and
 -- what the buffers that are written hold at exit. A state is passed as 48 bytes, a report as 40 and a length as 8 (numbers of eight
 -- bytes); a slice for one of them of another length is 11, before everything.
 use Prim.Native.Nat.{ℕ}
 use mathlib.Core.Bool.{Bool, _&&_}
-use mathlib.Core.List.{List, [], _∷_, _++_}
+use mathlib.Core.List.{List, [], _∷_}
 use mathlib.Core.Option.{none}
 use mathlib.Core.Path.{_≡_}
 use lib.Dec.{eqb}
-use lib.ListN.{length, drop}
+use lib.ListN.{length}
 use Rattle.laws.specs.Result.{Res, Res.ok, Res.fault, leaves, pick}
+use Rattle.laws.specs.Store.{withFront}
 use Rattle.state.specs.declared.State.{State}
 use Rattle.state.specs.declared.Sizes.{Sizes}
 use Rattle.state.specs.Film.{Film}
@@ -32,21 +33,22 @@ numberOr (fault n) = n
 abbrev pub sized : {A : Type 0} → Bool → Res A → Res A
 sized t q = pick t q (fault 11)
 
--- both pictures and the state as C lends them and gets them back: the state as its bytes
+-- both pictures, the map and the state as C lends them and gets them back: the state as its bytes
 pub record WorldC : Type 0 where
   pub state : List ℕ
   pub a : List ℕ
   pub b : List ℕ
+  pub map : List ℕ
 
 -- the same as a world
 abbrev pub worldIn : WorldC → World
-worldIn w = record { a = w .a; b = w .b; state = readState (w .state) }
+worldIn w = record { a = w .a; b = w .b; map = w .map; state = readState (w .state) }
 
 -- what an opening that comes to q leaves
 abbrev pub openedC : WorldC → Res Film → WorldC
 openedC w q =
-    let o : World = worldOpened (w .a) (w .b) q in
-    record { state = lay (w .state) (stateWords (o .state)); a = o .a; b = o .b }
+    let o : World = worldOpened (w .a) (w .b) (w .map) q in
+    record { state = lay (w .state) (stateWords (o .state)); a = o .a; b = o .b; map = o .map }
 
 pub record LeavesOpenC (q : Res Film) (w : WorldC) (r : ℕ) (w′ : WorldC) : Type 0 where
   pub answer : r ≡ numberOr q
@@ -54,7 +56,8 @@ pub record LeavesOpenC (q : Res Film) (w : WorldC) (r : ℕ) (w′ : WorldC) : T
 
 -- the contract of `anim_open`
 abbrev pub OpensC : (file : List ℕ) (w : WorldC) (r : ℕ) (w′ : WorldC) → Type 0
-OpensC file w r w′ = LeavesOpenC (sized (eqb (length (w .state)) 48) (opening file (length (w .a)) (length (w .b)))) w r w′
+OpensC file w r w′ =
+    LeavesOpenC (sized (eqb (length (w .state)) 48) (opening file (length (w .a)) (length (w .b)) (length (w .map)))) w r w′
 
 -- a step's answer: 0 taken, 1 End, otherwise the refusal's number
 abbrev pub answerNumber : Answer → ℕ
@@ -86,23 +89,23 @@ pub record HandsOn (o : SteppedOn) (state report : List ℕ) (r : ℕ) (state′
   pub stateOut : state′ ≡ stateLeft (onOf (o .answer)) (o .state) state
   pub reportOut : report′ ≡ reportLeft (onOf (o .answer)) report
 
--- what C lends to a step on besides the file: both pictures and the state, the work buffer, the record buffer and the report's bytes
+-- what C lends to a step on besides the file: both pictures, the map and the state, the work buffer, the record buffer and the report's bytes
 pub record LentC : Type 0 where
   pub world : WorldC
   pub work : List ℕ
   pub rec : List ℕ
   pub report : List ℕ
 
--- both pictures and the state after a step that comes to o
+-- both pictures, the map and the state after a step that comes to o
 abbrev pub steppedC : WorldC → After → WorldC
-steppedC w o = record { state = stateLeft (o .answer) (o .world .state) (w .state); a = o .world .a; b = o .world .b }
+steppedC w o = record { state = stateLeft (o .answer) (o .world .state) (w .state); a = o .world .a; b = o .world .b; map = o .world .map }
 
 -- the same with the work buffer, the record buffer and the report's bytes
 abbrev pub leftC : LentC → After → LentC
 leftC l o = record {
   world = steppedC (l .world) o;
   work = workAfter (l .work) (o .work);
-  rec = o .bytes ++ drop (length (o .bytes)) (l .rec);
+  rec = withFront (l .rec) (o .bytes);
   report = reportLeft (o .answer) (l .report);
 }
 

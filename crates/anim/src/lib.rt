@@ -1,5 +1,5 @@
 // The C interface: each function calls one of the library's, on numbers and byte slices. The order of arguments is one: numbers,
-// the file, the state, A and B, the work buffer, the record or the output, the report or the length.
+// the file, the state, A, B and the map, the work buffer, the record or the output, the report or the length.
 ghost use mathlib.Core.Path.{_≡_};
 ghost use mathlib.Core.Bool.{_&&_};
 ghost use lib.Dec.{eqb};
@@ -52,16 +52,22 @@ pub extern "C" fn anim_frame_size(file: &[u8], size: &mut [u8]) -> u64
     }
 }
 
-// Opens a file: state gets the state after its first picture, and A and B that picture.
+// Opens a file: state gets the state after its first picture, A and B that picture, and the map its colours.
 #[no_mangle]
-pub extern "C" fn anim_open(file: &[u8], state: &mut [u8], a: &mut [u8], b: &mut [u8]) -> u64
-    ensures { λ r. ⌜ OpensC (now (file .entry)) (record { state = now (state .entry); a = now (a .entry); b = now (b .entry) }) r
-        (record { state = now (state .exit); a = now (a .exit); b = now (b .exit) }) ⌝ }
+pub extern "C" fn anim_open(
+    file: &[u8],
+    state: &mut [u8],
+    a: &mut [u8],
+    b: &mut [u8],
+    map: &mut [u8],
+) -> u64
+    ensures { λ r. ⌜ OpensC (now (file .entry)) (record { state = now (state .entry); a = now (a .entry); b = now (b .entry); map = now (map .entry) }) r
+        (record { state = now (state .exit); a = now (a .exit); b = now (b .exit); map = now (map .exit) }) ⌝ }
 {
     if state.len() != 48 {
         return wrong_length();
     }
-    let o = opening::open(file, a, b);
+    let o = opening::open(file, a, b, map);
     write_words::write_state(state, o.state);
     let answer = o.answer;
     match answer {
@@ -93,19 +99,20 @@ pub extern "C" fn anim_step_on(
     state: &mut [u8],
     a: &mut [u8],
     b: &mut [u8],
+    map: &mut [u8],
     work: &mut [u8],
     rec: &mut [u8],
     report: &mut [u8],
 ) -> u64
     ensures { λ r. ⌜ StepsOnC (now (file .entry))
         (record {
-          world = record { state = now (state .entry); a = now (a .entry); b = now (b .entry) };
+          world = record { state = now (state .entry); a = now (a .entry); b = now (b .entry); map = now (map .entry) };
           work = now (work .entry);
           rec = now (rec .entry);
           report = now (report .entry);
         }) r
         (record {
-          world = record { state = now (state .exit); a = now (a .exit); b = now (b .exit) };
+          world = record { state = now (state .exit); a = now (a .exit); b = now (b .exit); map = now (map .exit) };
           work = now (work .exit);
           rec = now (rec .exit);
           report = now (report .exit);
@@ -114,20 +121,26 @@ pub extern "C" fn anim_step_on(
     if !lengths_ok(state.len(), report.len()) {
         return wrong_length();
     }
-    let s = step_on::step_on(file, words::read_state(state), a, b, work, rec);
+    let s = step_on::step_on(file, words::read_state(state), a, b, map, work, rec);
     hand_on(s, state, report)
 }
 
 // Steps back from the state in its slice with a record.
 #[no_mangle]
-pub extern "C" fn anim_step_back(state: &mut [u8], a: &mut [u8], b: &mut [u8], rec: &[u8]) -> u64
-    ensures { λ r. ⌜ StepsBackC (record { state = now (state .entry); a = now (a .entry); b = now (b .entry) }) (now (rec .entry)) r
-        (record { state = now (state .exit); a = now (a .exit); b = now (b .exit) }) ⌝ }
+pub extern "C" fn anim_step_back(
+    state: &mut [u8],
+    a: &mut [u8],
+    b: &mut [u8],
+    map: &mut [u8],
+    rec: &[u8],
+) -> u64
+    ensures { λ r. ⌜ StepsBackC (record { state = now (state .entry); a = now (a .entry); b = now (b .entry); map = now (map .entry) }) (now (rec .entry)) r
+        (record { state = now (state .exit); a = now (a .exit); b = now (b .exit); map = now (map .exit) }) ⌝ }
 {
     if state.len() != 48 {
         return wrong_length();
     }
-    let s = step_back::step_back(words::read_state(state), a, b, rec);
+    let s = step_back::step_back(words::read_state(state), a, b, map, rec);
     let answer = s.answer;
     match answer {
         Back::Refused(why) => why.number(),

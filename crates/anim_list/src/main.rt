@@ -39,6 +39,7 @@ fn main() {
     let mut file = [0u8; 65537];
     let mut a = [0u8; 16384];
     let mut b = [0u8; 16384];
+    let mut map = [0u8; 768];
     let mut work = [0u8; 16384];
     let mut rec = [0u8; 65536];
     let mut out = [0u8; 65536];
@@ -48,7 +49,15 @@ fn main() {
         return;
     }
     let n = input.length;
-    let k = list(&file[..n], &mut a, &mut b, &mut work, &mut rec, &mut out);
+    let k = list(
+        &file[..n],
+        &mut a,
+        &mut b,
+        &mut map,
+        &mut work,
+        &mut rec,
+        &mut out,
+    );
     if !io::write_all(libc::STDOUT_FILENO, &out[..k]) {
         os::fail(b"standard output");
     }

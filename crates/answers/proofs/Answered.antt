@@ -12,7 +12,7 @@ use Rattle.answers.proofs.AnswerLaws.{sized-answered, on-answered, back
 
 pub answered : {r : ℕ} → Answers r → isAnswer r ≡ true
 answered (sizes file size _ _ c) = ap isAnswer (c .answer) ∙ sized-answered (eqb (length size) 8) (listed (size-table file))
-answered (opens file w _ _ c) = ap isAnswer (c .answer) ∙ sized-answered (eqb (length (w .state)) 48) (listed (opening-table file (length (w .a)) (length (w .b))))
+answered (opens file w _ _ c) = ap isAnswer (c .answer) ∙ sized-answered (eqb (length (w .state)) 48) (listed (opening-table file (length (w .a)) (length (w .b)) (length (w .map))))
 answered (stepsOn file l _ _ c) = ap isAnswer (c .answer) ∙ on-answered file l
 answered (stepsBack w rec _ _ c) = ap isAnswer (c .answer) ∙ back-answered w rec
 answered (rows plane row state a b _ e) = ap isAnswer e ∙ sized-answered (eqb (length state) 48) (listed (place-table (readState state) a b plane row))

@@ -1,4 +1,4 @@
--- A step on that is lent a record buffer with room for every record never answers 51 (document 02, E8).
+-- A step on that is lent a record buffer with room for every record never answers 51 (document 02, E8 and E6).
 use Prim.Native.Nat.{ℕ, suc, _≤_}
 use native.Mathlib.Omega.{arith}
 use mathlib.Core.Bool.{true}
@@ -13,6 +13,7 @@ use Rattle.state.specs.State.{frameBytes}
 use Rattle.state.proofs.StateLaws.{sizes-sound}
 use Rattle.state.specs.World.{World, hiddenIn}
 use Rattle.state.specs.After.{Answer, Answer.refused, Answer.ended, Answer.tookOn, Answer.tookBack, After, Lent}
+use Rattle.colours.specs.Colours.{coloured}
 use Rattle.record.specs.Room.{recordRoom}
 use Rattle.record.proofs.RecordRoom.{record-room}
 use Rattle.step_on.specs.declared.SteppedOn.{SteppedOn}
@@ -30,7 +31,7 @@ ahead-room : (file : List ℕ) (w : World) (work room : ℕ) (x : Built) → rec
 ahead-room file w work room x h e =
     let p = each-is e (ahead-passed file w work) in
     let k = hidden-fits w (p .onA) (p .onB) in
-    let r = record-room (suc (w .state .frame)) (w .state .next) (hiddenIn w) (x .picture) (k .few) (k .short) in
+    let r = record-room (suc (w .state .frame)) (w .state .next) (hiddenIn w) (x .picture) (w .map) (coloured (w .map) (x .cmap)) (k .few) (k .short) (p .mapLong) in
     le-leb _ room (omega (arith, each-is (k .sizes) (sizes-sound (w .state .sizes)) .length))
 
 pub never-51 : (file : List ℕ) (w : World) (work room : ℕ) → recordRoom (frameBytes (w .state .sizes)) ≤ room → stepOn file w work room .answer ≡ refused 51 → ⊥

@@ -14,9 +14,10 @@ use Rattle.laws.proofs.LoopLaws.{Comes, Comes.comes-next, Comes.comes-done, com
 use Rattle.refusal.specs.Number.{isNumber}
 use Rattle.state.specs.declared.Sizes.{Sizes}
 use Rattle.state.specs.declared.State.{State}
-use Rattle.state.specs.State.{within, rowBytes, frameLength, stateLength, lentLength}
+use Rattle.state.specs.State.{within, rowBytes, frameLength, stateLength, lentLength, stepLength}
 use Rattle.state.specs.World.{World, shownIn, hiddenIn}
-use Rattle.iff.specs.Ids.{FORM, ANIM, ILBM, BMHD, BODY, ANHD, DLTA}
+use Rattle.colours.specs.Colours.{MAP, goodLength, colours}
+use Rattle.iff.specs.Ids.{FORM, ANIM, ILBM, BMHD, BODY, CMAP, ANHD, DLTA}
 use Rattle.iff.specs.Chunk.{Chunk, Walk, padded, chunkAt, walkOn, walkStep, chunks, find, has, bytesOf, contents}
 use Rattle.form.specs.Form.{animEnd, FormIlbm, chunksOf, passOn, formStep, nextForm}
 use Rattle.bmhd.specs.Header.{sizesAt, refusedAs, bitmapHeader}
@@ -26,7 +27,7 @@ use Rattle.body.specs.ByteRun.{Row, PacketKind, PacketKind.copies, PacketKind.n
 use Rattle.body.specs.Body.{rowAt, rowsFrom, body}
 use Rattle.delta.specs.Reading.{shapeOf}
 use Rattle.frame.specs.Frame.{Frame, frameIn, frameOr, frameAt}
-use Rattle.opening.specs.Open.{bodyIn, placesIn, firstPlaces, firstHeader, frameSize, firstDelta, firstPicture, firstOf, opening}
+use Rattle.opening.specs.Open.{bodyIn, placesIn, firstPlaces, firstHeader, frameSize, firstDelta, firstBody, firstPicture, firstOf, opening}
 use Rattle.record.specs.Record.{pastOf, restored}
 use Rattle.step_on.specs.Step.{ready, change, build, look, lookAhead}
 use Rattle.step_back.specs.Back.{retreat}
@@ -112,6 +113,11 @@ anhd-table first B d =
     table-need (leb 40 (length d)) 32 _ refl (table-need (methodOk (getD d 0 0)) 33 _ refl (table-need (interleaveOk first (getD d 18 0)) 34 _ refl
     (table-need (bitsOk (getD d 0 0) (be32 d 20)) 35 _ refl (table-need (columnsOk (itemsOf (getD d 0 0) (be32 d 20)) B) 36 _ refl table-value))))
 
+-- a frame's colours
+colours-table : (cmap : List ℕ) → InTable (colours cmap)
+unfolding colours
+colours-table cmap = table-need (goodLength (length cmap)) 37 _ refl table-value
+
 -- a later frame
 frame-table : (s : List ℕ) (B at : ℕ) → InTable (frameAt s at B)
 unfolding frameAt frameIn
@@ -123,7 +129,7 @@ frame-table s B at = table-bind (form-table s at) go
         table-bind
         (table-bind (table-bind (find-table ANHD (chunksOf s x)) λ o. table-refuse 31 o refl) λ h.
         table-bind (table-bind (find-table DLTA (chunksOf s x)) λ o. table-refuse 31 o refl) λ d.
-        table-bind (anhd-table false B (bytesOf (chunksOf s x) h)) λ y. table-value)
+        table-bind (anhd-table false B (bytesOf (chunksOf s x) h)) λ y. table-bind (colours-table (contents (chunksOf s x) CMAP)) λ c. table-value)
         λ f. table-value
 
 -- the first picture's BODY
@@ -159,18 +165,18 @@ rows-table packed s B (suc k) at = table-bind (row-table packed s B at) λ r. ta
 
 -- opening
 picture-table : (s : List ℕ) (t : Bool) (z : Header) → InTable (firstPicture s t z)
-unfolding firstPicture firstDelta body
-picture-table s true z = table-bind (rows-table (z .packed) (contents s BODY) (rowBytes (z .sizes .width)) (z .sizes .height * z .sizes .planes) 0) λ rs. table-value
+unfolding firstPicture firstBody firstDelta body
+picture-table s true z = table-bind (colours-table (contents s CMAP)) λ c. table-bind (rows-table (z .packed) (contents s BODY) (rowBytes (z .sizes .width)) (z .sizes .height * z .sizes .planes) 0) λ rs. table-value
 picture-table s false z =
-    table-bind (anhd-table true (rowBytes (z .sizes .width)) (contents s ANHD)) λ h. table-bind (delta-table (shapeOf (z .sizes) (h .items)) (contents s DLTA)) λ ops. table-value
+    table-bind (anhd-table true (rowBytes (z .sizes .width)) (contents s ANHD)) λ h. table-bind (colours-table (contents s CMAP)) λ c. table-bind (delta-table (shapeOf (z .sizes) (h .items)) (contents s DLTA)) λ ops. table-value
 
-pub opening-table : (file : List ℕ) (a b : ℕ) → InTable (opening file a b)
+pub opening-table : (file : List ℕ) (a b map : ℕ) → InTable (opening file a b map)
 unfolding opening firstOf
-opening-table file a b =
+opening-table file a b map =
     table-bind (places-table file) λ p.
     table-bind
     (table-bind (first-header-table (chunksOf file (p .form)) (p .body)) λ z. table-need (eqb a (z .length)) 12 _ refl (table-need (eqb b (z .length)) 12 _ refl
-    (table-bind (picture-table (chunksOf file (p .form)) (p .body) z) λ f. table-value)))
+    (table-need (eqb map MAP) 12 _ refl (table-bind (picture-table (chunksOf file (p .form)) (p .body) z) λ f. table-value))))
     λ f. table-value
 
 -- the state
@@ -183,12 +189,17 @@ lent-table : (s : State) (a b : ℕ) → InTable (lentLength s a b)
 unfolding lentLength
 lent-table s a b = table-bind (state-table s) λ n. table-need (eqb a n) 12 _ refl (table-need (eqb b n) 12 _ refl table-value)
 
+-- the same with the map
+step-table : (s : State) (a b map : ℕ) → InTable (stepLength s a b map)
+unfolding stepLength
+step-table s a b map = table-bind (lent-table s a b) λ n. table-need (eqb map MAP) 12 _ refl table-value
+
 -- stepping on, but for the record's length
 pub on-table : (file : List ℕ) (w : World) (work : ℕ) → InTable (lookAhead file w work)
 unfolding lookAhead ready look change
 on-table file w work =
     table-bind
-    (table-need (leb (w .state .end) (length file)) 11 _ refl (table-bind (lent-table (w .state) (length (w .a)) (length (w .b))) λ n.
+    (table-need (leb (w .state .end) (length file)) 11 _ refl (table-bind (step-table (w .state) (length (w .a)) (length (w .b)) (length (w .map))) λ n.
     table-need (eqb work n) 12 _ refl (table-test (ltb (w .state .frame) 1_000_000) 53 refl)))
     λ _. table-bind (frame-table (take (w .state .end) file) (rowBytes (w .state .sizes .width)) (w .state .next)) built
   where
@@ -200,8 +211,8 @@ on-table file w work =
 pub back-table : (w : World) (bytes : List ℕ) → InTable (retreat w bytes)
 unfolding retreat restored
 back-table w bytes =
-    table-bind (lent-table (w .state) (length (w .a)) (length (w .b))) λ n.
-    table-bind (table-refuse 61 (pastOf bytes (shownIn w)) refl) λ p.
+    table-bind (step-table (w .state) (length (w .a)) (length (w .b)) (length (w .map))) λ n.
+    table-bind (table-refuse 61 (pastOf bytes (shownIn w) (w .map)) refl) λ p.
     table-need (leb 2 (p .frame)) 62 _ refl (table-need (eqb (p .frame) (w .state .frame)) 62 _ refl (table-need (leb 12 (p .place)) 62 _ refl (table-need (ltb (p .place) (w .state .next)) 62 _ refl table-value)))
 
 -- a row

@@ -1,9 +1,10 @@
--- The examples P1 to P11 (document 01, "Bench examples"), in its order, as rows of one table.
--- The picture is 16 × 2, one plane, B = 2, four zero bytes to start. Lists stand at 64.
+-- The examples P1 to P11 (document 01, "Bench examples"), in its order, as rows of one table. P10's record has a map part (document 02, E6).
+-- The picture is 16 × 2, one plane, B = 2, four zero bytes to start, and the map is unset. Lists stand at 64.
 use Prim.Native.Nat.{ℕ}
 use mathlib.Core.List.{List, [], _∷_, _++_}
 use lib.ListN.{replicate}
 use Rattle.laws.specs.Result.{Res, Res.ok, Res.fault, _>>=_}
+use Rattle.colours.specs.Colours.{MAP, unset}
 use Rattle.state.specs.State.{opened}
 use Rattle.state.specs.declared.Sizes.{Sizes}
 use Rattle.number.specs.Number.{writeNumber}
@@ -31,9 +32,9 @@ smallPicture = record { width = 16; height = 2; planes = 1 }
 abbrev fourZeros : List ℕ
 fourZeros = replicate 4 0
 
--- what a record of frame 2 leads back to from the zeros, at the next place 69
+-- what a record of frame 2 leads back to from the zeros and the unset map, at the next place 69
 abbrev ledBack : List ℕ → Res (List ℕ)
-ledBack bytes = restored bytes fourZeros 2 69 >>= λ p. ok (p .picture)
+ledBack bytes = restored bytes fourZeros unset 2 69 >>= λ p. ok (p .picture)
 
 -- 16 pointers, of which plane 0's list has p and its data q, and what follows them
 abbrev pointed : ℕ → ℕ → List ℕ → List ℕ
@@ -53,8 +54,8 @@ twoBytes s = unpackRow s 0 2 >>= λ r. ok (r .bytes)
 -- the record of the step from frame 1 to frame 2, after an opening
 abbrev stepRecord : List ℕ → Res (List ℕ)
 stepRecord file =
-    opening file 4 4 >>= λ F.
-    ok (stepOn file (record { a = F .first; b = F .first; state = opened (F .sizes) (F .start) (F .end) }) 4 9 .bytes)
+    opening file 4 4 MAP >>= λ F.
+    ok (stepOn file (record { a = F .first; b = F .first; map = F .map; state = opened (F .sizes) (F .start) (F .end) }) 4 10 .bytes)
 
 abbrev P2 : List ℕ
 P2 = 0x01 ∷ 0x82 ∷ 0xAA ∷ 0xBB ∷ 0x00 ∷ []
@@ -85,7 +86,7 @@ table =
     ∷ (twoBytes (0x80 ∷ 0xFF ∷ 0x07 ∷ []) ⇒ ok (0x07 ∷ 0x07 ∷ []))
     ∷ (twoBytes (0x02 ∷ 0x01 ∷ 0x01 ∷ 0x01 ∷ []) ⇒ fault 25)
     -- P10
-    ∷ (stepRecord (twoFrames (pointed 64 0 P2)) ⇒ ok (0x02 ∷ 0x40 ∷ 0x02 ∷ 0x00 ∷ 0x01 ∷ 0x00 ∷ 0x01 ∷ 0x01 ∷ 0x00 ∷ []))
+    ∷ (stepRecord (twoFrames (pointed 64 0 P2)) ⇒ ok (0x02 ∷ 0x40 ∷ 0x02 ∷ 0x00 ∷ 0x01 ∷ 0x00 ∷ 0x01 ∷ 0x01 ∷ 0x00 ∷ 0x00 ∷ []))
     -- P11
     ∷ (ok (deltaBytes fourZeros (0xAA ∷ 0x00 ∷ 0xBB ∷ 0x00 ∷ []) smallPicture) ⇒ ok (pointed 64 0 P2))
     ∷ ((written 69 fourZeros (0xAA ∷ 0x00 ∷ 0xBB ∷ 0x00 ∷ []) smallPicture >>= λ n. ok (n ∷ [])) ⇒ ok (69 ∷ []))

@@ -1,7 +1,7 @@
-// Bytes in lent buffers: big-endian numbers and fills. Each function takes any buffers; the definitions are those of the crate laws.
+// Bytes in lent buffers: big-endian numbers, parts and fills. Each function takes any buffers; the definitions are those of the crate laws.
 ghost use mathlib.Core.Path.{_≡_};
 ghost use Prim.Native.Nat.{_<_};
-ghost use lib.ListN.{length, getD, replicate};
+ghost use lib.ListN.{length, getD, take, drop, replicate};
 ghost use Rattle.laws.specs.Bytes.{be16, be32};
 
 // The byte at a place, 0 past the end.
@@ -32,6 +32,20 @@ pub fn number32(s: &[u8], at: usize) -> usize
         return 0;
     }
     byte(s, at) * 16777216 + byte(s, at + 1) * 65536 + byte(s, at + 2) * 256 + byte(s, at + 3)
+}
+
+// The len bytes of s from start on, as far as s goes.
+pub fn part(s: &[u8], start: usize, len: usize) -> &[u8]
+    ensures { λ r. ⌜ now r ≡ take len (drop start (now (s .entry))) ⌝ }
+{
+    if s.len() < start {
+        return &s[..0];
+    }
+    if s.len() - start < len {
+        return &s[start..];
+    }
+    let end = start + len;
+    &s[start..end]
 }
 
 // Makes every byte of dst the given one.

@@ -58,11 +58,13 @@ pub(crate) fn unpack(d: &[u8], out: &mut [u8]) {
     show::bytes(frame);
 }
 
-// A file: the refusal or the next place, then A and B, each of four bytes 07 before.
+// A file: the refusal or the next place, then A and B, each of four bytes 07 before, and the first two colours of the map, of bytes 07
+// before.
 pub(crate) fn open(d: &[u8]) {
     let mut a = [7u8; 4];
     let mut b = [7u8; 4];
-    let r = opening::open(d, &mut a, &mut b);
+    let mut map = [7u8; 768];
+    let r = opening::open(d, &mut a, &mut b, &mut map);
     let answer = r.answer;
     let state = r.state;
     match answer {
@@ -71,6 +73,7 @@ pub(crate) fn open(d: &[u8]) {
     }
     show::bytes(&a);
     show::bytes(&b);
+    show::colours(&map);
 }
 
 // A frame number, a plane, a row, and A and B of 16 x 2 pixels in two planes: the row's place, and the row.

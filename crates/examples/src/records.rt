@@ -22,12 +22,14 @@ pub(crate) fn value(d: &[u8]) {
     }
 }
 
-// The length of a record buffer of bytes 07 and a picture: the length of the record of the step to frame 2 from four zeros and the
-// place 64, how many bytes changed, and the record buffer.
+// The length of a record buffer of bytes 07, a picture and a CMAP: the length of the record of the step to frame 2 from four zeros, a map of
+// zeros and the place 64, how many bytes changed, the record buffer, and the first two colours of the map.
 pub(crate) fn commit(d: &[u8], out: &mut [u8]) {
     let mut hidden = [0u8; 4];
+    let mut map = [0u8; 768];
     let room = front(out, byte(d, 0));
-    let r = record::commit(room, 2, 64, &mut hidden, part(d, 1, d.len()));
+    let new = part(d, 1, 5);
+    let r = record::commit(room, 2, 64, &mut hidden, new, &mut map, part(d, 5, d.len()));
     match r {
         Recorded::Written { length, changed } => {
             show::number(length);
@@ -36,18 +38,23 @@ pub(crate) fn commit(d: &[u8], out: &mut [u8]) {
         Recorded::Refused(why) => show::refused(why),
     }
     show::bytes(room);
+    show::colours(&map);
 }
 
-// The frame number, the next place, four bytes of the shown picture and a record: the place before its step, and the picture.
+// The frame number, the next place, four bytes of the shown picture and a record: the place before its step, the picture, and the first two
+// colours of the map, of bytes 07 before.
 pub(crate) fn put_back(d: &[u8], out: &mut [u8]) {
+    let mut map = [7u8; 768];
     let shown = front(out, 4);
     copy(shown, part(d, 2, 6));
-    let r = restore::restore(part(d, 6, d.len()), shown, byte(d, 0), byte(d, 1));
+    let bytes = part(d, 6, d.len());
+    let r = restore::restore(bytes, shown, &mut map, byte(d, 0), byte(d, 1));
     match r {
         Restored::Back(place) => show::number(place),
         Restored::Refused(why) => show::refused(why),
     }
     show::bytes(shown);
+    show::colours(&map);
 }
 
 // A number of four bytes: its eight bytes, the lowest first.

@@ -1,4 +1,5 @@
 // What comes out: numbers, bytes in hexadecimal, nothing, or a refusal.
+use crate::line::part;
 use buffer::byte;
 use refusal::Refusal;
 
@@ -23,4 +24,9 @@ pub(crate) fn bytes(s: &[u8]) {
         io::print_hex(1, byte(s, i) as u64, 2);
         i += 1;
     }
+}
+
+// The first two colours of a map.
+pub(crate) fn colours(map: &[u8]) {
+    bytes(part(map, 0, 6));
 }

@@ -14,7 +14,12 @@ use Rattle.laws.proofs.EveryLaws.{every-more}
 use Rattle.laws.proofs.ResultLaws.{Each, Each.each, Each.no-value, All, All.all-some, All.all-none, each-need, each-ok, each-pick, each-bind, each-self, pick-both, all-value, each-some, made-of, ok-same, each-is}
 use Rattle.laws.proofs.LoopLaws.{Going, starts, turns, stops, Comes, Comes.comes-next, Comes.comes-done, iterate-holds}
 use Rattle.laws.specs.Bytes.{be32}
-use Rattle.iff.specs.Chunk.{Chunk, padded, chunkAt, Walk, walkOn, walkStep, chunks, Part, partOf, first, find, orPart}
+use Rattle.refusal.specs.Number.{numberOf}
+use Rattle.refusal.specs.declared.Refusal.{Refusal}
+use Rattle.iff.specs.declared.Found.{Found}
+use Rattle.iff.specs.declared.Found.the-variants.{Missing, Refused}
+use Rattle.iff.specs.declared.Three.{Three}
+use Rattle.iff.specs.Chunk.{Chunk, padded, chunkAt, Walk, walkOn, walkStep, chunks, Part, partOf, first, find, foundOf, FindsThree, orPart}
 
 -- a chunk at a place lies within the parent, and the next place is past it
 pub record Within (s : List ℕ) (at : ℕ) (c : Chunk) : Type 0 where
@@ -122,33 +127,44 @@ first-more id (d ∷ cs) c = go (eqb (d .id) id) (eqb (c .id) id) (first-more id
     go true false h = refl
     go false t h = h
 
--- a walk at a place, and what the searches for two ids have found up to it
-pub record Searches (s : List ℕ) (x y at : ℕ) (p q : Res (Option Part)) : Type 0 where
+-- a walk at a place, and what the searches for three ids have found up to it
+pub record Searches (s : List ℕ) (x y z at : ℕ) (t : Three) : Type 0 where
   pub before : List Chunk
   pub going : Going (walkStep s) (λ w. length s - w .at) (fault 21) (chunks s) (record { at = at; passed = before })
-  pub one : p ≡ ok (first before x)
-  pub other : q ≡ ok (first before y)
+  pub one : foundOf (t .first) ≡ ok (first before x)
+  pub two : foundOf (t .second) ≡ ok (first before y)
+  pub three : foundOf (t .third) ≡ ok (first before z)
 
-pub search-starts : (s : List ℕ) (x y : ℕ) → Searches s x y 0 (ok none) (ok none)
+pub search-starts : (s : List ℕ) (x y z : ℕ) → Searches s x y z 0 (record { first = Missing; second = Missing; third = Missing })
 unfolding chunks
-search-starts s x y = record { before = []; going = starts refl; one = refl; other = refl }
+search-starts s x y z = record { before = []; going = starts refl; one = refl; two = refl; three = refl }
 
-module _ {s : List ℕ} {x y at : ℕ} {p q : Res (Option Part)} (h : Searches s x y at p q) where
-  pub search-past : {c : Chunk} → chunkAt s at ≡ ok (some c)
-      → Searches s x y (c .next) (pick (eqb (c .id) x) (orPart p (partOf c)) p) (pick (eqb (c .id) y) (orPart q (partOf c)) q)
-  search-past {c} e =
+-- what a search has found past a chunk, by what it had found before it
+abbrev Past : ℕ → Chunk → Found → Found → Type 0
+Past id c f g = foundOf g ≡ pick (eqb (c .id) id) (orPart (foundOf f) (partOf c)) (foundOf f)
+
+module _ {s : List ℕ} {x y z at : ℕ} {t : Three} (h : Searches s x y z at t) where
+  pub search-past : {c : Chunk} {u : Three} → chunkAt s at ≡ ok (some c) → Past x c (t .first) (u .first) → Past y c (t .second) (u .second) → Past z c (t .third) (u .third)
+      → Searches s x y z (c .next) u
+  search-past {c} e p q r =
       let k : Within s at c = each-some e (chunk-within s at) in
       record {
         before = h .before ++ (c ∷ []);
         going = turns (h .going) (ap (walkOn _) e) (omega (arith, k .rises, k .ends));
-        one = rw (h .one) (sym (first-more x (h .before) c));
-        other = rw (h .other) (sym (first-more y (h .before) c));
+        one = p ∙ rw (h .one) (sym (first-more x (h .before) c));
+        two = q ∙ rw (h .two) (sym (first-more y (h .before) c));
+        three = r ∙ rw (h .three) (sym (first-more z (h .before) c));
       }
 
-  pub search-ends : chunkAt s at ≡ ok none → (p ≡ find s x) × (q ≡ find s y)
+  pub search-ends : chunkAt s at ≡ ok none → FindsThree s x y z t
   unfolding find
-  search-ends e = let d : ok (h .before) ≡ chunks s = stops (h .going) (ap (walkOn _) e) in (rw (← d) (h .one), rw (← d) (h .other))
+  search-ends e =
+      let d : ok (h .before) ≡ chunks s = stops (h .going) (ap (walkOn _) e) in
+      record { first = rw (← d) (h .one); second = rw (← d) (h .two); third = rw (← d) (h .three) }
 
-  pub search-breaks : {n : ℕ} → chunkAt s at ≡ fault n → (fault n ≡ find s x) × (fault n ≡ find s y)
+  pub search-breaks : {why : Refusal} → chunkAt s at ≡ fault (numberOf why)
+      → FindsThree s x y z (record { first = Refused why; second = Refused why; third = Refused why })
   unfolding find
-  search-breaks {n} e = let d : fault n ≡ chunks s = stops (h .going) (ap (walkOn _) e) in (rw (← d) refl, rw (← d) refl)
+  search-breaks {why} e =
+      let d : fault (numberOf why) ≡ chunks s = stops (h .going) (ap (walkOn _) e) in
+      record { first = rw (← d) refl; second = rw (← d) refl; third = rw (← d) refl }

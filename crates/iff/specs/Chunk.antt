@@ -4,6 +4,7 @@ use Prim.Native.Nat.{ℕ, _+_, _-_, _%_}
 use mathlib.Core.Bool.{Bool, true, false}
 use mathlib.Core.List.{List, [], _∷_, _++_}
 use mathlib.Core.Option.{Option, none, some}
+use mathlib.Core.Path.{_≡_}
 use lib.Dec.{leb, eqb}
 use lib.ListN.{length, take, drop}
 use Rattle.laws.specs.Result.{Res, Res.ok, Res.fault, _>>=_, need, pick}
@@ -14,6 +15,7 @@ use Rattle.iff.specs.declared.Standing.{Standing}
 use Rattle.iff.specs.declared.Standing.the-variants.{Whole, End, Refused}
 use Rattle.iff.specs.declared.Found.{Found}
 use Rattle.iff.specs.declared.Found.the-variants.{At, Missing, Refused as FoundRefused}
+use Rattle.iff.specs.declared.Three.{Three}
 
 -- a whole chunk: its id, where its contents start, their length, and the place after it
 pub record Chunk : Type 0 where
@@ -100,6 +102,12 @@ abbrev pub foundOf : Found → Res (Option Part)
 foundOf (At start len) = ok (some (record { start = start; size = len }))
 foundOf Missing = ok none
 foundOf (FoundRefused why) = fault (numberOf why)
+
+-- the first chunks of three ids, found in one walk
+pub record FindsThree (s : List ℕ) (x y z : ℕ) (r : Three) : Type 0 where
+  pub first : foundOf (r .first) ≡ find s x
+  pub second : foundOf (r .second) ≡ find s y
+  pub third : foundOf (r .third) ≡ find s z
 
 -- the part found already, or this one if there is none
 abbrev pub orPart : Res (Option Part) → Part → Res (Option Part)

@@ -22,6 +22,9 @@ BMHD = idOf "BMHD"
 abbrev pub BODY : ℕ
 BODY = idOf "BODY"
 
+abbrev pub CMAP : ℕ
+CMAP = idOf "CMAP"
+
 abbrev pub ANHD : ℕ
 ANHD = idOf "ANHD"
 

@@ -24,6 +24,11 @@ pub const BODY: usize = (b'B' as usize) << 24
     | (b'D' as usize) << 8
     | b'Y' as usize;
 
+pub const CMAP: usize = (b'C' as usize) << 24
+    | (b'M' as usize) << 16
+    | (b'A' as usize) << 8
+    | b'P' as usize;
+
 pub const ANHD: usize = (b'A' as usize) << 24
     | (b'N' as usize) << 16
     | (b'H' as usize) << 8

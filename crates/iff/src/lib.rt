@@ -2,7 +2,7 @@
 ghost use mathlib.Core.Path.{_≡_};
 ghost use lib.Dec.{eqb};
 ghost use Rattle.laws.specs.Result.{pick};
-ghost use Rattle.iff.specs.Chunk.{chunkAt, standingOf, find, foundOf, orPart, contents};
+ghost use Rattle.iff.specs.Chunk.{chunkAt, standingOf, find, foundOf, FindsThree, orPart, contents};
 
 pub mod ids;
 
@@ -29,10 +29,11 @@ pub enum Found {
     Refused(Refusal),
 }
 
-// What a search for two chunks finds.
-pub struct Pair {
+// What a search for three chunks finds.
+pub struct Three {
     pub first: Found,
     pub second: Found,
+    pub third: Found,
 }
 
 // What stands at a place of a parent.
@@ -72,26 +73,29 @@ fn or_part(found: Found, wanted: usize, id: usize, start: usize, len: usize) -> 
     }
 }
 
-// The first chunks of two ids, in one walk. The parent is walked to its end, so that a chunk that passes it is found too.
-pub fn find_pair(s: &[u8], first: usize, second: usize) -> Pair
-    ensures { λ r. ⌜ (foundOf (r .first) ≡ find (now (s .entry)) first) × (foundOf (r .second) ≡ find (now (s .entry)) second) ⌝ }
+// The first chunks of three ids, in one walk. The parent is walked to its end, so that a chunk that passes it is found too.
+pub fn find_three(s: &[u8], first: usize, second: usize, third: usize) -> Three
+    ensures { λ r. ⌜ FindsThree (now (s .entry)) first second third r ⌝ }
 {
     let mut at = 0;
     let mut p = Found::Missing;
     let mut q = Found::Missing;
+    let mut r = Found::Missing;
     loop {
         let c = chunk_at(s, at);
         match c {
             Standing::End => {
-                return Pair {
+                return Three {
                     first: p,
                     second: q,
+                    third: r,
                 };
             }
             Standing::Refused(why) => {
-                return Pair {
+                return Three {
                     first: Found::Refused(why),
                     second: Found::Refused(why),
+                    third: Found::Refused(why),
                 };
             }
             Standing::Whole {
@@ -102,6 +106,7 @@ pub fn find_pair(s: &[u8], first: usize, second: usize) -> Pair
             } => {
                 p = or_part(p, first, id, start, len);
                 q = or_part(q, second, id, start, len);
+                r = or_part(r, third, id, start, len);
                 at = next;
             }
         }
@@ -112,7 +117,7 @@ pub fn find_pair(s: &[u8], first: usize, second: usize) -> Pair
 pub fn find(s: &[u8], wanted: usize) -> Found
     ensures { λ r. ⌜ foundOf r ≡ find (now (s .entry)) wanted ⌝ }
 {
-    let p = find_pair(s, wanted, wanted);
+    let p = find_three(s, wanted, wanted, wanted);
     p.first
 }
 

@@ -8,7 +8,7 @@ use mathlib.Core.Bool.{Bool}
 use mathlib.Core.Path.{_≡_, refl, sym, ap, _∙_}
 use mathlib.Core.Logic.{_⊎_, inl, inr}
 use mathlib.Core.List.{List, [], _∷_, _++_, append-nil, append-assoc}
-use lib.ListN.{length, getD, set, take, drop, replicate, take-append-drop, drop-of-length-le, length-set, length-drop, length-replicate}
+use lib.ListN.{length, getD, set, take, drop, replicate, take-append-drop, drop-of-length-le, length-set, length-append, length-take, length-drop, length-replicate}
 use lib.Seq.{take-take, take-all, take-append-le, length-take-le, drop-length, drop-cons, drop-at, drop-drop, set-out, sets, sets-eq, length-sets, take-add, take-at, getD-set-same, getD-set-other}
 use borrow.Author.Fill.{fill-more}
 use Rattle.laws.specs.Result.{pick}
@@ -118,6 +118,23 @@ stored-eight s d at h =
 pub over-whole : (s d : List ℕ) → length d ≡ length s → over d s ≡ s
 unfolding over
 over-whole s d h = simp (take-all (length d) s (omega arith), drop-of-length-le d {i = length s} (omega arith), append-nil)
+
+-- what is laid over d leaves its length
+pub length-over : (s d : List ℕ) → length (over d s) ≡ length d
+unfolding over
+length-over s d = simp (length-append, length-take, length-drop) (omega arith)
+
+-- what passes d's end is not laid over it
+pub over-front : (d s : List ℕ) → over d (take (length d) s) ≡ over d s
+unfolding over
+over-front d s = go (decLe (length s) (length d))
+  where
+    go : Dec (length s ≤ length d) → take (length d) (take (length d) s) ++ drop (length (take (length d) s)) d ≡ take (length d) s ++ drop (length s) d
+    go (yes h) = rw (take-all (length d) s h) (rw (take-all (length d) s h))
+    go (no n) =
+        let h : length d ≤ length s = omega (arith, n) in
+        let l = length-take-le (length d) s h in
+        rw (take-all (length d) (take (length d) s) (omega (arith, l)), drop-of-length-le d {i = length (take (length d) s)} (omega (arith, l)), drop-of-length-le d {i = length s} h)
 
 -- a fill that has gone n bytes far
 pub record Filled (v : ℕ) (d : List ℕ) (n : ℕ) (x : List ℕ) : Type 0 where

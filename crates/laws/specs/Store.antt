@@ -8,6 +8,10 @@ use lib.ListN.{length, take, drop}
 unfoldable pub over : List ℕ → List ℕ → List ℕ
 over d s = take (length d) s ++ drop (length s) d
 
+-- a buffer with bytes at its front; the bytes past them stay
+abbrev pub withFront : List ℕ → List ℕ → List ℕ
+withFront out bytes = bytes ++ drop (length bytes) out
+
 -- a copy that has gone n bytes far
 pub record Copied (d s : List ℕ) (n : ℕ) (x : List ℕ) : Type 0 where
   pub is : x ≡ take n s ++ drop n d

@@ -9,11 +9,8 @@ use lib.ListN.{length, set, take, drop, length-append, length-take, length-drop,
 use lib.Seq.{take-all, take-nil, drop-nil, take-at, drop-at, take-append-add, drop-append-add, drop-drop, set-split, length-take-le}
 use borrow.Author.Tests.{lt-ltb, le-ltb, ltb-false}
 use Rattle.laws.specs.Store.{over}
+use Rattle.laws.proofs.StoreLaws.{length-over}
 use Rattle.lines.specs.Lines.{digits, decimal, Adds}
-
-pub length-over : (s d : List ℕ) → length (over d s) ≡ length d
-unfolding over
-length-over s d = simp (length-append, length-take, length-drop) (omega arith)
 
 take-append : (n : ℕ) (xs ys : List ℕ) → take n (xs ++ ys) ≡ take n xs ++ take (n - length xs) ys
 take-append zero xs ys = let e : zero - length xs ≡ 0 = omega arith in rw e refl

@@ -12,15 +12,17 @@ use Rattle.laws.specs.Result.{Res, Res.ok, Res.fault, pick}
 use Rattle.laws.proofs.ResultLaws.{two-true, never, answer-refused, answered}
 use Rattle.laws.specs.Loop.{Step.next, Step.done, run, iterate}
 use Rattle.laws.specs.Store.{over}
+use Rattle.laws.proofs.StoreLaws.{length-over}
+use Rattle.colours.specs.Colours.{MAP}
 use Rattle.opening.specs.declared.OpenedFile.{OpenedFile}
 use Rattle.state.specs.Film.{Film}
 use Rattle.opening.specs.Open.{MeetsOpen, openingOf, worldOpened, opening, frameSize}
 use Rattle.state.specs.World.{World}
 use Rattle.state.specs.After.{Answer, Answer.refused, Answer.ended, Answer.tookOn, Answer.tookBack, lent, lentAfter}
 use Rattle.step_on.specs.Step.{stepOn}
-use Rattle.lines.specs.Lines.{pictureLine, refusedLine, tooLarge, Adds}
-use Rattle.lines.proofs.TextLaws.{adds-at, adds-front, length-over}
-use Rattle.listing.specs.Listing.{Listing, addLine, lineOn, listStep, listFrames, Buffers, unlisted, listOpened, listFilm, ROOM, frontOf, listFront, Planned, Planned.single, Planned.pictures, planSized, planFor, listPlanned, listFile, listing, longEnough, listLent, lentText, Lists, MeetsList, Holds}
+use Rattle.lines.specs.Lines.{refusedLine, tooLarge, Adds}
+use Rattle.lines.proofs.TextLaws.{adds-at, adds-front}
+use Rattle.listing.specs.Listing.{Listing, addLine, lineOn, listStep, listFrames, Buffers, unlisted, begun, listOpened, listFilm, ROOM, frontOf, listFront, Planned, Planned.single, Planned.pictures, planSized, planFor, listPlanned, listFile, listing, longEnough, listLent, lentText, Lists, MeetsList, Holds}
 
 -- what the work and the record buffer hold makes no difference to pictures, state and text
 record Alike (c d : Listing) : Type 0 where
@@ -64,33 +66,33 @@ module _ (file : List ℕ) (l m : Buffers) where
     where
       go : (p : Planned) → listPlanned file l p .text ≡ listPlanned file m p .text
       go (single line) = refl
-      go (pictures n) = opened-text n (opening file n n)
+      go (pictures n) = opened-text n (opening file n n MAP)
 
 pub text-same : (file : List ℕ) (l : Buffers) → listFile file l .text ≡ listing file
 unfolding listing
-text-same file l = file-text file l (record { a = []; b = []; work = []; rec = [] })
+text-same file l = file-text file l (record { a = []; b = []; map = []; work = []; rec = [] })
 
 -- one line is the whole text
 pub lists-line : {c : Listing} {line out : List ℕ} {n : ℕ} {out′ : List ℕ} (l : Buffers) → c ≡ addLine (unlisted l) line → Adds out (min 0 (length out)) line out′ n → Lists c out n l out′
 lists-line l e v = let t = adds-front (adds-at (omega arith) v) in rw e (record { text = t .0; count = t .1; left = refl })
 
 -- an opening that is refused, and one that isn't
-module _ (file : List ℕ) (l : Buffers) {r : OpenedFile} {a b : List ℕ} (m : MeetsOpen file (l .a) (l .b) r (record { a = a; b = b; state = r .state })) where
+module _ (file : List ℕ) (l : Buffers) {r : OpenedFile} {a b map : List ℕ} (m : MeetsOpen file (l .a) (l .b) (l .map) r (record { a = a; b = b; map = map; state = r .state })) where
   pub film-refused : {i : ℕ} {out : List ℕ} {n : ℕ} {out′ : List ℕ} → openingOf (r .answer) ≡ fault i → Adds out (min 0 (length out)) (refusedLine i) out′ n
-      → Lists (listFilm file l) out n (record { a = a; b = b; work = l .work; rec = l .rec }) out′
+      → Lists (listFilm file l) out n (record { a = a; b = b; map = map; work = l .work; rec = l .rec }) out′
   unfolding listFilm listOpened
   film-refused {i} e v =
-      let q = answer-refused (opening file (length (l .a)) (length (l .b))) (sym (m .answer) ∙ e) in
-      let k = m .left ∙ ap (worldOpened (l .a) (l .b)) q in
-      rw (q, ap (λ (w : World). w .a) k, ap (λ (w : World). w .b) k) (lists-line l refl v)
+      let q = answer-refused (opening file (length (l .a)) (length (l .b)) (length (l .map))) (sym (m .answer) ∙ e) in
+      let k = m .left ∙ ap (worldOpened (l .a) (l .b) (l .map)) q in
+      rw (q, ap (λ (w : World). w .a) k, ap (λ (w : World). w .b) k, ap (λ (w : World). w .map) k) (lists-line l refl v)
 
   pub film-opened : {out : List ℕ} {n : ℕ} {l′ : Buffers} {out′ : List ℕ} → openingOf (r .answer) ≡ ok tt
-      → Lists (listFrames file (length (l .work)) (length (l .rec)) (record { lent = lent a b (r .state) (l .work) (l .rec); text = pictureLine (r .state .sizes) })) out n l′ out′ → Lists (listFilm file l) out n l′ out′
+      → Lists (listFrames file (length (l .work)) (length (l .rec)) (begun (lent a b map (r .state) (l .work) (l .rec)))) out n l′ out′ → Lists (listFilm file l) out n l′ out′
   unfolding listFilm listOpened
   film-opened e v =
-      let q = answered (opening file (length (l .a)) (length (l .b))) (sym e ∙ m .answer) in
-      let k = m .left ∙ ap (worldOpened (l .a) (l .b)) (q .1) in
-      rw (q .1) (rw (ap (λ (w : World). w .a) k, ap (λ (w : World). w .b) k, ap (λ (w : World). w .state) k) at v)
+      let q = answered (opening file (length (l .a)) (length (l .b)) (length (l .map))) (sym e ∙ m .answer) in
+      let k = m .left ∙ ap (worldOpened (l .a) (l .b) (l .map)) (q .1) in
+      rw (q .1) (rw (ap (λ (w : World). w .a) k, ap (λ (w : World). w .b) k, ap (λ (w : World). w .map) k, ap (λ (w : World). w .state) k) at v)
 
 -- the tests of a file, in order
 module _ (file : List ℕ) where
@@ -135,22 +137,22 @@ pictures-fit file {n} = go (leb (length file) 65_536) (frameSize file)
     go true (fault m) d = never (cc)
     go false q d = never (cc)
 
-pub holds-less : {n m a b work rec : ℕ} → n ≤ m → Holds m a b work rec → Holds n a b work rec
-holds-less k h = record { left = omega (arith, h .left); right = omega (arith, h .right); drawn = omega (arith, h .drawn); written = h .written }
+pub holds-less : {n m a b map work rec : ℕ} → n ≤ m → Holds m a b map work rec → Holds n a b map work rec
+holds-less k h = record { left = omega (arith, h .left); right = omega (arith, h .right); colours = h .colours; drawn = omega (arith, h .drawn); written = h .written }
 
 -- what is listed with the front parts of the buffers; the bytes after them stay
-pub lists-front : (file : List ℕ) (l : Buffers) {n : ℕ} → Holds n (length (l .a)) (length (l .b)) (length (l .work)) (length (l .rec)) → {out : List ℕ} {r : ℕ} {l′ : Buffers} {out′ : List ℕ}
+pub lists-front : (file : List ℕ) (l : Buffers) {n : ℕ} → Holds n (length (l .a)) (length (l .b)) (length (l .map)) (length (l .work)) (length (l .rec)) → {out : List ℕ} {r : ℕ} {l′ : Buffers} {out′ : List ℕ}
     → Lists (listFilm file (frontOf n l)) out r l′ out′
-    → Lists (listFront file n l) out r (record { a = l′ .a ++ drop n (l .a); b = l′ .b ++ drop n (l .b); work = l′ .work ++ drop n (l .work); rec = l′ .rec ++ drop ROOM (l .rec) }) out′
+    → Lists (listFront file n l) out r (record { a = l′ .a ++ drop n (l .a); b = l′ .b ++ drop n (l .b); map = l′ .map ++ drop MAP (l .map); work = l′ .work ++ drop n (l .work); rec = l′ .rec ++ drop ROOM (l .rec) }) out′
 unfolding listFront listFilm
 lists-front file l {n} h {out} {r} {l′} {out′} v =
-    let v′ : Lists (listOpened file n ROOM (frontOf n l) (opening file n n)) out r l′ out′ =
-    rw (length-take-le n (l .a) (h .left), length-take-le n (l .b) (h .right), length-take-le n (l .work) (h .drawn), length-take-le ROOM (l .rec) (h .written)) at v in
+    let v′ : Lists (listOpened file n ROOM (frontOf n l) (opening file n n MAP)) out r l′ out′ =
+    rw (length-take-le n (l .a) (h .left), length-take-le n (l .b) (h .right), length-take-le MAP (l .map) (h .colours), length-take-le n (l .work) (h .drawn), length-take-le ROOM (l .rec) (h .written)) at v in
     let k = v′ .left in
     record {
       text = v′ .text;
       count = v′ .count;
-      left = λ i. record { a = k i .a ++ drop n (l .a); b = k i .b ++ drop n (l .b); work = k i .work ++ drop n (l .work); rec = k i .rec ++ drop ROOM (l .rec) };
+      left = λ i. record { a = k i .a ++ drop n (l .a); b = k i .b ++ drop n (l .b); map = k i .map ++ drop MAP (l .map); work = k i .work ++ drop n (l .work); rec = k i .rec ++ drop ROOM (l .rec) };
     }
 
 -- buffers that are too short, and buffers that are long enough
@@ -175,12 +177,14 @@ module _ (file : List ℕ) (l : Buffers) (out : List ℕ) where
       record { text = rw t over-nothing; count = rw t (omega arith); most = omega arith; left = rw k refl }
 
   module _ (e : longEnough l ≡ true) where
-    pub long-enough : Holds 16_384 (length (l .a)) (length (l .b)) (length (l .work)) (length (l .rec))
+    pub long-enough : Holds 16_384 (length (l .a)) (length (l .b)) (length (l .map)) (length (l .work)) (length (l .rec))
     long-enough =
-        let p = two-true (leb 16_384 (length (l .a)) && leb 16_384 (length (l .b)) && leb 16_384 (length (l .work))) (leb ROOM (length (l .rec))) e in
-        let q = two-true (leb 16_384 (length (l .a)) && leb 16_384 (length (l .b))) (leb 16_384 (length (l .work))) (p .0) in
-        let r = two-true (leb 16_384 (length (l .a))) (leb 16_384 (length (l .b))) (q .0) in
-        record { left = leb-true _ _ (r .0); right = leb-true _ _ (r .1); drawn = leb-true _ _ (q .1); written = leb-true _ _ (p .1) }
+        let ab = leb 16_384 (length (l .a)) && leb 16_384 (length (l .b)) in
+        let p = two-true (ab && leb MAP (length (l .map)) && leb 16_384 (length (l .work))) (leb ROOM (length (l .rec))) e in
+        let q = two-true (ab && leb MAP (length (l .map))) (leb 16_384 (length (l .work))) (p .0) in
+        let m = two-true ab (leb MAP (length (l .map))) (q .0) in
+        let r = two-true (leb 16_384 (length (l .a))) (leb 16_384 (length (l .b))) (m .0) in
+        record { left = leb-true _ _ (r .0); right = leb-true _ _ (r .1); colours = leb-true _ _ (m .1); drawn = leb-true _ _ (q .1); written = leb-true _ _ (p .1) }
 
     pub meets-list : {r : ℕ} {l′ : Buffers} {out′ : List ℕ} → Lists (listFile file l) out r l′ out′ → MeetsList file l out r l′ out′
     meets-list {r} {out′ = out′} v =

@@ -1,6 +1,6 @@
 -- The listing of a file (document 01, "Bench examples"): a line for its first picture, a line for each frame that is stepped on to,
 -- and `end N` or `refused N` as the last line. Files of more than 65,536 bytes and frames of more than 16,384 bytes are too large;
--- the file's length is looked at before all else, the frame's right after 24.
+-- the file's length is looked at before all else, the frame's right after 24. A map is lent to opening and to each step (document 02, E6).
 use Prim.Native.Nat.{ℕ, _-_, _≤_, min}
 use mathlib.Core.Bool.{Bool, true, false, _&&_}
 use mathlib.Core.List.{List, [], _++_}
@@ -10,6 +10,7 @@ use lib.ListN.{length, take, drop}
 use Rattle.laws.specs.Result.{Res, Res.ok, Res.fault, pick}
 use Rattle.laws.specs.Loop.{Step, Step.next, Step.done, iterate}
 use Rattle.laws.specs.Store.{over}
+use Rattle.colours.specs.Colours.{MAP}
 use Rattle.state.specs.State.{opened, zeros}
 use Rattle.state.specs.Film.{Film}
 use Rattle.state.specs.After.{Answer, Answer.refused, Answer.ended, Answer.tookOn, Answer.tookBack, Lent, lent, lentAfter}
@@ -54,48 +55,54 @@ listStep file size room c =
 unfoldable pub listFrames : List ℕ → ℕ → ℕ → Listing → Listing
 listFrames file size room c = iterate (listStep file size room) (λ d. length file - d .lent .world .state .next) c c
 
--- A, B, the work buffer and the record buffer
+-- A, B, the map, the work buffer and the record buffer
 pub record Buffers : Type 0 where
   pub a : List ℕ
   pub b : List ℕ
+  pub map : List ℕ
   pub work : List ℕ
   pub rec : List ℕ
 
 abbrev pub buffersOf : Lent → Buffers
-buffersOf l = record { a = l .world .a; b = l .world .b; work = l .work; rec = l .rec }
+buffersOf l = record { a = l .world .a; b = l .world .b; map = l .world .map; work = l .work; rec = l .rec }
 
 -- before anything is listed
 abbrev pub unlisted : Buffers → Listing
-unlisted l = record { lent = lent (l .a) (l .b) zeros (l .work) (l .rec); text = [] }
+unlisted l = record { lent = lent (l .a) (l .b) (l .map) zeros (l .work) (l .rec); text = [] }
+
+-- before the first step: the picture's line
+abbrev pub begun : Lent → Listing
+begun l = record { lent = l; text = pictureLine (l .world .state .sizes) }
 
 -- an opened file: the picture's line, then its frames
 unfoldable pub listOpened : List ℕ → ℕ → ℕ → Buffers → Res Film → Listing
 listOpened file size room l (ok F) =
-    listFrames file size room (record { lent = lent (F .first) (F .first) (opened (F .sizes) (F .start) (F .end)) (l .work) (l .rec); text = pictureLine (F .sizes) })
+    listFrames file size room (begun (lent (F .first) (F .first) (F .map) (opened (F .sizes) (F .start) (F .end)) (l .work) (l .rec)))
 listOpened file size room l (fault n) = addLine (unlisted l) (refusedLine n)
 
 -- a file that is opened with these buffers
 unfoldable pub listFilm : List ℕ → Buffers → Listing
-listFilm file l = listOpened file (length (l .work)) (length (l .rec)) l (opening file (length (l .a)) (length (l .b)))
+listFilm file l = listOpened file (length (l .work)) (length (l .rec)) l (opening file (length (l .a)) (length (l .b)) (length (l .map)))
 
--- the length of the record buffer: a record has at most twice the frame's bytes and 12 more (`record-room`), 32,780 for the longest
--- frame, so that no step is refused with 51 (`room-enough`)
+-- the length of the record buffer: a record has at most twice the frame's bytes and 12 more, and 1,539 for the map (`record-room`), 34,319
+-- for the longest frame, so that no step is refused with 51 (`room-enough`)
 abbrev pub ROOM : ℕ
 ROOM = 65_536
 
--- the first n bytes of A, B and the work buffer, and ROOM bytes of the record buffer; the bytes after them stay
+-- the first n bytes of A, B and the work buffer, MAP bytes of the map, and ROOM bytes of the record buffer; the bytes after them stay
 abbrev pub frontOf : ℕ → Buffers → Buffers
-frontOf n l = record { a = take n (l .a); b = take n (l .b); work = take n (l .work); rec = take ROOM (l .rec) }
+frontOf n l = record { a = take n (l .a); b = take n (l .b); map = take MAP (l .map); work = take n (l .work); rec = take ROOM (l .rec) }
 
 abbrev pub withRest : ℕ → Buffers → Listing → Listing
 withRest n l d = record {
-  lent = lent (d .lent .world .a ++ drop n (l .a)) (d .lent .world .b ++ drop n (l .b)) (d .lent .world .state) (d .lent .work ++ drop n (l .work)) (d .lent .rec ++ drop ROOM (l .rec));
+  lent = lent (d .lent .world .a ++ drop n (l .a)) (d .lent .world .b ++ drop n (l .b)) (d .lent .world .map ++ drop MAP (l .map))
+      (d .lent .world .state) (d .lent .work ++ drop n (l .work)) (d .lent .rec ++ drop ROOM (l .rec));
   text = d .text;
 }
 
 -- a file whose frames have n bytes
 unfoldable pub listFront : List ℕ → ℕ → Buffers → Listing
-listFront file n l = withRest n l (listOpened file n ROOM (frontOf n l) (opening file n n))
+listFront file n l = withRest n l (listOpened file n ROOM (frontOf n l) (opening file n n MAP))
 
 -- how a file is listed: by one line, or frame by frame with frames of so many bytes
 pub data Planned : Type 0 where
@@ -123,11 +130,11 @@ listFile file l = listPlanned file l (planFor file)
 
 -- the text of a file: what the buffers hold makes no difference (`text-same`)
 unfoldable pub listing : List ℕ → List ℕ
-listing file = listFile file (record { a = []; b = []; work = []; rec = [] }) .text
+listing file = listFile file (record { a = []; b = []; map = []; work = []; rec = [] }) .text
 
 -- buffers that are long enough for every file; with others nothing is listed
 abbrev pub longEnough : Buffers → Bool
-longEnough l = leb 16_384 (length (l .a)) && leb 16_384 (length (l .b)) && leb 16_384 (length (l .work)) && leb ROOM (length (l .rec))
+longEnough l = leb 16_384 (length (l .a)) && leb 16_384 (length (l .b)) && leb MAP (length (l .map)) && leb 16_384 (length (l .work)) && leb ROOM (length (l .rec))
 
 unfoldable pub listLent : List ℕ → Buffers → Listing
 listLent file l = pick (longEnough l) (listFile file l) (unlisted l)
@@ -149,8 +156,9 @@ pub record MeetsList (file : List ℕ) (l : Buffers) (out : List ℕ) (r : ℕ) 
   pub left : l′ ≡ buffersOf (listLent file l .lent)
 
 -- buffers whose front parts a file with frames of n bytes needs
-pub record Holds (n a b work rec : ℕ) : Type 0 where
+pub record Holds (n a b map work rec : ℕ) : Type 0 where
   pub left : n ≤ a
   pub right : n ≤ b
+  pub colours : MAP ≤ map
   pub drawn : n ≤ work
   pub written : ROOM ≤ rec

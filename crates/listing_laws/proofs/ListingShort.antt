@@ -18,5 +18,5 @@ module _ (file : List ℕ) (bytes : Bytes file) where
   pub listing-short : length (listing file) ≤ 65_536
   unfolding listing listFile planFor
   listing-short =
-      pick-case (λ (p : Planned). Short (listPlanned file (record { a = []; b = []; work = []; rec = [] }) p)) (leb (length file) 65_536)
+      pick-case (λ (p : Planned). Short (listPlanned file (record { a = []; b = []; map = []; work = []; rec = [] }) p)) (leb (length file) 65_536)
       (λ e. sized-short file bytes (leb-true (length file) 65_536 e) (frameSize file) (listed (size-table file))) (λ e. omega arith)

@@ -13,13 +13,14 @@ use borrow.Author.Tests.{leb-true}
 use Rattle.laws.proofs.BytesLaws.{bytes-take, be32-bound, bytes-drop}
 use Rattle.laws.specs.Bytes.{Bytes}
 use Rattle.laws.specs.Result.{Res, Res.ok, Res.fault}
-use Rattle.laws.proofs.ResultLaws.{Each, Each.each, Each.no-value, All, All.all-some, All.all-none, each-bind, each-need, each-map, all-value}
+use Rattle.laws.proofs.ResultLaws.{Each, Each.each, Each.no-value, All, All.all-some, All.all-none, each-any, each-bind, each-need, each-map, all-value}
 use Rattle.refusal.specs.Number.{isNumber}
 use Rattle.refusal.proofs.NumberLaws.{two-digits}
+use Rattle.colours.specs.Colours.{colours}
 use Rattle.state.specs.declared.Sizes.{Sizes}
 use Rattle.state.specs.State.{Sound}
-use Rattle.iff.specs.Ids.{ANHD, DLTA}
-use Rattle.iff.specs.Chunk.{bytesOf}
+use Rattle.iff.specs.Ids.{CMAP, ANHD, DLTA}
+use Rattle.iff.specs.Chunk.{bytesOf, contents}
 use Rattle.iff.proofs.ChunkLaws.{found, parts-room}
 use Rattle.form.specs.Form.{FormIlbm, chunksOf}
 use Rattle.form.proofs.FormLaws.{Follows, form-follows}
@@ -82,6 +83,7 @@ frame-holds s B at h = each-bind (form-follows s at) form
         let c = chunksOf s x in
         each-bind (found 31 ANHD c) λ p e. each-bind (found 31 DLTA c) λ q g.
         each-bind (header-holds B (bytesOf c p) (bytes-take (p .size) _ (bytes-drop (p .start) c (bytes-take (x .size) _ (bytes-drop (x .start) s h))))) λ y k.
+        each-any (colours (contents c CMAP)) λ m.
         let t : at + 68 + length (bytesOf c q) ≤ x .next = omega (arith, k .2, parts-room ANHD DLTA (λ k. omega arith) c p q e g, length-take (p .size) (drop (p .start) c), length-take (q .size) (drop (q .start) c), length-take (x .size) (drop (x .start) s), f .starts, f .holds) in
         each (record { method = k .0; time = k .1; takes = t })
 

@@ -14,8 +14,9 @@ use Rattle.laws.proofs.ResultLaws.{Each, Each.each, Each.no-value, All, All.all
 use Rattle.laws.specs.Loop.{Step}
 use Rattle.laws.proofs.LoopLaws.{Comes, Comes.comes-next, Comes.comes-done, iterate-holds}
 use Rattle.refusal.specs.Number.{isNumber}
+use Rattle.colours.specs.Colours.{MAP, coloured}
 use Rattle.state.specs.declared.Report.{Report}
-use Rattle.state.specs.declared.State.{State}
+use Rattle.state.specs.declared.Sizes.{Sizes}
 use Rattle.state.specs.State.{rowBytes, Sound}
 use Rattle.state.proofs.StateLaws.{sizes-sound}
 use Rattle.form.specs.Form.{chunksOf}
@@ -31,7 +32,7 @@ use Rattle.state.specs.World.{World, isOdd, shownIn, hiddenIn, withHidden}
 use Rattle.state.specs.After.{After, lentAfter}
 use Rattle.step_on.specs.Step.{basis, change, Built, build, look, lookAhead, reportOf}
 use Rattle.step_on.proofs.CaseLaws.{stepTo, on-case}
-use Rattle.step_on.proofs.ReadyLaws.{ready-passed}
+use Rattle.step_on.proofs.ReadyLaws.{Passed, ready-passed}
 use Rattle.lines.specs.Lines.{frameLine, endLine, refusedLine, pictureLine}
 use Rattle.listing.specs.Listing.{Listing, lineOn, listStep, listFrames, Buffers, listOpened, ROOM, listFront, planSized, listPlanned, Planned}
 use Rattle.changes.proofs.CountLaws.{differing-short}
@@ -45,41 +46,50 @@ abbrev Small : List ℕ → Type 0
 Small p = length p ≤ 16_384
 
 -- what a step to a frame that was built comes to
-record Steps (file : ℕ) (s : State) (hidden : List ℕ) (x : Built) : Type 0 where
-  few : s .frame < 1_000_000
-  rises : s .next + 100 ≤ x .next
+record Steps (file : ℕ) (w : World) (x : Built) : Type 0 where
+  few : w .state .frame < 1_000_000
+  rises : w .state .next + 100 ≤ x .next
   ends : x .next ≤ file
   picture : Small (x .picture)
-  tells : Tells (reportOf s hidden x)
+  tells : Tells (reportOf w x)
 
-module _ (file : List ℕ) (s : State) (shown hidden : List ℕ) (bytes : Bytes file) (shown-small : Small shown) (hidden-small : Small hidden) (few : s .frame < 1_000_000) (inside : s .end ≤ length file) where
-  change-holds : (x : Frame) → frameAt (take (s .end) file) (s .next) (rowBytes (s .sizes .width)) ≡ ok (some x) → Holds (s .next) x → Each (Steps (length file) s hidden) (change (s .sizes) x shown hidden)
+module _ (file : List ℕ) (w : World) (bytes : Bytes file) {size : ℕ} (passed : Passed (length file) (w .state) (length (w .a)) (length (w .b)) (length (w .map)) size)
+    (shown-small : Small (shownIn w)) (hidden-small : Small (hiddenIn w)) where
+  abbrev anim : List ℕ
+  anim = take (w .state .end) file
+
+  abbrev B : ℕ
+  B = rowBytes (w .state .sizes .width)
+
+  change-holds : (x : Frame) → frameAt anim (w .state .next) B ≡ ok (some x) → Holds (w .state .next) x → Each (Steps (length file) w) (change (w .state .sizes) x (shownIn w) (hiddenIn w))
   unfolding change
   change-holds x e h =
-      let k = frame-rises (take (s .end) file) (rowBytes (s .sizes .width)) (s .next) x e in
-      each-bind (delta-long (s .sizes) (x .header .items) (x .dlta)) λ ops l.
-      let f : List ℕ = draw (shapeOf (s .sizes) (x .header .items)) (x .dlta) ops (basis (x .header) shown hidden) in
+      let z : Sizes = w .state .sizes in
+      let k = frame-rises anim B (w .state .next) x e in
+      let few = passed .onA .few in
+      each-bind (delta-long z (x .header .items) (x .dlta)) λ ops l.
+      let f : List ℕ = draw (shapeOf z (x .header .items)) (x .dlta) ops (basis (x .header) (shownIn w) (hiddenIn w)) in
       each (record {
         few = few;
-        rises = omega (arith, h .takes, pointers-least (s .sizes) (x .header .items));
-        ends = omega (arith, k .ends, length-take (s .end) file);
-        picture = rw (draw-length (shapeOf (s .sizes) (x .header .items)) (x .dlta) ops (basis (x .header) shown hidden)) (pick-both Small (eqb (x .header .interleave) 1) shown-small hidden-small);
+        rises = omega (arith, h .takes, pointers-least z (x .header .items));
+        ends = omega (arith, k .ends, length-take (w .state .end) file);
+        picture = rw (draw-length (shapeOf z (x .header .items)) (x .dlta) ops (basis (x .header) (shownIn w) (hiddenIn w))) (pick-both Small (eqb (x .header .interleave) 1) shown-small hidden-small);
         tells = record {
           method = omega (arith, h .method);
           time = omega (arith, h .time);
-          changed = omega (arith, differing-short hidden f);
-          record-length = omega (arith, record-room (suc (s .frame)) (s .next) hidden f few (omega arith));
+          changed = omega (arith, differing-short (hiddenIn w) f);
+          record-length = omega (arith, record-room (suc (w .state .frame)) (w .state .next) (hiddenIn w) f (w .map) (coloured (w .map) (x .cmap)) few (omega arith) (passed .mapLong));
         };
       })
 
-  build-holds : (o : Option Frame) → frameAt (take (s .end) file) (s .next) (rowBytes (s .sizes .width)) ≡ ok o → All (Holds (s .next)) o → Each (All (Steps (length file) s hidden)) (build (s .sizes) shown hidden o)
+  build-holds : (o : Option Frame) → frameAt anim (w .state .next) B ≡ ok o → All (Holds (w .state .next)) o → Each (All (Steps (length file) w)) (build (w .state .sizes) (shownIn w) (hiddenIn w) o)
   build-holds none e h = each all-none
   build-holds (some x) e h = each-bind (change-holds x e (all-value h)) λ y k. each (all-some k)
 
-  look-holds : Each (All (Steps (length file) s hidden)) (look (take (s .end) file) s shown hidden)
+  look-holds : Each (All (Steps (length file) w)) (look anim (w .state) (shownIn w) (hiddenIn w))
   unfolding look
   look-holds =
-      each-bind (each-both (each-self (frameAt (take (s .end) file) (s .next) (rowBytes (s .sizes .width)))) (frame-holds (take (s .end) file) (rowBytes (s .sizes .width)) (s .next) (bytes-take (s .end) file bytes))) λ o h.
+      each-bind (each-both (each-self (frameAt anim (w .state .next) B)) (frame-holds anim B (w .state .next) (bytes-take (w .state .end) file bytes))) λ o h.
       build-holds o (h .0) (h .1)
     where
       each-both : {A : Type 0} {P Q : A → Type 0} {r : Res A} → Each P r → Each Q r → Each (λ (a : A). P a × Q a) r
@@ -107,10 +117,10 @@ told c o = lineOn (o .answer) (record { lent = lentAfter (c .lent) o; text = c .
 
 module _ (file : List ℕ) (bytes : Bytes file) (short : length file ≤ 65_536) (size : ℕ) where
   -- what a step that is taken is told as
-  stepped : (c : Listing) → Roomy c → (x : Built) → Steps (length file) (c .lent .world .state) (hiddenIn (c .lent .world)) x → Comes Roomy Short (told c (stepTo (c .lent .world) x))
+  stepped : (c : Listing) → Roomy c → (x : Built) → Steps (length file) (c .lent .world) x → Comes Roomy Short (told c (stepTo (c .lent .world) x))
   unfolding lentAfter withHidden
   stepped c h x k =
-      let r : Report = reportOf (c .lent .world .state) (hiddenIn (c .lent .world)) x in
+      let r : Report = reportOf (c .lent .world) x in
       let n : suc (c .lent .world .state .frame) < 10_000_000 = omega (arith, k .few) in
       let f : suc (c .lent .world .state .frame) ≤ 1_000_000 = omega (arith, k .few) in
       let p : x .next ≤ 65_536 = omega (arith, k .ends) in
@@ -130,9 +140,8 @@ module _ (file : List ℕ) (bytes : Bytes file) (short : length file ≤ 65_536)
       let w : World = c .lent .world in
       let s : Small (shownIn w) = unfold shownIn in pick-both Small (isOdd (w .state .frame)) (h .left) (h .right) in
       let i : Small (hiddenIn w) = unfold hiddenIn in pick-both Small (isOdd (w .state .frame)) (h .right) (h .left) in
-      let k : Each (All (Steps (length file) (w .state) (hiddenIn w))) (lookAhead file w size) =
-      unfold lookAhead in
-      each-bind (ready-passed (length file) (w .state) (length (w .a)) (length (w .b)) size) λ _ p. look-holds file (w .state) (shownIn w) (hiddenIn w) bytes s i (p .onA .few) (p .inFile) in
+      let k : Each (All (Steps (length file) w)) (lookAhead file w size) =
+      unfold lookAhead in each-bind (ready-passed (length file) (w .state) (length (w .a)) (length (w .b)) (length (w .map)) size) λ _ p. look-holds file w bytes p s i in
       on-case (λ (o : After). Comes Roomy Short (told c o)) w ROOM file size
       (λ n e. comes-done (last-short c h (refusedLine n) (refused-line-short n (table-number (listed (on-table file w size)) e))))
       (λ e. comes-done (last-short c h (endLine (w .state .frame)) (end-line-short (w .state .frame) (omega (arith, h .frame)))))
@@ -148,10 +157,10 @@ record Begins (file : List ℕ) (n : ℕ) (F : Film) : Type 0 where
   first : length (F .first) ≡ n
   start : F .start ≤ length file
 
-opening-begins : (file : List ℕ) (n : ℕ) → Each (Begins file n) (opening file n n)
+opening-begins : (file : List ℕ) (n : ℕ) → Each (Begins file n) (opening file n n MAP)
 unfolding opening
 opening-begins file n =
-    each-bind (places-lie file) λ p l. each-bind (first-long (chunksOf file (p .form)) (p .body) n n) λ f g.
+    each-bind (places-lie file) λ p l. each-bind (first-long (chunksOf file (p .form)) (p .body) n n MAP) λ f g.
     let s : p .form .next ≤ length file = omega (arith, l .stops, l .ends) in
     each (record { sound = each-is (g .sizes) (sizes-sound (f .sizes)); first = g .picture; start = s })
 
@@ -166,9 +175,9 @@ module _ (file : List ℕ) (bytes : Bytes file) where
       frames-short file bytes h n _ (record { left = w; right = w; frame = omega arith; place = p; text = t })
   opened-short h n k (fault m) (table-refusal l) g b = omega (arith, refused-line-short m l)
 
-  pub sized-short : length file ≤ 65_536 → (q : Res ℕ) → Numbered isNumber q → Short (listPlanned file (record { a = []; b = []; work = []; rec = [] }) (planSized q))
+  pub sized-short : length file ≤ 65_536 → (q : Res ℕ) → Numbered isNumber q → Short (listPlanned file (record { a = []; b = []; map = []; work = []; rec = [] }) (planSized q))
   unfolding listFront
   sized-short h (ok n) l =
-      pick-case (λ (p : Planned). Short (listPlanned file (record { a = []; b = []; work = []; rec = [] }) p)) (leb n 16_384)
-      (λ e. opened-short h n (leb-true n 16_384 e) (opening file n n) (listed (opening-table file n n)) (opening-begins file n) _) (λ e. omega arith)
+      pick-case (λ (p : Planned). Short (listPlanned file (record { a = []; b = []; map = []; work = []; rec = [] }) p)) (leb n 16_384)
+      (λ e. opened-short h n (leb-true n 16_384 e) (opening file n n MAP) (listed (opening-table file n n MAP)) (opening-begins file n) _) (λ e. omega arith)
   sized-short h (fault m) (table-refusal l) = omega (arith, refused-line-short m l)

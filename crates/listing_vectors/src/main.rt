@@ -1,4 +1,4 @@
-// Lists the outside vectors, data/001.anim to data/146.anim, each under its name.
+// Lists the outside vectors, data/001.anim to data/168.anim, each under its name.
 use listing::list;
 
 // Lists one file.
@@ -6,11 +6,20 @@ fn show(fd: i32) {
     let mut file = [0u8; 65537];
     let mut a = [0u8; 16384];
     let mut b = [0u8; 16384];
+    let mut map = [0u8; 768];
     let mut work = [0u8; 16384];
     let mut rec = [0u8; 65536];
     let mut out = [0u8; 65536];
     let n = io::read_full(fd, &mut file);
-    let k = list(&file[..n], &mut a, &mut b, &mut work, &mut rec, &mut out);
+    let k = list(
+        &file[..n],
+        &mut a,
+        &mut b,
+        &mut map,
+        &mut work,
+        &mut rec,
+        &mut out,
+    );
     io::write_all(1, &out[..k]);
 }
 
@@ -39,7 +48,7 @@ fn open(number: u8) {
 
 fn main() {
     let mut number = 1;
-    while number < 147 {
+    while number < 169 {
         open(number);
         number += 1;
     }

@@ -11,7 +11,7 @@ use Rattle.opening.specs.Open.{worldOpened}
 use Rattle.record.specs.Record.{Past}
 use Rattle.state.specs.declared.Report.{Report}
 use Rattle.state.specs.State.{zeros}
-use Rattle.state.specs.World.{World, hiddenIn}
+use Rattle.state.specs.World.{World}
 use Rattle.state.specs.After.{Answer.refused, Answer.ended, Answer.tookOn, Answer.tookBack, After}
 use Rattle.step_on.specs.Step.{reportOf, stepOn}
 use Rattle.step_on.proofs.CaseLaws.{on-case}
@@ -30,7 +30,7 @@ not-taken-on file w work room =
     on-case (λ (o : After). ((r : Report) → o .answer ≡ tookOn r → ⊥) → Untouched w o) w room file work
     (λ n e h. record { world = refl; bytes = refl; work = λ _. refl })
     (λ e h. record { world = refl; bytes = refl; work = λ _. refl })
-    (λ x e h. absurd (h (reportOf (w .state) (hiddenIn w) x) refl))
+    (λ x e h. absurd (h (reportOf w x) refl))
     (λ x e q h. record { world = refl; bytes = refl; work = λ k. absurd (k refl) })
 
 pub not-taken-back : (w : World) (bytes : List ℕ) → (stepBack w bytes .answer ≡ tookBack → ⊥) → Untouched w (stepBack w bytes)
@@ -41,10 +41,10 @@ not-taken-back w bytes h = go (retreat w bytes) h
     go (fault k) q = record { world = refl; bytes = refl; work = λ _. refl }
     go (ok p) q = absurd (q refl)
 
--- a refused opening leaves both buffers, and answers six zeros for the state
-pub refused-open : (n : ℕ) (a b : List ℕ) (q : Res Film) → refusalIn (answer q) ≡ some n → worldOpened a b q ≡ record { a = a; b = b; state = zeros }
-refused-open n a b (fault k) e = refl
-refused-open n a b (ok F) e = none-some e
+-- a refused opening leaves both buffers and the map, and answers six zeros for the state
+pub refused-open : (n : ℕ) (a b map : List ℕ) (q : Res Film) → refusalIn (answer q) ≡ some n → worldOpened a b map q ≡ record { a = a; b = b; map = map; state = zeros }
+refused-open n a b map (fault k) e = refl
+refused-open n a b map (ok F) e = none-some e
 
 -- a refused delta leaves the output buffer
 pub refused-write : (n : ℕ) (bytes out : List ℕ) (q : Res ℕ) → refusalIn q ≡ some n → bufferAfter bytes out q ≡ out

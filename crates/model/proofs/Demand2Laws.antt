@@ -30,23 +30,23 @@ malformed file w work room x n f e = rw (free-ahead file w work x f, e) refl
 
 -- the frame that a well-formed one builds
 abbrev pub builtBy : World → Frame → List Op → Built
-builtBy w x ops = record { picture = newOf w x ops; next = x .next; header = x .header; ops = opsCounted x ops }
+builtBy w x ops = record { picture = newOf w x ops; next = x .next; header = x .header; ops = opsCounted x ops; cmap = x .cmap }
 
 -- a step to a frame that was built goes by whether its record fits
 module _ (file : List ℕ) (w : World) (work room : ℕ) (x : Frame) (ops : List Op) (f : Free file w work x) (e : deltaOps w x ≡ ok ops) where
   commits : stepOn file w work room ≡ commit w room (builtBy w x ops)
   unfolding stepOn settle change
-  commits = rw (free-ahead file w work x f, e) (ap (λ (n : ℕ). commit w room (record { picture = newOf w x ops; next = x .next; header = x .header; ops = n })) (ops-same _ _ _ x (f .there) (w .state .sizes) ops))
+  commits = rw (free-ahead file w work x f, e) (ap (λ (n : ℕ). commit w room (record { picture = newOf w x ops; next = x .next; header = x .header; ops = n; cmap = x .cmap })) (ops-same _ _ _ x (f .there) (w .state .sizes) ops))
 
   -- it is taken, if its record fits
-  pub taken : length (recordTo w (newOf w x ops)) ≤ room → stepOn file w work room ≡ stepTo w (builtBy w x ops)
+  pub taken : length (recordTo w x (newOf w x ops)) ≤ room → stepOn file w work room ≡ stepTo w (builtBy w x ops)
   unfolding commit
-  taken h = commits ∙ rw (le-leb (length (recordTo w (newOf w x ops))) room h) refl
+  taken h = commits ∙ rw (le-leb (length (recordTo w x (newOf w x ops))) room h) refl
 
   -- else it is 51
-  pub unfit : room < length (recordTo w (newOf w x ops)) → stepOn file w work room ≡ record { answer = refused 51; world = w; bytes = []; work = some (newOf w x ops) }
+  pub unfit : room < length (recordTo w x (newOf w x ops)) → stepOn file w work room ≡ record { answer = refused 51; world = w; bytes = []; work = some (newOf w x ops) }
   unfolding commit
-  unfit h = commits ∙ rw (lt-leb (length (recordTo w (newOf w x ops))) room h) refl
+  unfit h = commits ∙ rw (lt-leb (length (recordTo w x (newOf w x ops))) room h) refl
 
 -- after a taken step the hidden picture is the new one and is shown, and the one that was shown is hidden as it was
 pub shown-new : (w : World) (x : Built) → shownIn (stepTo w x .world) ≡ x .picture

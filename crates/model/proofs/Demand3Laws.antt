@@ -18,7 +18,7 @@ use Rattle.state.specs.After.{lent, Answer, Answer.refused, Answer.ended, Answe
 use Rattle.step_on.specs.Step.{onOf, MeetsOn, stepOn}
 use Rattle.step_back.specs.Back.{MeetsBack, stepBack}
 use Rattle.state.specs.Film.{Film}
-use Rattle.model.specs.Model.{Call, Seen, here, builtAt, placeAt, picture, recordAt, stands, reportAt, answerFor, answerAt, answerOn, answerFirst, numberAfter, recordAfter, model}
+use Rattle.model.specs.Model.{Call, Seen, here, builtAt, placeAt, picture, mapAt, recordAt, stands, reportAt, answerFor, answerAt, answerOn, answerFirst, numberAfter, recordAfter, model}
 use Rattle.model.specs.Trace.{Handed, Handed.latest, recordIn, untaken, seenOn, seenBack, Trace, Trace.none-left, Trace.stepped-on, Trace.stepped-back}
 use Rattle.model.proofs.Laws.{on-world, on-rec}
 use Rattle.model.proofs.Opened.{Opened, size}
@@ -66,20 +66,20 @@ on-forward F m work room = answer-case (λ (x : Answer). x ≡ tookBack → ⊥)
 
 -- a call that met its contract is seen as the model says
 module _ (F : Film) (op : Opened F) {m : ℕ} (p : Reached F m) {w : World} (ew : w ≡ stands F m) where
-  on-seen : (work rec : List ℕ) (r : SteppedOn) (a b work′ rec′ : List ℕ) → MeetsOn (F .file) (record { world = w; work = work; rec = rec }) r (lent a b (r .state) work′ rec′)
-      → seenOn r a b rec′ ≡ record { answer = answerOn F m (length work) (length rec); world = stands F (numberAfter m (answerOn F m (length work) (length rec))); bytes = recordAfter F m (answerOn F m (length work) (length rec)) }
-  on-seen work rec r a b work′ rec′ h =
-      let k : MeetsOn (F .file) (record { world = stands F m; work = work; rec = rec }) r (lent a b (r .state) work′ rec′) = rw ew at h in
+  on-seen : (work rec : List ℕ) (r : SteppedOn) (a b map work′ rec′ : List ℕ) → MeetsOn (F .file) (record { world = w; work = work; rec = rec }) r (lent a b map (r .state) work′ rec′)
+      → seenOn r a b map rec′ ≡ record { answer = answerOn F m (length work) (length rec); world = stands F (numberAfter m (answerOn F m (length work) (length rec))); bytes = recordAfter F m (answerOn F m (length work) (length rec)) }
+  on-seen work rec r a b map work′ rec′ h =
+      let k : MeetsOn (F .file) (record { world = stands F m; work = work; rec = rec }) r (lent a b map (r .state) work′ rec′) = rw ew at h in
       let c = on-comes F op m p (length rec) (length work) in
       let x : onOf (r .answer) ≡ answerOn F m (length work) (length rec) = k .answer ∙ c .answer in
       let y : recordIn (onOf (r .answer)) rec′ ≡ recordAfter F m (answerOn F m (length work) (length rec)) =
       rw x (reports F m (length work) (length rec) .bytes rec′ (drop (length (stepOn (F .file) (stands F m) (length work) (length rec) .bytes)) rec) (on-rec k ∙ rw (c .bytes))) in
       λ i. record { answer = x i; world = (on-world k ∙ c .world) i; bytes = y i }
 
-  back-seen : (bytes : List ℕ) (x : Answer) (m′ : ℕ) (r : SteppedBack) (a b : List ℕ) → Comes F m m′ x [] (stepBack (stands F m) bytes) → MeetsBack w bytes r (record { a = a; b = b; state = r .state })
-      → seenBack r a b ≡ record { answer = x; world = stands F m′; bytes = [] }
-  back-seen bytes x m′ r a b c h =
-      let k : MeetsBack (stands F m) bytes r (record { a = a; b = b; state = r .state }) = rw ew at h in
+  back-seen : (bytes : List ℕ) (x : Answer) (m′ : ℕ) (r : SteppedBack) (a b map : List ℕ) → Comes F m m′ x [] (stepBack (stands F m) bytes) → MeetsBack w bytes r (record { a = a; b = b; map = map; state = r .state })
+      → seenBack r a b map ≡ record { answer = x; world = stands F m′; bytes = [] }
+  back-seen bytes x m′ r a b map c h =
+      let k : MeetsBack (stands F m) bytes r (record { a = a; b = b; map = map; state = r .state }) = rw ew at h in
       λ i. record { answer = (k .answer ∙ c .answer) i; world = (k .left ∙ c .world) i; bytes = [] }
 
 untaken-first : (F : Film) (q : Option Past) → untaken (answerFirst q) [] [] ≡ []
@@ -101,25 +101,25 @@ pub from-there : (F : Film) → Opened F → {w : World} {rs : List (List ℕ)} 
     → (m : ℕ) → Reached F m → w ≡ stands F m → rs ≡ records F m → os ≡ model F m cs
 unfolding model records
 from-there F o none-left m p ew er = refl
-from-there F o (stepped-on {rs = rs} work rec r a b work′ rec′ h t) m p ew er =
+from-there F o (stepped-on {rs = rs} work rec r a b map work′ rec′ h t) m p ew er =
     let y : Answer = answerOn F m (length work) (length rec) in
-    let e = on-seen F o p ew work rec r a b work′ rec′ h in
+    let e = on-seen F o p ew work rec r a b map work′ rec′ h in
     let c = on-comes F o m p (length rec) (length work) in
     let ih = from-there F o t (numberAfter m y) (c .there) (ap (λ (s : Seen). s .world) e) (ap (λ (s : Seen). untaken (s .answer) (s .bytes) rs) e ∙ rw er (untaken-on F m y (on-forward F m (length work) (length rec)))) in
     rw (e, ih)
-from-there F o (stepped-back {rs = rs} bytes r a b g h t) m first ew er =
+from-there F o (stepped-back {rs = rs} bytes r a b map g h t) m first ew er =
     let c = back-first F o bytes in
-    let e = back-seen F o first ew bytes (answerFirst (pastOf bytes (F .first))) 0 r a b c h in
-    let ih = from-there F o t 0 first (ap (λ (s : Seen). s .world) e) (ap (λ (s : Seen). untaken (s .answer) [] rs) e ∙ rw er (untaken-first F (pastOf bytes (F .first)))) in
+    let e = back-seen F o first ew bytes (answerFirst (pastOf bytes (F .first) (F .map))) 0 r a b map c h in
+    let ih = from-there F o t 0 first (ap (λ (s : Seen). s .world) e) (ap (λ (s : Seen). untaken (s .answer) [] rs) e ∙ rw er (untaken-first F (pastOf bytes (F .first) (F .map)))) in
     rw (e, ih)
-from-there F o (stepped-back {rs = rs} bytes r a b g h t) m (next {m = n} x i p q d l) ew er =
+from-there F o (stepped-back {rs = rs} bytes r a b map g h t) m (next {m = n} x i p q d l) ew er =
     let c = back-taken F o (next x i p q d l) in
-    let k : MeetsBack _ (recordAt F n) r (record { a = a; b = b; state = r .state }) = rw (handed-latest F n bytes (rw er at g)) at h in
-    let e = back-seen F o (next x i p q d l) ew (recordAt F n) tookBack n r a b c k in
+    let k : MeetsBack _ (recordAt F n) r (record { a = a; b = b; map = map; state = r .state }) = rw (handed-latest F n bytes (rw er at g)) at h in
+    let e = back-seen F o (next x i p q d l) ew (recordAt F n) tookBack n r a b map c k in
     let ih = from-there F o t n p (ap (λ (s : Seen). s .world) e) (ap (λ (s : Seen). untaken (s .answer) [] rs) e ∙ rw er (untaken-back F n)) in
     rw (e, ih)
 
 -- the world after an opening is the model's first
-pub opened-stands : (F : Film) → _≡_ {A = World} (record { a = F .first; b = F .first; state = opened (F .sizes) (F .start) (F .end) }) (stands F 0)
-unfolding stands picture placeAt isOdd
+pub opened-stands : (F : Film) → _≡_ {A = World} (record { a = F .first; b = F .first; map = F .map; state = opened (F .sizes) (F .start) (F .end) }) (stands F 0)
+unfolding stands picture placeAt mapAt isOdd
 opened-stands F = refl

@@ -1,5 +1,5 @@
 -- What an opening that wasn't refused fixes: the model reads the same of the file; sizes within the limits, a picture of a frame's length,
--- and places within the file.
+-- a map of its length, and places within the file.
 use Prim.Native.Nat.{ℕ, _≤_}
 use native.Mathlib.Omega.{arith}
 use mathlib.Core.Bool.{Bool, true, false}
@@ -10,26 +10,32 @@ use lib.Dec.{leb, eqb}
 use lib.ListN.{length, take}
 use lib.Seq.{length-take-le}
 use Rattle.laws.specs.Result.{Res, Res.ok, _>>=_, need, orRefuse, pick}
-use Rattle.laws.proofs.ResultLaws.{Each, Each.each, Each.no-value, each-self, each-any, each-bind, each-need, each-is}
+use Rattle.laws.proofs.ResultLaws.{Each, Each.each, Each.no-value, each-self, each-any, each-map, each-bind, each-need, each-is}
 use Rattle.laws.proofs.StoreLaws.{part-of-part}
-use Rattle.iff.specs.Ids.{BMHD, BODY, DLTA}
+use Rattle.iff.specs.Ids.{BMHD, BODY, CMAP, ANHD, DLTA}
 use Rattle.iff.specs.Chunk.{has, contents}
 use Rattle.form.specs.Form.{FormIlbm, chunksOf, animEnd, nextForm}
 use Rattle.form.proofs.FormLaws.{anim-closes}
 use Rattle.bmhd.specs.declared.Header.{Header}
 use Rattle.bmhd.specs.Header.{bitmapHeader}
-use Rattle.state.specs.State.{frameBytes, frameLength, opened, Sound}
+use Rattle.body.specs.Body.{body}
+use Rattle.anhd.specs.Anhd.{frameHeader}
+use Rattle.delta.specs.Reading.{shapeOf}
+use Rattle.delta.specs.Delta.{readDelta}
+use Rattle.colours.specs.Colours.{MAP, colours}
+use Rattle.state.specs.State.{rowBytes, frameBytes, frameLength, opened, Sound}
 use Rattle.state.proofs.StateLaws.{sizes-sound}
-use Rattle.opening.specs.Open.{Places, bodyIn, placesIn, firstPlaces, firstDelta, firstPicture, First, firstOf, filmOf, opening}
+use Rattle.opening.specs.Open.{Places, bodyIn, placesIn, firstPlaces, firstDelta, firstBody, firstPicture, firstMap, First, firstOf, filmOf, opening}
 use Rattle.opening.proofs.OpenLaws.{places-lie, header-same, first-long}
 use Rattle.state.specs.Film.{Film}
-use Rattle.model.specs.Model.{onZeros, pictureOne, film}
+use Rattle.model.specs.Model.{onZeros, pictureOne, mapOne, film}
 
 -- what opening gives
 pub record Opened (F : Film) : Type 0 where
   pub sizes : frameLength (F .sizes) ≡ ok (frameBytes (F .sizes))
   pub sound : Sound (F .sizes) (frameBytes (F .sizes))
   pub whole : length (F .first) ≡ frameBytes (F .sizes)
+  pub mapLong : length (F .map) ≡ MAP
   pub from : 12 ≤ F .start
   pub inside : F .start ≤ F .end
   pub short : F .end ≤ 2_147_483_647
@@ -72,39 +78,48 @@ places-found file = each-need (leb (length file) 2_147_483_647) 13 _ λ _. each-
         each c
 
 -- the model's first picture is opening's
-picture-same : (s : List ℕ) (z : Header) (t : Bool) → has s BODY ≡ ok t → pictureOne s z ≡ firstPicture s t z
-unfolding pictureOne onZeros firstPicture firstDelta
-picture-same s z true e = rw e refl
-picture-same s z false e = rw e refl
+picture-same : (s : List ℕ) (z : Header) (t : Bool) → has s BODY ≡ ok t → Each (λ (p : List ℕ). pictureOne s z ≡ ok p) (firstPicture s t z)
+unfolding pictureOne onZeros firstPicture firstBody firstDelta
+picture-same s z true e = each-any (colours (contents s CMAP)) λ _. each-map (λ p h. rw e h) (each-self (body (contents s BODY) (z .sizes) (z .packed)))
+picture-same s z false e =
+    each-bind (each-self (frameHeader true (rowBytes (z .sizes .width)) (contents s ANHD))) λ x h.
+    each-any (colours (contents s CMAP)) λ _.
+    each-bind (each-self (readDelta (shapeOf (z .sizes) (x .items)) (contents s DLTA))) λ ops r.
+    each (rw e (rw h (rw r refl)))
 
-film-in : (file s : List ℕ) (t : Bool) (end start a b : ℕ) → has s BODY ≡ ok t
-    → Each (λ (f : First). _≡_ {A = Res Film} (bitmapHeader (contents s BMHD) >>= λ z. pictureOne s z >>= λ p. ok (record { file = file; end = end; sizes = z .sizes; start = start; first = p })) (ok (filmOf file end start f)))
-    (firstOf s t a b)
-unfolding firstOf
-film-in file s t end start a b k =
+-- what the model reads of a first frame's chunks
+abbrev filmIn : List ℕ → List ℕ → ℕ → ℕ → Res Film
+filmIn file s end start =
+    bitmapHeader (contents s BMHD) >>= λ z.
+    pictureOne s z >>= λ p.
+    ok (record { file = file; end = end; sizes = z .sizes; start = start; first = p; map = mapOne s })
+
+film-in : (file s : List ℕ) (t : Bool) (end start a b map : ℕ) → has s BODY ≡ ok t → Each (λ (f : First). filmIn file s end start ≡ ok (filmOf file end start f)) (firstOf s t a b map)
+unfolding firstOf firstMap
+film-in file s t end start a b map k =
     each-bind (header-same s t) λ z e.
-    each-need (eqb a (z .length)) 12 _ λ _. each-need (eqb b (z .length)) 12 _ λ _.
-    each-bind (each-self (firstPicture s t z)) λ p h.
-    each (rw e (rw (picture-same s z t k ∙ h) refl))
+    each-need (eqb a (z .length)) 12 _ λ _. each-need (eqb b (z .length)) 12 _ λ _. each-need (eqb map MAP) 12 _ λ _.
+    each-bind (picture-same s z t k) λ p h.
+    each (rw e (rw h refl))
 
 -- the model reads the film that was opened
-film-read : (file : List ℕ) (a b : ℕ) {p : Places} {f : First} → firstPlaces file ≡ ok p → firstOf (chunksOf file (p .form)) (p .body) a b ≡ ok f
+film-read : (file : List ℕ) (a b map : ℕ) {p : Places} {f : First} → firstPlaces file ≡ ok p → firstOf (chunksOf file (p .form)) (p .body) a b map ≡ ok f
     → film file ≡ ok (filmOf file (p .end) (p .form .next) f)
 unfolding film
-film-read file a b {p} {f} e d =
+film-read file a b map {p} {f} e d =
     let l = each-is e (places-lie file) in
     let k = each-is e (places-found file) in
     let i : chunksOf (take (p .end) file) (p .form) ≡ chunksOf file (p .form) = part-of-part (p .form .start) (p .form .size) (p .end) file (omega (arith, l .chunks, l .stops)) in
-    rw (k .ends) (rw (k .form) (rw i (each-is d (film-in file (chunksOf file (p .form)) (p .body) (p .end) (p .form .next) a b (rw i at (k .body))))))
+    rw (k .ends) (rw (k .form) (rw i (each-is d (film-in file (chunksOf file (p .form)) (p .body) (p .end) (p .form .next) a b map (rw i at (k .body))))))
 
-pub opening-opened : (file : List ℕ) (a b : ℕ) → Each (OpenedAs file) (opening file a b)
+pub opening-opened : (file : List ℕ) (a b map : ℕ) → Each (OpenedAs file) (opening file a b map)
 unfolding opening
-opening-opened file a b =
+opening-opened file a b map =
     each-bind (each-self (firstPlaces file)) λ p e.
-    each-bind (each-self (firstOf (chunksOf file (p .form)) (p .body) a b)) λ f d.
+    each-bind (each-self (firstOf (chunksOf file (p .form)) (p .body) a b map)) λ f d.
     let l = each-is e (places-lie file) in
-    let g = each-is d (first-long (chunksOf file (p .form)) (p .body) a b) in
+    let g = each-is d (first-long (chunksOf file (p .form)) (p .body) a b map) in
     let k : Sound (f .sizes) a = each-is (g .sizes) (sizes-sound (f .sizes)) in
     let n : a ≡ frameBytes (f .sizes) = k .length in
     let m : p .end ≤ 2_147_483_647 = omega (arith, l .ends, l .short) in
-    each (record { same = refl; read = film-read file a b e d; opened = record { sizes = rw n at (g .sizes); sound = rw n at k; whole = g .picture ∙ n; from = l .starts; inside = l .stops; short = m; inFile = l .ends } })
+    each (record { same = refl; read = film-read file a b map e d; opened = record { sizes = rw n at (g .sizes); sound = rw n at k; whole = g .picture ∙ n; mapLong = g .map; from = l .starts; inside = l .stops; short = m; inFile = l .ends } })

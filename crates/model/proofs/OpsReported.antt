@@ -44,7 +44,7 @@ module _ (file : List ℕ) (bytes : Bytes file) (w : World) where
   ahead-ops : (work : ℕ) → Each (All (λ (y : Built). OpsRead file w (y .ops))) (lookAhead file w work)
   unfolding lookAhead look
   ahead-ops work =
-      each-any (ready (length file) (w .state) (length (w .a)) (length (w .b)) work) λ _.
+      each-any (ready (length file) (w .state) (length (w .a)) (length (w .b)) (length (w .map)) work) λ _.
       each-bind (each-self (frameAt (take (w .state .end) file) (w .state .next) (rowBytes (w .state .sizes .width)))) λ o e. built-ops o e
 
 -- of every step on that met its contract and is taken, in a file of bytes
@@ -52,6 +52,6 @@ pub ops-reported : (file : List ℕ) → Bytes file → (l : Lent) (r : SteppedO
 ops-reported file bytes l r l′ p m e =
     on-case (λ (o : After). o .answer ≡ tookOn p → OpsRead file (l .world) (p .ops)) (l .world) (length (l .rec)) file (length (l .work))
     (λ n q h. never (cc)) (λ q h. never (cc))
-    (λ x q h. let k : reportOf (l .world .state) (hiddenIn (l .world)) x ≡ p = cc in rw (ap (λ (t : Report). t .ops) k) at (each-some q (ahead-ops file bytes (l .world) (length (l .work)))))
+    (λ x q h. let k : reportOf (l .world) x ≡ p = cc in rw (ap (λ (t : Report). t .ops) k) at (each-some q (ahead-ops file bytes (l .world) (length (l .work)))))
     (λ x q f h. never (cc))
     (sym (m .answer) ∙ e)

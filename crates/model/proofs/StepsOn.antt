@@ -9,28 +9,29 @@ use lib.ListN.{length, take}
 use borrow.Author.Tests.{le-leb, eq-eqb, ltb-true}
 use Rattle.laws.specs.Result.{Res, Res.ok, Res.fault, _>>=_, need, pick}
 use Rattle.laws.proofs.ResultLaws.{made-of, made-refused}
-use Rattle.state.specs.State.{rowBytes, lentLength, moved}
+use Rattle.state.specs.State.{rowBytes, lentLength, stepLength, moved}
+use Rattle.colours.specs.Colours.{MAP, coloured}
 use Rattle.delta.specs.declared.Shape.{Shape}
 use Rattle.delta.specs.Reading.{shapeOf, Op}
 use Rattle.delta.specs.Delta.{readDelta, draw}
 use Rattle.frame.specs.Frame.{Frame, frameAt}
-use Rattle.state.specs.World.{isOdd, hiddenIn, withHidden}
+use Rattle.state.specs.World.{isOdd, withHidden}
 use Rattle.state.specs.After.{Answer, Answer.refused, Answer.ended, Answer.tookOn, After}
 use Rattle.step_on.specs.Step.{ready, change, Built, build, look, lookAhead, recordOf, settle, stepOn}
 use Rattle.step_on.proofs.CaseLaws.{commit-case}
 use Rattle.state.specs.Film.{Film}
-use Rattle.model.specs.Model.{here, named, built, builtAt, opsAt, placeAt, picture, recordAt, stands, reportAt, answerAt, answerOn, numberAfter, recordAfter}
+use Rattle.model.specs.Model.{here, named, built, builtAt, opsAt, placeAt, picture, mapAt, recordAt, stands, reportAt, answerAt, answerOn, numberAfter, recordAfter}
 use Rattle.model.proofs.Laws.{ops-same, odd-suc}
 use Rattle.model.proofs.Opened.{Opened, size}
-use Rattle.model.proofs.Reached.{Reached, place-next, picture-next, Good, good, state-good, hidden-is, shown-is, left-long, right-long, Comes, Reached.next, pick-left, pick-right}
+use Rattle.model.proofs.Reached.{Reached, place-next, map-next, picture-next, Good, good, state-good, hidden-is, shown-is, left-long, right-long, map-long, Comes, Reached.next, pick-left, pick-right}
 
 -- what is left of the tests of a step on
-pub ready-is : (F : Film) → Opened F → (m : ℕ) → Good F m → (work : ℕ) → ready (length (F .file)) (stands F m .state) (length (stands F m .a)) (length (stands F m .b)) work ≡ (need (eqb work (size F)) 12 >>= λ _. need (ltb (suc m) 1_000_000) 53)
-unfolding ready lentLength
+pub ready-is : (F : Film) → Opened F → (m : ℕ) → Good F m → (work : ℕ) → ready (length (F .file)) (stands F m .state) (length (stands F m .a)) (length (stands F m .b)) (length (stands F m .map)) work ≡ (need (eqb work (size F)) 12 >>= λ _. need (ltb (suc m) 1_000_000) 53)
+unfolding ready stepLength lentLength
 ready-is F o m k work =
     let e : stands F m .state .end ≡ F .end = unfold stands in refl in
     let f : stands F m .state .frame ≡ suc m = unfold stands in refl in
-    rw (state-good F o m k) (rw (e, f) (simp (le-leb (F .end) (length (F .file)) (o .inFile), eq-eqb (length (stands F m .a)) (size F) (left-long F m k), eq-eqb (length (stands F m .b)) (size F) (right-long F m k))))
+    rw (state-good F o m k) (rw (e, f) (simp (le-leb (F .end) (length (F .file)) (o .inFile), eq-eqb (length (stands F m .a)) (size F) (left-long F m k), eq-eqb (length (stands F m .b)) (size F) (right-long F m k), eq-eqb (length (stands F m .map)) MAP (map-long F m k))))
 
 -- what a frame makes there
 pub builtThere : Film → ℕ → Option Frame → Res (Option Built)
@@ -55,7 +56,7 @@ built-fault F m x n c = rw (made-refused (readDelta (shapeOf (F .sizes) (x .head
 
 -- frame m + 2 as it is built
 pub nextBuilt : Film → ℕ → Frame → Built
-nextBuilt F m x = record { picture = picture F (suc (suc m)); next = placeAt F (suc m); header = x .header; ops = opsAt F x }
+nextBuilt F m x = record { picture = picture F (suc (suc m)); next = placeAt F (suc m); header = x .header; ops = opsAt F x; cmap = x .cmap }
 
 pub built-ok : (F : Film) (m : ℕ) (x : Frame) (g : List ℕ) → here F (placeAt F m) ≡ ok (some x) → builtAt F m x ≡ ok g → builtThere F m (some x) ≡ ok (some (nextBuilt F m x))
 unfolding builtThere built change nextBuilt opsAt
@@ -72,21 +73,27 @@ built-ok F m x g e c = go (made-of (readDelta (shapeOf (F .sizes) (x .header .it
           next = sym (place-next F m x e) i;
           header = x .header;
           ops = ops-same _ _ _ x e (F .sizes) ops i;
+          cmap = x .cmap;
         })))
 
--- its record
-pub record-is : (F : Film) (m : ℕ) → recordOf (stands F m .state) (hiddenIn (stands F m)) (picture F (suc (suc m))) ≡ recordAt F m
-unfolding recordAt
-record-is F m =
-    let f : stands F m .state .frame ≡ suc m = unfold stands in refl in
-    let n : stands F m .state .next ≡ placeAt F m = unfold stands in refl in
-    rw (hidden-is F m, f, n) refl
+-- its map and its record
+module _ (F : Film) (m : ℕ) (x : Frame) (e : here F (placeAt F m) ≡ ok (some x)) where
+  map-is : coloured (stands F m .map) (x .cmap) ≡ mapAt F (suc m)
+  map-is = unfold stands in sym (map-next F m x e)
 
--- a step on that is taken stands at frame m + 2
-pub took-stands : (F : Film) (m : ℕ) → withHidden (stands F m) (picture F (suc (suc m))) (moved (stands F m .state) (suc (stands F m .state .frame)) (placeAt F (suc m))) ≡ stands F (suc m)
-unfolding stands withHidden
-took-stands F m =
-    rw (odd-suc (suc m), ← (pick-left (isOdd (suc m)) (picture F (suc m)) (picture F m) (picture F (suc (suc m)))), ← (pick-right (isOdd (suc m)) (picture F (suc m)) (picture F m) (picture F (suc (suc m)))))
+  pub record-is : recordOf (stands F m) (picture F (suc (suc m))) (x .cmap) ≡ recordAt F m
+  unfolding recordAt
+  record-is =
+      let f : stands F m .state .frame ≡ suc m = unfold stands in refl in
+      let n : stands F m .state .next ≡ placeAt F m = unfold stands in refl in
+      let c : stands F m .map ≡ mapAt F m = unfold stands in refl in
+      rw (map-is, hidden-is F m, f, n, c) refl
+
+  -- a step on that is taken stands at frame m + 2
+  pub took-stands : withHidden (stands F m) (picture F (suc (suc m))) (coloured (stands F m .map) (x .cmap)) (moved (stands F m .state) (suc (stands F m .state .frame)) (placeAt F (suc m))) ≡ stands F (suc m)
+  unfolding stands withHidden
+  took-stands =
+      rw (map-is, odd-suc (suc m), ← (pick-left (isOdd (suc m)) (picture F (suc m)) (picture F m) (picture F (suc (suc m)))), ← (pick-right (isOdd (suc m)) (picture F (suc m)) (picture F m) (picture F (suc (suc m)))))
 
 -- stepping on
 module _ (F : Film) (op : Opened F) (m : ℕ) (p : Reached F m) (room : ℕ) where
@@ -107,8 +114,8 @@ module _ (F : Film) (op : Opened F) (m : ℕ) (p : Reached F m) (room : ℕ) whe
   step-fits x g e c h =
       let y : Answer = pick (leb (length (recordAt F m)) room) (tookOn (reportAt F m x)) (refused 51) in
       commit-case (λ (o : After). Comes F m (numberAfter m y) y (recordAfter F m y) o) (stands F m) room (nextBuilt F m x)
-      (λ q. rw (rw (record-is F m) at q, record-is F m, hidden-is F m) (record { answer = refl; world = took-stands F m; bytes = refl; there = next x g p e c h }))
-      (λ q. rw (rw (record-is F m) at q) (record { answer = refl; world = refl; bytes = refl; there = p }))
+      (λ q. rw (rw (record-is F m x e) at q, record-is F m x e, hidden-is F m) (record { answer = refl; world = took-stands F m x e; bytes = refl; there = next x g p e c h }))
+      (λ q. rw (rw (record-is F m x e) at q) (record { answer = refl; world = refl; bytes = refl; there = p }))
 
   step-change : (x : Frame) → here F (placeAt F m) ≡ ok (some x) → suc m < 1_000_000 → (c : Res (List ℕ)) → builtAt F m x ≡ c
       → Step (builtThere F m (some x)) (answerAt F m room (ok (some x)))

@@ -1,9 +1,9 @@
--- The model of demand 3 (document 01, "Opening, stepping on, stepping back", and document 02, E1, E5, E7 and E8). It is fed the file and the
+-- The model of demand 3 (document 01, "Opening, stepping on, stepping back", and document 02, E1 and E5 to E8). It is fed the file and the
 -- calls in order, and holds a number n, at first 1. Here m is n − 1: picture m + 1 is shown at n, and picture m hidden, where picture 0 is
 -- picture 1 too.
--- With opening and the steps it shares the readings of chunks, BMHD, BODY, ANHD, deltas and records, what ops draw, the bytes of a record,
--- the lengths of a row and of a frame, how many bytes differ, what an odd number is, the ids of chunks, and the types of what a file
--- fixes, of what is handed on and of what is answered; and nothing of what an opening or a step comes to.
+-- With opening and the steps it shares the readings of chunks, BMHD, BODY, ANHD, CMAP, deltas and records, what ops draw, what a CMAP makes of a
+-- map, the bytes of a record, the lengths of a row and of a frame, how many bytes differ, what an odd number is, the ids of chunks, and the
+-- types of what a file fixes, of what is handed on and of what is answered; and nothing of what an opening or a step comes to.
 use Prim.Native.Nat.{ℕ, zero, suc}
 use mathlib.Core.Bool.{true, _||_}
 use mathlib.Core.List.{List, [], _∷_}
@@ -14,7 +14,7 @@ use Rattle.laws.specs.Result.{Res, Res.ok, Res.fault, _>>=_, orRefuse, pick, or
 use Rattle.state.specs.State.{rowBytes, frameBytes}
 use Rattle.state.specs.declared.Sizes.{Sizes}
 use Rattle.state.specs.Film.{Film}
-use Rattle.iff.specs.Ids.{BMHD, BODY, ANHD, DLTA}
+use Rattle.iff.specs.Ids.{BMHD, BODY, CMAP, ANHD, DLTA}
 use Rattle.iff.specs.Chunk.{has, contents}
 use Rattle.form.specs.Form.{chunksOf, animEnd, nextForm}
 use Rattle.bmhd.specs.Header.{bitmapHeader}
@@ -23,6 +23,7 @@ use Rattle.body.specs.Body.{body}
 use Rattle.anhd.specs.Anhd.{frameHeader}
 use Rattle.delta.specs.Reading.{shapeOf, Op}
 use Rattle.delta.specs.Delta.{readDelta, draw}
+use Rattle.colours.specs.Colours.{unset, coloured}
 use Rattle.runs.specs.Runs.{differing}
 use Rattle.record.specs.Record.{recordBytes, Past, pastOf}
 use Rattle.frame.specs.Frame.{Frame, frameAt}
@@ -30,12 +31,12 @@ use Rattle.state.specs.World.{World, isOdd}
 use Rattle.state.specs.declared.Report.{Report}
 use Rattle.state.specs.After.{Answer, Answer.refused, Answer.ended, Answer.tookOn, Answer.tookBack}
 
--- a call, with what it is lent besides the file, the pictures and the state: the lengths of the work and record buffers, or bytes
+-- a call, with what it is lent besides the file, the pictures, the map and the state: the lengths of the work and record buffers, or bytes
 pub data Call : Type 0 where
   on : ℕ → ℕ → Call
   back : List ℕ → Call
 
--- what is seen after a call: its answer, the pictures and the state, and a taken step on's record
+-- what is seen after a call: its answer, the pictures, the map and the state, and a taken step on's record
 pub record Seen : Type 0 where
   pub answer : Answer
   pub world : World
@@ -54,6 +55,10 @@ pictureOne s z =
     has s BODY >>= λ t.
     pick t (body (contents s BODY) (z .sizes) (z .packed)) (onZeros (z .sizes) (contents s ANHD) (contents s DLTA))
 
+-- the map at frame 1: zeros, with the colours of its CMAP
+abbrev pub mapOne : List ℕ → List ℕ
+mapOne s = coloured unset (contents s CMAP)
+
 -- what a file fixes; frame 1 is the first FORM ILBM of FORM ANIM. Which files are refused, and with which number, is opening's to say: demand 3
 -- speaks of files that were opened
 unfoldable pub film : List ℕ → Res Film
@@ -63,7 +68,7 @@ film file =
     orRefuse 23 o >>= λ x.
     bitmapHeader (contents (chunksOf (take end file) x) BMHD) >>= λ z.
     pictureOne (chunksOf (take end file) x) z >>= λ f.
-    ok (record { file = file; end = end; sizes = z .sizes; start = x .next; first = f })
+    ok (record { file = file; end = end; sizes = z .sizes; start = x .next; first = f; map = mapOne (chunksOf (take end file) x) })
 
 -- the next frame from a place on, if there is one
 abbrev pub here : Film → ℕ → Res (Option Frame)
@@ -102,6 +107,17 @@ picture F zero = F .first
 picture F (suc zero) = F .first
 picture F (suc (suc k)) = drawn F (picture F (suc k)) (picture F k) (here F (placeAt F k))
 
+-- a map with the colours of the frame at a place, if there is one
+unfoldable pub colouredBy : List ℕ → Res (Option Frame) → List ℕ
+colouredBy map (ok (some x)) = coloured map (x .cmap)
+colouredBy map (ok none) = map
+colouredBy map (fault n) = map
+
+-- the map at frame m + 1: zeros, with the CMAPs of frames 1 to m + 1 applied in turn
+unfoldable pub mapAt : Film → ℕ → List ℕ
+mapAt F zero = F .map
+mapAt F (suc m) = colouredBy (mapAt F m) (here F (placeAt F m))
+
 -- how many ops of a frame count: each op of each list that is read, once for each plane; those of words, methods 2 and 3, don't
 abbrev pub opsCounted : Frame → List Op → ℕ
 opsCounted x ops = pick (eqb (x .header .method) 2 || eqb (x .header .method) 3) 0 (length ops)
@@ -114,15 +130,16 @@ opsAt F x = orKeep 0 (readDelta (shapeOf (F .sizes) (x .header .items)) (x .dlta
 abbrev pub builtAt : Film → ℕ → Frame → Res (List ℕ)
 builtAt F m x = built F x (picture F (suc m)) (picture F m)
 
--- the record of the step from frame m + 1 to frame m + 2: the hidden picture before and after
+-- the record of the step from frame m + 1 to frame m + 2: the hidden picture and the map, before and after
 unfoldable pub recordAt : Film → ℕ → List ℕ
-recordAt F m = recordBytes (suc (suc m)) (placeAt F m) (picture F m) (picture F (suc (suc m)))
+recordAt F m = recordBytes (suc (suc m)) (placeAt F m) (picture F m) (picture F (suc (suc m))) (mapAt F m) (mapAt F (suc m))
 
 -- what stands at frame m + 1
 unfoldable pub stands : Film → ℕ → World
 stands F m = record {
   a = pick (isOdd (suc m)) (picture F (suc m)) (picture F m);
   b = pick (isOdd (suc m)) (picture F m) (picture F (suc m));
+  map = mapAt F m;
   state = record { sizes = F .sizes; frame = suc m; next = placeAt F m; end = F .end };
 }
 
@@ -147,7 +164,7 @@ answerAt F m room (ok none) = ended
 answerAt F m room (ok (some x)) = answerFor F m room x (builtAt F m x)
 
 -- a step on from frame m + 1: the first refusal in the order 12, 53, those of the frame, 51; or End; or it is taken. Its state is
--- within the limits and its pictures have a frame's length, so that neither 11 nor 12 for A or B can be met.
+-- within the limits, its pictures have a frame's length and its map 768 bytes, so that neither 11 nor 12 for A, B or the map can be met.
 unfoldable pub answerOn : Film → ℕ → ℕ → ℕ → Answer
 answerOn F m work room =
     pick (eqb work (frameBytes (F .sizes)))
@@ -178,7 +195,7 @@ model F m [] = []
 model F m (on work room ∷ cs) =
     let x = answerOn F m work room in
     record { answer = x; world = stands F (numberAfter m x); bytes = recordAfter F m x } ∷ model F (numberAfter m x) cs
-model F zero (back bytes ∷ cs) = record { answer = answerFirst (pastOf bytes (F .first)); world = stands F zero; bytes = [] } ∷ model F zero cs
+model F zero (back bytes ∷ cs) = record { answer = answerFirst (pastOf bytes (F .first) (F .map)); world = stands F zero; bytes = [] } ∷ model F zero cs
 model F (suc m) (back bytes ∷ cs) = record { answer = tookBack; world = stands F m; bytes = [] } ∷ model F m cs
 
 -- what is seen of a file: after its opening, and after each call

@@ -14,19 +14,22 @@ use Rattle.laws.specs.Result.{Res, Res.ok, Res.fault, _>>=_, need, orRefuse, pi
 use Rattle.laws.proofs.ResultLaws.{Each, Each.each, Each.no-value, All, told, answer-refused, answered, each-any, each-self, each-map, each-need, each-bind, each-is, all-value}
 use Rattle.refusal.specs.Number.{numberOf}
 use Rattle.refusal.specs.declared.Refusal.{Refusal}
+use Rattle.refusal.specs.declared.Refusal.the-variants.{BadColours}
+use Rattle.colours.specs.Colours.{MAP, unset, goodLength, colours}
+use Rattle.colours.proofs.ColourLaws.{coloured-length, colours-bad, colours-good}
 use Rattle.state.specs.declared.State.{State}
 use Rattle.state.specs.State.{rowBytes, frameBytes, frameLength, opened, zeros}
 use Rattle.state.specs.World.{World}
 use Rattle.state.proofs.StateLaws.{sizes-sound}
 use Rattle.state.specs.Film.{Film}
-use Rattle.iff.specs.Ids.{BMHD, BODY, ANHD, DLTA}
+use Rattle.iff.specs.Ids.{BMHD, BODY, CMAP, ANHD, DLTA}
 use Rattle.iff.specs.Chunk.{has, contents}
 use Rattle.form.specs.Form.{FormIlbm, chunksOf, animEnd, nextForm}
 use Rattle.form.proofs.FormLaws.{Closes, Follows, anim-closes, form-follows}
 use Rattle.bmhd.specs.declared.Header.{Header}
 use Rattle.bmhd.specs.Header.{bitmapHeader}
 use Rattle.bmhd.proofs.HeaderLaws.{header-sizes}
-use Rattle.body.specs.Body.{body, unpack}
+use Rattle.body.specs.Body.{unpack}
 use Rattle.anhd.specs.declared.FrameHeader.{FrameHeader}
 use Rattle.anhd.specs.Anhd.{frameHeader}
 use Rattle.anhd.proofs.AnhdLaws.{header-read}
@@ -38,9 +41,9 @@ use Rattle.delta.proofs.ApplyLaws.{frame-delta, new-refused, new-drawn}
 use Rattle.state.specs.declared.Sizes.{Sizes}
 use Rattle.opening.specs.declared.Opening.the-variants.{Opened, Refused}
 use Rattle.opening.specs.declared.OpenedFile.{OpenedFile}
-use Rattle.opening.specs.declared.Filled.{Filled}
-use Rattle.opening.specs.declared.Filled.the-variants.{Done, Refused as NotFilled}
-use Rattle.opening.specs.Open.{Places, bodyIn, placesIn, firstPlaces, firstHeader, frameSize, firstDelta, firstPicture, First, firstOf, opening, Opens}
+use Rattle.opening.specs.declared.picture.Filled.{Filled}
+use Rattle.opening.specs.declared.picture.Filled.the-variants.{Done, Refused as NotFilled}
+use Rattle.opening.specs.Open.{Places, bodyIn, placesIn, firstPlaces, firstHeader, frameSize, firstDelta, firstBody, firstPicture, firstMap, First, firstOf, opening, Opens}
 use Rattle.opening.specs.Parts.{OpensFirst, filledOf, Fills}
 
 -- the walk through FORM ANIM
@@ -117,28 +120,30 @@ module _ (file : List ℕ) where
   size-header e i k = rw e (rw (rw i at k))
 
 -- a refused opening
-opens-refused : {q : Res Film} {why : Refusal} {r : OpenedFile} {a b : List ℕ} → q ≡ fault (numberOf why) → r ≡ record { answer = Refused why; state = zeros } → Opens q a b r (record { a = a; b = b; state = r .state })
+opens-refused : {q : Res Film} {why : Refusal} {r : OpenedFile} {a b map : List ℕ} → q ≡ fault (numberOf why) → r ≡ record { answer = Refused why; state = zeros }
+    → Opens q a b map r (record { a = a; b = b; map = map; state = r .state })
 opens-refused e h = rw (e, h) (record { answer = refl; left = refl })
 
-pub first-refused : {end start : ℕ} {q : Res First} {why : Refusal} {r : OpenedFile} {a b a′ : List ℕ} → q ≡ fault (numberOf why) → r ≡ record { answer = Refused why; state = zeros } → a′ ≡ a
-    → OpensFirst q start end a b r (record { a = a′; b = b; state = r .state })
+pub first-refused : {end start : ℕ} {q : Res First} {why : Refusal} {r : OpenedFile} {a b map a′ : List ℕ} → q ≡ fault (numberOf why) → r ≡ record { answer = Refused why; state = zeros } → a′ ≡ a
+    → OpensFirst q start end a b map r (record { a = a′; b = b; map = map; state = r .state })
 first-refused e h l = rw l (record { opens = λ file. opens-refused (rw e) h })
 
 -- an opening that is taken
-pub first-opened : {end start : ℕ} {q : Res First} {p : First} {s : State} {a b a′ b′ : List ℕ} → q ≡ ok p → s ≡ opened (p .sizes) start end → a′ ≡ p .picture → b′ ≡ p .picture
-    → OpensFirst q start end a b (record { answer = Opened; state = s }) (record { a = a′; b = b′; state = s })
-first-opened e h l m = rw (e, h, l, m) (record { opens = λ file. record { answer = refl; left = refl } })
+pub first-opened : {end start : ℕ} {q : Res First} {p : First} {s : State} {a b map a′ b′ map′ : List ℕ} → q ≡ ok p → s ≡ opened (p .sizes) start end
+    → a′ ≡ p .picture → b′ ≡ p .picture → map′ ≡ p .map → OpensFirst q start end a b map (record { answer = Opened; state = s }) (record { a = a′; b = b′; map = map′; state = s })
+first-opened e h l m n = rw (e, h, l, m, n) (record { opens = λ file. record { answer = refl; left = refl } })
 
 -- a file that is opened
-pub opens-nowhere : (file a b : List ℕ) {why : Refusal} {r : OpenedFile} → firstPlaces file ≡ fault (numberOf why) → r ≡ record { answer = Refused why; state = zeros }
-    → Opens (opening file (length a) (length b)) a b r (record { a = a; b = b; state = r .state })
-unfolding opening
-opens-nowhere file a b e h = opens-refused (rw e) h
+module _ (file a b map : List ℕ) where
+  pub opens-nowhere : {why : Refusal} {r : OpenedFile} → firstPlaces file ≡ fault (numberOf why) → r ≡ record { answer = Refused why; state = zeros }
+      → Opens (opening file (length a) (length b) (length map)) a b map r (record { a = a; b = b; map = map; state = r .state })
+  unfolding opening
+  opens-nowhere e h = opens-refused (rw e) h
 
-pub opens-at : (file a b : List ℕ) {p : Places} (s : List ℕ) {r : OpenedFile} {w : World} → firstPlaces file ≡ ok p → s ≡ chunksOf file (p .form)
-    → OpensFirst (firstOf s (p .body) (length a) (length b)) (p .form .next) (p .end) a b r w → Opens (opening file (length a) (length b)) a b r w
-unfolding opening
-opens-at file a b s e i o = rw e (rw i at (o .opens file))
+  pub opens-at : {p : Places} (s : List ℕ) {r : OpenedFile} {w : World} → firstPlaces file ≡ ok p → s ≡ chunksOf file (p .form)
+      → OpensFirst (firstOf s (p .body) (length a) (length b) (length map)) (p .form .next) (p .end) a b map r w → Opens (opening file (length a) (length b) (length map)) a b map r w
+  unfolding opening
+  opens-at s e i o = rw e (rw i at (o .opens file))
 
 -- a first picture's header is what its BMHD says, and so is of a frame within the limits
 pub header-same : (s : List ℕ) (t : Bool) → Each (λ (z : Header). bitmapHeader (contents s BMHD) ≡ ok z) (firstHeader s t)
@@ -152,53 +157,39 @@ pub first-fits : (s : List ℕ) (t : Bool) {z : Header} {a : ℕ} → firstHeade
 first-fits s t e l = rw l (each-is e (first-sizes s t))
 
 -- the chunks of a first frame
-module _ (s : List ℕ) (t : Bool) (a b : ℕ) where
-  pub first-unread : {n : ℕ} → firstHeader s t ≡ fault n → firstOf s t a b ≡ fault n
+module _ (s : List ℕ) (t : Bool) (a b map : ℕ) where
+  pub first-unread : {n : ℕ} → firstHeader s t ≡ fault n → firstOf s t a b map ≡ fault n
   unfolding firstOf
   first-unread e = rw e
 
   module _ {z : Header} (e : firstHeader s t ≡ ok z) where
-    pub first-left : (a ≡ z .length → ⊥) → firstOf s t a b ≡ fault 12
+    pub first-left : (a ≡ z .length → ⊥) → firstOf s t a b map ≡ fault 12
     unfolding firstOf
     first-left l = simp (e, ne-eqb a (z .length) l)
 
     module _ (l : a ≡ z .length) where
-      pub first-right : (b ≡ z .length → ⊥) → firstOf s t a b ≡ fault 12
+      pub first-right : (b ≡ z .length → ⊥) → firstOf s t a b map ≡ fault 12
       unfolding firstOf
       first-right m = simp (e, eq-eqb a (z .length) l, ne-eqb b (z .length) m)
 
       module _ (m : b ≡ z .length) where
-        pub first-is : firstOf s t a b ≡ (firstPicture s t z >>= λ p. ok (record { sizes = z .sizes; picture = p }))
+        pub first-unmapped : (map ≡ MAP → ⊥) → firstOf s t a b map ≡ fault 12
         unfolding firstOf
-        first-is = simp (e, eq-eqb a (z .length) l, eq-eqb b (z .length) m)
+        first-unmapped n = simp (e, eq-eqb a (z .length) l, eq-eqb b (z .length) m, ne-eqb map MAP n)
 
-        pub first-bad : {n : ℕ} → answer (firstPicture s t z) ≡ fault n → firstOf s t a b ≡ fault n
-        first-bad k = rw (first-is, answer-refused (firstPicture s t z) k)
+        module _ (o : map ≡ MAP) where
+          pub first-is : firstOf s t a b map ≡ (firstPicture s t z >>= λ p. ok (record { sizes = z .sizes; picture = p; map = firstMap s }))
+          unfolding firstOf
+          first-is = simp (e, eq-eqb a (z .length) l, eq-eqb b (z .length) m, eq-eqb map MAP o)
 
-        pub first-taken : (x y : List ℕ) → answer (firstPicture s t z) ≡ ok tt → x ≡ orKeep y (firstPicture s t z) → firstOf s t a b ≡ ok (record { sizes = z .sizes; picture = x })
-        first-taken x y k h = let w = answered (firstPicture s t z) (sym k) in rw (first-is, h, w .1)
+          pub first-bad : {n : ℕ} → answer (firstPicture s t z) ≡ fault n → firstOf s t a b map ≡ fault n
+          first-bad k = rw (first-is, answer-refused (firstPicture s t z) k)
 
--- a first picture of n bytes, the length of a frame of its sizes
-pub record FrameLong (n : ℕ) (f : First) : Type 0 where
-  pub sizes : frameLength (f .sizes) ≡ ok n
-  pub picture : length (f .picture) ≡ n
+          pub first-taken : (x y : List ℕ) → answer (firstPicture s t z) ≡ ok tt → x ≡ orKeep y (firstPicture s t z)
+              → firstOf s t a b map ≡ ok (record { sizes = z .sizes; picture = x; map = firstMap s })
+          first-taken x y k h = let w = answered (firstPicture s t z) (sym k) in rw (first-is, h, w .1)
 
-picture-length : (s : List ℕ) (t : Bool) (z : Header) → Each (λ (p : List ℕ). length p ≡ frameBytes (z .sizes)) (firstPicture s t z)
-unfolding firstPicture firstDelta
-picture-length s true z = body-length (z .packed) (z .sizes) (contents s BODY)
-picture-length s false z =
-    each-any (frameHeader true (rowBytes (z .sizes .width)) (contents s ANHD)) λ h. each-any (readDelta (shapeOf (z .sizes) (h .items)) (contents s DLTA)) λ ops.
-    each (draw-length (shapeOf (z .sizes) (h .items)) (contents s DLTA) ops (replicate (frameBytes (z .sizes)) 0) ∙ length-replicate {A = ℕ} (frameBytes (z .sizes)) 0)
-
-pub first-long : (s : List ℕ) (t : Bool) (a b : ℕ) → Each (FrameLong a) (firstOf s t a b)
-unfolding firstOf
-first-long s t a b =
-    each-bind (first-sizes s t) λ z e.
-    each-need (eqb a (z .length)) 12 _ λ l. each-need (eqb b (z .length)) 12 _ λ _.
-    each-bind (picture-length s t z) λ p n.
-    let i : a ≡ z .length = eqb-true a (z .length) l in
-    each (record { sizes = rw i e; picture = n ∙ sym (each-is e (sizes-sound (z .sizes)) .length) ∙ sym i })
-
+-- what filling A comes to
 pub fills-kept : {q : Res (List ℕ)} {a a′ : List ℕ} {r : Filled} {why : Refusal} → Fills q a r a′ → r ≡ NotFilled why → a′ ≡ a
 fills-kept {q} d e = rw (answer-refused q (told filledOf (d .answer) e)) at (d .left)
 
@@ -209,36 +200,74 @@ fills-done : {q : Res (List ℕ)} {a a′ : List ℕ} → q ≡ ok a′ → Fill
 fills-done e = rw e (record { answer = refl; left = refl })
 
 -- a BODY that is unpacked
-module _ (packed : Bool) (z : Sizes) (d a : List ℕ) (e : frameLength z ≡ ok (length a)) where
-  body-is : unpack (length a) d z packed ≡ body d z packed
-  body-is = picture-body packed z d (length a) e refl
+module _ (packed : Bool) (z : Sizes) (c d a : List ℕ) where
+  pub body-uncoloured : goodLength (length c) ≡ false → Fills (firstBody c d z packed) a (NotFilled BadColours) a
+  unfolding firstBody
+  body-uncoloured g = fills-refused (rw (colours-bad c g)) refl
 
-  pub body-bad : {why : Refusal} {g : List ℕ} → answer (unpack (length a) d z packed) ≡ fault (numberOf why) → g ≡ orKeep a (unpack (length a) d z packed) → Fills (body d z packed) a (NotFilled why) g
-  body-bad q l =
-      let k : unpack (length a) d z packed ≡ fault _ = answer-refused (unpack (length a) d z packed) q in
-      fills-refused (sym body-is ∙ k) (rw k at l)
+  module _ (e : frameLength z ≡ ok (length a)) (g : goodLength (length c) ≡ true) where
+    body-is : firstBody c d z packed ≡ unpack (length a) d z packed
+    unfolding firstBody
+    body-is = rw (colours-good c g) (sym (picture-body packed z d (length a) e refl))
 
-  pub body-done : {g : List ℕ} → answer (unpack (length a) d z packed) ≡ ok tt → g ≡ orKeep a (unpack (length a) d z packed) → Fills (body d z packed) a Done g
-  body-done q l =
-      let k = answered (unpack (length a) d z packed) (sym q) in
-      fills-done (sym body-is ∙ rw (l, k .1) refl)
+    pub body-bad : {why : Refusal} {p : List ℕ} → answer (unpack (length a) d z packed) ≡ fault (numberOf why) → p ≡ orKeep a (unpack (length a) d z packed) → Fills (firstBody c d z packed) a (NotFilled why) p
+    body-bad q l =
+        let k : unpack (length a) d z packed ≡ fault _ = answer-refused (unpack (length a) d z packed) q in
+        fills-refused (body-is ∙ k) (rw k at l)
+
+    pub body-done : {p : List ℕ} → answer (unpack (length a) d z packed) ≡ ok tt → p ≡ orKeep a (unpack (length a) d z packed) → Fills (firstBody c d z packed) a Done p
+    body-done q l =
+        let k = answered (unpack (length a) d z packed) (sym q) in
+        fills-done (body-is ∙ rw (l, k .1) refl)
 
 -- a delta that is drawn into zeros
-module _ (h d : List ℕ) (z : Sizes) (a : List ℕ) (e : frameLength z ≡ ok (length a)) where
-  pub delta-unread : {why : Refusal} → frameHeader true (rowBytes (z .width)) h ≡ fault (numberOf why) → Fills (firstDelta h d z) a (NotFilled why) a
+module _ (h c d : List ℕ) (z : Sizes) (a : List ℕ) where
+  pub delta-unread : {why : Refusal} → frameHeader true (rowBytes (z .width)) h ≡ fault (numberOf why) → Fills (firstDelta h c d z) a (NotFilled why) a
   unfolding firstDelta
   delta-unread q = fills-refused (rw q) refl
 
   module _ {x : FrameHeader} (q : frameHeader true (rowBytes (z .width)) h ≡ ok x) where
-    delta-is : firstDelta h d z ≡ newFrame (length a) (replicate (length a) 0) d z (x .items)
-    unfolding firstDelta newFrame
-    delta-is =
-        let n : length a ≡ frameBytes z = each-is e (sizes-sound z) .length in
-        let k = frame-delta z (x .items) d (length (replicate {A = ℕ} (length a) 0)) (length a) e (length-replicate {A = ℕ} (length a) 0) refl (each-is q (header-read true (rowBytes (z .width)) h) .columns) in
-        rw q (rw (k, n) refl)
+    pub delta-uncoloured : goodLength (length c) ≡ false → Fills (firstDelta h c d z) a (NotFilled BadColours) a
+    unfolding firstDelta
+    delta-uncoloured g = fills-refused (rw q (rw (colours-bad c g))) refl
 
-    pub delta-bad : {why : Refusal} {g : List ℕ} → Applies a (replicate (length a) 0) d z (x .items) (fault (numberOf why)) g → Fills (firstDelta h d z) a (NotFilled why) g
-    delta-bad p = let k = new-refused p in fills-refused (delta-is ∙ k) (rw k at (p .leaves))
+    module _ (e : frameLength z ≡ ok (length a)) (g : goodLength (length c) ≡ true) where
+      delta-is : firstDelta h c d z ≡ newFrame (length a) (replicate (length a) 0) d z (x .items)
+      unfolding firstDelta newFrame
+      delta-is =
+          let n : length a ≡ frameBytes z = each-is e (sizes-sound z) .length in
+          let k = frame-delta z (x .items) d (length (replicate {A = ℕ} (length a) 0)) (length a) e (length-replicate {A = ℕ} (length a) 0) refl (each-is q (header-read true (rowBytes (z .width)) h) .columns) in
+          rw q (rw (colours-good c g) (rw (k, n) refl))
 
-    pub delta-done : {n : ℕ} {g : List ℕ} → Applies a (replicate (length a) 0) d z (x .items) (ok n) g → Fills (firstDelta h d z) a Done g
-    delta-done p = fills-done (delta-is ∙ new-drawn p)
+      pub delta-bad : {why : Refusal} {p : List ℕ} → Applies a (replicate (length a) 0) d z (x .items) (fault (numberOf why)) p → Fills (firstDelta h c d z) a (NotFilled why) p
+      delta-bad w = let k = new-refused w in fills-refused (delta-is ∙ k) (rw k at (w .leaves))
+
+      pub delta-done : {n : ℕ} {p : List ℕ} → Applies a (replicate (length a) 0) d z (x .items) (ok n) p → Fills (firstDelta h c d z) a Done p
+      delta-done w = fills-done (delta-is ∙ new-drawn w)
+
+-- a first picture of n bytes, the length of a frame of its sizes, with a map as long as all are
+pub record FrameLong (n : ℕ) (f : First) : Type 0 where
+  pub sizes : frameLength (f .sizes) ≡ ok n
+  pub picture : length (f .picture) ≡ n
+  pub map : length (f .map) ≡ MAP
+
+picture-length : (s : List ℕ) (t : Bool) (z : Header) → Each (λ (p : List ℕ). length p ≡ frameBytes (z .sizes)) (firstPicture s t z)
+unfolding firstPicture firstBody firstDelta
+picture-length s true z = each-any (colours (contents s CMAP)) λ _. body-length (z .packed) (z .sizes) (contents s BODY)
+picture-length s false z =
+    each-any (frameHeader true (rowBytes (z .sizes .width)) (contents s ANHD)) λ h. each-any (colours (contents s CMAP)) λ _.
+    each-any (readDelta (shapeOf (z .sizes) (h .items)) (contents s DLTA)) λ ops.
+    each (draw-length (shapeOf (z .sizes) (h .items)) (contents s DLTA) ops (replicate (frameBytes (z .sizes)) 0) ∙ length-replicate {A = ℕ} (frameBytes (z .sizes)) 0)
+
+map-length : (s : List ℕ) → length (firstMap s) ≡ MAP
+unfolding firstMap
+map-length s = coloured-length unset (contents s CMAP) ∙ length-replicate {A = ℕ} MAP 0
+
+pub first-long : (s : List ℕ) (t : Bool) (a b map : ℕ) → Each (FrameLong a) (firstOf s t a b map)
+unfolding firstOf
+first-long s t a b map =
+    each-bind (first-sizes s t) λ z e.
+    each-need (eqb a (z .length)) 12 _ λ l. each-need (eqb b (z .length)) 12 _ λ _. each-need (eqb map MAP) 12 _ λ _.
+    each-bind (picture-length s t z) λ p n.
+    let i : a ≡ z .length = eqb-true a (z .length) l in
+    each (record { sizes = rw i e; picture = n ∙ sym (each-is e (sizes-sound (z .sizes)) .length) ∙ sym i; map = map-length s })

@@ -7,8 +7,8 @@ use Rattle.laws.specs.Result.{Res, Res.ok, Res.fault, _>>=_, answer, orKeep}
 use Rattle.refusal.specs.Number.{numberOf}
 use Rattle.state.specs.World.{World}
 use Rattle.opening.specs.declared.OpenedFile.{OpenedFile}
-use Rattle.opening.specs.declared.Filled.{Filled}
-use Rattle.opening.specs.declared.Filled.the-variants.{Done, Refused as NotFilled}
+use Rattle.opening.specs.declared.picture.Filled.{Filled}
+use Rattle.opening.specs.declared.picture.Filled.the-variants.{Done, Refused as NotFilled}
 use Rattle.opening.specs.declared.HasBody.{HasBody}
 use Rattle.opening.specs.declared.HasBody.the-variants.{Picture, Refused as NotThere}
 use Rattle.opening.specs.declared.Located.{Located}
@@ -29,8 +29,8 @@ placesOf (At end nx start len there) = ok (record { end = end; form = record { s
 placesOf (Refused why) = fault (numberOf why)
 
 -- a first picture in whatever file, with its end place and the place after its FORM
-pub record OpensFirst (q : Res First) (start end : ℕ) (a b : List ℕ) (r : OpenedFile) (w : World) : Type 0 where
-  pub opens : (file : List ℕ) → Opens (q >>= λ p. ok (filmOf file end start p)) a b r w
+pub record OpensFirst (q : Res First) (start end : ℕ) (a b map : List ℕ) (r : OpenedFile) (w : World) : Type 0 where
+  pub opens : (file : List ℕ) → Opens (q >>= λ p. ok (filmOf file end start p)) a b map r w
 
 -- what a call that fills a buffer a with a picture answers and leaves: all or nothing
 pub record Fills (q : Res (List ℕ)) (a : List ℕ) (r : Filled) (a′ : List ℕ) : Type 0 where

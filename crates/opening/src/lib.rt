@@ -1,19 +1,21 @@
-// Opening: both picture buffers get the first picture of a file. The length of its frame can be asked before, by `frame_size`.
+// Opening: both picture buffers get the first picture of a file, and the map its colours. The length of its frame can be asked before, by
+// `frame_size`.
 ghost use mathlib.Core.Path.{_≡_};
 ghost use lib.ListN.{length};
 ghost use Rattle.opening.specs.declared.Opening.the-variants.{Refused};
-ghost use Rattle.laws.specs.Result.{Res.ok};
-ghost use Rattle.body.specs.Body.{body as bodyOf};
-ghost use Rattle.state.specs.State.{frameLength, zeros};
+ghost use Rattle.state.specs.State.{zeros};
 ghost use Rattle.bmhd.specs.Header.{bmhdOf};
-ghost use Rattle.opening.specs.Open.{bodyIn, placesIn, firstPlaces, firstHeader, frameSize, firstDelta, firstPicture, firstOf, sizeOf, MeetsOpen};
-ghost use Rattle.opening.specs.Parts.{hasBodyOf, placesOf, Fills, OpensFirst};
-use anhd::Anhd;
+ghost use Rattle.opening.specs.Open.{bodyIn, placesIn, firstPlaces, firstHeader, frameSize, firstOf, sizeOf, MeetsOpen};
+ghost use Rattle.opening.specs.Parts.{hasBodyOf, placesOf, OpensFirst};
+
+mod picture;
+
+use crate::picture::Filled;
+use crate::picture::first_map;
+use crate::picture::first_picture;
 use bmhd::Bmhd;
-use bmhd::Header;
-use body::Unpacked;
+use colours::MAP;
 use copies::copy_long;
-use delta::Applied;
 use form::Form;
 use form::Outer;
 use iff::Found;
@@ -22,7 +24,6 @@ use iff::ids::BMHD;
 use iff::ids::BODY;
 use iff::ids::DLTA;
 use refusal::Refusal;
-use state::Sizes;
 use state::State;
 
 // What opening answers.
@@ -62,12 +63,6 @@ enum Located {
     Refused(Refusal),
 }
 
-// Whether A was filled with the first picture.
-enum Filled {
-    Done,
-    Refused(Refusal),
-}
-
 fn refused(why: Refusal) -> OpenedFile
     ensures { λ r. ⌜ r ≡ record { answer = Refused why; state = zeros } ⌝ }
 {
@@ -81,23 +76,21 @@ fn refused(why: Refusal) -> OpenedFile
 fn body_in(chunks: &[u8]) -> HasBody
     ensures { λ r. ⌜ hasBodyOf r ≡ bodyIn (now (chunks .entry)) ⌝ }
 {
-    let p = iff::find_pair(chunks, BMHD, BODY);
+    let p = iff::find_three(chunks, BMHD, BODY, DLTA);
     let h = p.first;
     let b = p.second;
+    let d = p.third;
     match h {
         Found::Refused(why) => HasBody::Refused(why),
         Found::Missing => HasBody::Refused(Refusal::NoPicture),
         Found::At { start: _, len: _ } => match b {
             Found::At { start: _, len: _ } => HasBody::Picture { body: true },
             Found::Refused(why) => HasBody::Refused(why),
-            Found::Missing => {
-                let d = iff::find(chunks, DLTA);
-                match d {
-                    Found::Refused(why) => HasBody::Refused(why),
-                    Found::Missing => HasBody::Refused(Refusal::NoPicture),
-                    Found::At { start: _, len: _ } => HasBody::Picture { body: false },
-                }
-            }
+            Found::Missing => match d {
+                Found::Refused(why) => HasBody::Refused(why),
+                Found::Missing => HasBody::Refused(Refusal::NoPicture),
+                Found::At { start: _, len: _ } => HasBody::Picture { body: false },
+            },
         },
     }
 }
@@ -180,53 +173,6 @@ pub fn frame_size(file: &[u8]) -> Size
     }
 }
 
-// Fills A with the picture that an ANHD and a DLTA make of zeros, all or nothing.
-fn first_delta(a: &mut [u8], anhd: &[u8], dlta: &[u8], sizes: Sizes) -> Filled
-    requires { ⌜ frameLength sizes ≡ ok (length (now a)) ⌝ }
-    ensures { λ r. ⌜ Fills (firstDelta (now (anhd .entry)) (now (dlta .entry)) sizes) (now (a .entry)) r (now (a .exit)) ⌝ }
-{
-    let h = anhd::frame_header(true, sizes.row_bytes(), anhd);
-    match h {
-        Anhd::Refused(why) => Filled::Refused(why),
-        Anhd::Header(header) => {
-            let items = header.items;
-            let d = delta::apply_first(a, dlta, sizes, items);
-            match d {
-                Applied::Refused(why) => Filled::Refused(why),
-                Applied::Drawn { ops: _ } => Filled::Done,
-            }
-        }
-    }
-}
-
-// Fills A with the picture in a BODY, all or nothing.
-fn first_body(a: &mut [u8], body: &[u8], sizes: Sizes, packed: bool) -> Filled
-    requires { ⌜ frameLength sizes ≡ ok (length (now a)) ⌝ }
-    ensures { λ r. ⌜ Fills (bodyOf (now (body .entry)) sizes packed) (now (a .entry)) r (now (a .exit)) ⌝ }
-{
-    let u = body::unpack(a, body, sizes, packed);
-    match u {
-        Unpacked::Refused(why) => Filled::Refused(why),
-        Unpacked::Done => Filled::Done,
-    }
-}
-
-// Fills A with the first picture, all or nothing.
-fn first_picture(a: &mut [u8], chunks: &[u8], body: bool, header: Header) -> Filled
-    requires { ⌜ frameLength (header .sizes) ≡ ok (length (now a)) ⌝ }
-    ensures { λ r. ⌜ Fills (firstPicture (now (chunks .entry)) body header) (now (a .entry)) r (now (a .exit)) ⌝ }
-{
-    if body {
-        return first_body(a, iff::contents(chunks, BODY), header.sizes, header.packed);
-    }
-    first_delta(
-        a,
-        iff::contents(chunks, ANHD),
-        iff::contents(chunks, DLTA),
-        header.sizes,
-    )
-}
-
 // Opens with the chunks of the first frame.
 fn open_picture(
     chunks: &[u8],
@@ -235,9 +181,10 @@ fn open_picture(
     end: usize,
     a: &mut [u8],
     b: &mut [u8],
+    map: &mut [u8],
 ) -> OpenedFile
-    ensures { λ r. ⌜ OpensFirst (firstOf (now (chunks .entry)) body (length (now (a .entry))) (length (now (b .entry)))) next end
-        (now (a .entry)) (now (b .entry)) r (record { a = now (a .exit); b = now (b .exit); state = r .state }) ⌝ }
+    ensures { λ r. ⌜ OpensFirst (firstOf (now (chunks .entry)) body (length (now (a .entry))) (length (now (b .entry))) (length (now (map .entry)))) next end
+        (now (a .entry)) (now (b .entry)) (now (map .entry)) r (record { a = now (a .exit); b = now (b .exit); map = now (map .exit); state = r .state }) ⌝ }
 {
     let h = first_header(chunks, body);
     match h {
@@ -249,11 +196,15 @@ fn open_picture(
             if b.len() != header.length {
                 return refused(Refusal::BufferLength);
             }
+            if map.len() != MAP {
+                return refused(Refusal::BufferLength);
+            }
             let f = first_picture(a, chunks, body, header);
             match f {
                 Filled::Refused(why) => refused(why),
                 Filled::Done => {
                     copy_long(b, a);
+                    first_map(map, chunks);
                     OpenedFile {
                         answer: Opening::Opened,
                         state: State::opened(header.sizes, next, end),
@@ -264,9 +215,10 @@ fn open_picture(
     }
 }
 
-// Opens a file: A and B get its first picture, all or nothing.
-pub fn open(file: &[u8], a: &mut [u8], b: &mut [u8]) -> OpenedFile
-    ensures { λ r. ⌜ MeetsOpen (now (file .entry)) (now (a .entry)) (now (b .entry)) r (record { a = now (a .exit); b = now (b .exit); state = r .state }) ⌝ }
+// Opens a file: A and B get its first picture and the map its colours, all or nothing.
+pub fn open(file: &[u8], a: &mut [u8], b: &mut [u8], map: &mut [u8]) -> OpenedFile
+    ensures { λ r. ⌜ MeetsOpen (now (file .entry)) (now (a .entry)) (now (b .entry)) (now (map .entry)) r
+        (record { a = now (a .exit); b = now (b .exit); map = now (map .exit); state = r .state }) ⌝ }
 {
     let p = first_places(file);
     match p {
@@ -279,7 +231,7 @@ pub fn open(file: &[u8], a: &mut [u8], b: &mut [u8]) -> OpenedFile
             body,
         } => {
             let stop = start + len;
-            open_picture(&file[start..stop], body, next, end, a, b)
+            open_picture(&file[start..stop], body, next, end, a, b, map)
         }
     }
 }

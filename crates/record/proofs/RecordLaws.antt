@@ -3,7 +3,7 @@ use Prim.Native.Nat.{ℕ, _+_, _<_, _≤_}
 use native.Mathlib.Nat.{zero-add}
 use native.Mathlib.Omega.{arith}
 use mathlib.Core.List.{List}
-use mathlib.Core.Path.{_≡_, refl, sym, ap, _∙_}
+use mathlib.Core.Path.{_≡_, refl, sym, _∙_}
 use lib.ListN.{length, length-append}
 use lib.Seq.{sets-eq}
 use mathlib.Core.Logic.{_≢_}
@@ -18,7 +18,8 @@ use Rattle.changes.specs.Count.{count}
 use Rattle.changes.proofs.CountLaws.{runs-counted}
 use Rattle.changes.specs.declared.Counts.{Counts}
 use Rattle.record.specs.RunList.{runsBytes, listBytes}
-use Rattle.record.specs.Record.{pictureBytes, recordBytes, measure, written, Commits}
+use Rattle.colours.specs.Colours.{MAP, coloured}
+use Rattle.record.specs.Record.{pictureBytes, mapBytes, recordBytes, measure, written, Commits}
 use Rattle.record.specs.Walk.{Counted}
 
 -- a run list, whose runs were counted
@@ -44,41 +45,56 @@ module _ (frame place : ℕ) (old new : List ℕ) where
   unfolding pictureBytes
   picture-put u v w = put-then (put-then u v) w
 
-  -- a record is its picture part
-  pub record-is : recordBytes frame place old new ≡ pictureBytes frame place old new
+-- a record: its picture part, then its map part
+module _ (frame place : ℕ) (old new map map′ : List ℕ) where
+  pub record-length : length (recordBytes frame place old new map map′) ≡ length (pictureBytes frame place old new) + length (mapBytes map map′)
   unfolding recordBytes
-  record-is = refl
+  record-length = length-append (pictureBytes frame place old new) (mapBytes map map′)
+
+  pub record-put : {out out₁ out₂ : List ℕ} {p q : ℕ} → Put out 0 (pictureBytes frame place old new) out₁ p → Put out₁ p (mapBytes map map′) out₂ q
+      → Put out 0 (recordBytes frame place old new map map′) out₂ q
+  unfolding recordBytes
+  record-put u v = put-then u v
 
   pub head-length : {runs : ℕ} → Counted old new runs
-      → length (recordBytes frame place old new) ≡ length (writeNumber frame) + length (writeNumber place) + length (writeNumber runs) + length (runsBytes (runsOf old new))
-  head-length c = omega (arith, ap length record-is, picture-length, list-length c)
+      → length (recordBytes frame place old new map map′)
+      ≡ length (writeNumber frame) + length (writeNumber place) + length (writeNumber runs) + length (mapBytes map map′) + length (runsBytes (runsOf old new))
+  head-length c = omega (arith, record-length, picture-length frame place old new, list-length c)
 
-  -- what recording answers, and what it leaves in the two buffers
-  module _ (out : List ℕ) where
-    refused : {n : ℕ} → written (length out) frame place old new ≡ fault n → Commits out frame place old new (fault n) out old
-    refused e = record { answer = sym e; bytes = refl; picture = refl }
+-- what recording answers, and what it leaves in the record buffer, the picture and the map
+module _ (out : List ℕ) (frame place : ℕ) (old new map cmap : List ℕ) where
+  refused : {n : ℕ} → written (length out) frame place old new map cmap ≡ fault n → Commits out frame place old new map cmap (fault n) out old map
+  refused e = record { answer = sym e; bytes = refl; picture = refl; colours = refl }
 
-    pub two-lengths : length old ≢ length new → Commits out frame place old new (fault 12) out old
+  pub two-lengths : length old ≢ length new → Commits out frame place old new map cmap (fault 12) out old map
+  unfolding written
+  two-lengths h = refused (simp (ne-eqb _ _ h))
+
+  module _ (l : length old ≡ length new) where
+    pub too-long : 1_048_576 < length old → Commits out frame place old new map cmap (fault 12) out old map
     unfolding written
-    two-lengths h = refused (simp (ne-eqb _ _ h))
+    too-long h = refused (simp (eq-eqb _ _ l, lt-leb _ _ h))
 
-    module _ (l : length old ≡ length new) where
-      pub too-long : 1_048_576 < length old → Commits out frame place old new (fault 12) out old
+    module _ (s : length old ≤ 1_048_576) where
+      pub no-map : length map ≢ MAP → Commits out frame place old new map cmap (fault 12) out old map
       unfolding written
-      too-long h = refused (simp (eq-eqb _ _ l, lt-leb _ _ h))
+      no-map h = refused (simp (eq-eqb _ _ l, le-leb _ _ s, ne-eqb _ _ h))
 
-      module _ (s : length old ≤ 1_048_576) where
-        pub no-room : length out < length (recordBytes frame place old new) → Commits out frame place old new (fault 51) out old
+      module _ (m : length map ≡ MAP) where
+        pub no-room : length out < length (recordBytes frame place old new map (coloured map cmap)) → Commits out frame place old new map cmap (fault 51) out old map
         unfolding written
-        no-room h = refused (simp (eq-eqb _ _ l, le-leb _ _ s, lt-leb _ _ h))
+        no-room h = refused (simp (eq-eqb _ _ l, le-leb _ _ s, eq-eqb _ _ m, lt-leb _ _ h))
 
-        pub is-written : (left picture : List ℕ) (size changed : ℕ) → length (recordBytes frame place old new) ≤ length out → changed ≡ differing old new
-            → Put out 0 (recordBytes frame place old new) left size → picture ≡ new → Commits out frame place old new (ok (record { length = size; changed = changed })) left picture
+        pub is-written : (out′ old′ map′ : List ℕ) (size changed : ℕ) → length (recordBytes frame place old new map (coloured map cmap)) ≤ length out → changed ≡ differing old new
+            → Put out 0 (recordBytes frame place old new map (coloured map cmap)) out′ size → old′ ≡ new → map′ ≡ coloured map cmap
+            → Commits out frame place old new map cmap (ok (record { length = size; changed = changed })) out′ old′ map′
         unfolding written measure
-        is-written left picture size changed h f p q =
-            let e : size ≡ length (recordBytes frame place old new) = p .place ∙ zero-add (length (recordBytes frame place old new)) in
+        is-written out′ old′ map′ size changed h f p q k =
+            let bytes : List ℕ = recordBytes frame place old new map (coloured map cmap) in
+            let e : size ≡ length bytes = p .place ∙ zero-add (length bytes) in
             record {
-              answer = sym (simp (eq-eqb _ _ l, le-leb _ _ s, le-leb _ _ h, e, f));
-              bytes = p .left ∙ sets-eq (recordBytes frame place old new) out 0 (omega arith) ∙ rw (zero-add (length (recordBytes frame place old new)));
+              answer = sym (simp (eq-eqb _ _ l, le-leb _ _ s, eq-eqb _ _ m, le-leb _ _ h, e, f));
+              bytes = p .left ∙ sets-eq bytes out 0 (omega arith) ∙ rw (zero-add (length bytes));
               picture = q;
+              colours = k;
             }

@@ -1,4 +1,4 @@
--- What is written of two pictures leads back: the runs are read back, and put back into the new picture they give the old one.
+-- What is written of two pictures and two maps leads back: the runs are read back, and put back into the new one they give the old one.
 use Prim.Native.Nat.{ℕ, _+_, _-_, _^_, _<_, _≤_}
 use native.Mathlib.Omega.{arith}
 use mathlib.Core.List.{List, [], _∷_, _++_, append-assoc, append-nil}
@@ -10,8 +10,9 @@ use borrow.Author.Tests.{lt-ltb, le-leb}
 use Rattle.number.proofs.NumberLaws.{read-write}
 use Rattle.runs.specs.Runs.{Run, runsOf}
 use Rattle.runs.proofs.PatchLaws.{Fit, patch-runs, differ-runs, fit-new, count-runs}
+use Rattle.colours.specs.Colours.{MAP}
 use Rattle.record.specs.RunList.{runBytes, runsBytes, listBytes, readRun, readRuns, readList, runsBack, beforeOf}
-use Rattle.record.specs.Record.{pictureBytes, recordBytes, pastOf}
+use Rattle.record.specs.Record.{pictureBytes, mapBytes, recordBytes, pastOf}
 
 -- the runs are read back
 read-run : (r : Run) (least room : ℕ) (s : List ℕ) → room < 2 ^ 32 → least ≤ r .gap → 0 < length (r .bytes) → r .gap + length (r .bytes) ≤ room
@@ -36,9 +37,10 @@ list-back old new s l h =
     simp (append-assoc, read-write, read-runs (runsOf old new) 0 (length new) s h (fit-new old new), differ-runs old new, patch-runs old new l)
 
 -- a record that is written leads back
-pub past-record : (n p : ℕ) (old new : List ℕ) → n < 2 ^ 32 → p < 2 ^ 32 → length old ≡ length new → length new ≤ 1_048_576
-    → pastOf (recordBytes n p old new) new ≡ some (record { frame = n; place = p; picture = old })
-unfolding pastOf recordBytes pictureBytes
-past-record n p old new hn hp l h =
-    let e : beforeOf (listBytes (runsOf old new)) new ≡ some (record { buffer = old; rest = [] }) = rw append-nil at (list-back old new [] l (omega arith)) in
-    simp (append-assoc, read-write, e)
+pub past-record : (n p : ℕ) (old new map map′ : List ℕ) → n < 2 ^ 32 → p < 2 ^ 32 → length old ≡ length new → length new ≤ 1_048_576 → length map ≡ length map′ → length map′ ≤ MAP
+    → pastOf (recordBytes n p old new map map′) new map′ ≡ some (record { frame = n; place = p; picture = old; map = map })
+unfolding pastOf recordBytes pictureBytes mapBytes
+past-record n p old new map map′ hn hp l h m k =
+    let e : beforeOf (listBytes (runsOf map map′)) map′ ≡ some (record { buffer = map; rest = [] }) = rw append-nil at (list-back map map′ [] m (omega arith)) in
+    let d = list-back old new (listBytes (runsOf map map′)) l (omega arith) in
+    simp (append-assoc, read-write, d, e)

@@ -1,4 +1,4 @@
-// Step records: what a step on changed in the hidden picture, written so that a step back can put it back.
+// Step records: what a step on changed in the hidden picture and in the map, written so that a step back can put it back.
 ghost use mathlib.Core.Path.{_≡_};
 ghost use Prim.Native.Nat.{_+_, _*_, _<_, _≤_, _^_};
 ghost use lib.ListN.{length, take, drop};
@@ -10,17 +10,20 @@ ghost use lib.Dec.{leb};
 ghost use Rattle.runs.specs.Runs.{runsOf};
 ghost use Rattle.changes.specs.Count.{count};
 ghost use Rattle.record.specs.RunList.{runBytes, runsBytes, listBytes};
-ghost use Rattle.record.specs.Record.{pictureBytes, Commits, recordedOf};
-ghost use Rattle.record.specs.Walk.{Counted};
+ghost use Rattle.colours.specs.Colours.{coloured};
+ghost use Rattle.record.specs.Record.{pictureBytes, mapBytes, recordBytes, Commits, recordedOf};
+ghost use Rattle.record.specs.Room.{mapRoom};
+ghost use Rattle.record.specs.Walk.{Counted, Laid};
 use changes::Counts;
 use changes::count;
+use colours::MAP;
 use copies::copy;
 use copies::copy_long;
 use refusal::Refusal;
 use runs::Change;
 use runs::next_run;
 
-// A record that was written: its length, and how many bytes changed.
+// A record that was written: its length, and how many bytes of the picture changed.
 pub enum Recorded {
     Written { length: usize, changed: usize },
     Refused(Refusal),
@@ -34,7 +37,7 @@ fn run_length(gap: usize, count: usize) -> usize
     number::written_length(gap as u32) + number::written_length(count as u32) + count
 }
 
-// How many bytes the runs of two pictures of one length are written in.
+// How many bytes the runs of two buffers of one length are written in.
 fn measure(old: &[u8], new: &[u8]) -> usize
     requires { ⌜ (length (now old) ≡ length (now new)) × (length (now old) ≤ 8 * 1024 * 128) ⌝ }
     ensures { λ r. ⌜ r ≡ length (runsBytes (runsOf (now (old .entry)) (now (new .entry)))) ⌝ }
@@ -95,7 +98,7 @@ fn replace(dst: &mut [u8], to: usize, src: &[u8], from: usize, count: usize, wan
     copy_long(&mut dst[to..end], &src[from..stop]);
 }
 
-// Writes a run, whose bytes stand at a place of the old picture, at a place of out where it fits, and answers the place after it.
+// Writes a run, whose bytes stand at a place of the old buffer, at a place of out where it fits, and answers the place after it.
 fn put_run(out: &mut [u8], at: usize, gap: usize, old: &[u8], start: usize, count: usize) -> usize
     requires { ⌜ (gap < 2 ^ 32) × (count < 2 ^ 32) × (start + count ≤ length (now old))
         × (at + (length (writeNumber gap) + length (writeNumber count) + count) ≤ length (now out)) ⌝ }
@@ -107,8 +110,8 @@ fn put_run(out: &mut [u8], at: usize, gap: usize, old: &[u8], start: usize, coun
     bytes_at + count
 }
 
-// Writes the runs of two pictures at a place of out where they fit, and answers the place after them. If commit is true, each run's new
-// bytes are put into the old picture.
+// Writes the runs of two buffers at a place of out where they fit, and answers the place after them. If commit is true, each run's new
+// bytes are put into the old buffer.
 fn put_runs(out: &mut [u8], from: usize, old: &mut [u8], new: &[u8], commit: bool) -> usize
     requires { ⌜ (length (now old) ≡ length (now new)) × (length (now old) ≤ 8 * 1024 * 128)
         × (from + length (runsBytes (runsOf (now old) (now new))) ≤ length (now out)) ⌝ }
@@ -132,7 +135,7 @@ fn put_runs(out: &mut [u8], from: usize, old: &mut [u8], new: &[u8], commit: boo
     }
 }
 
-// Writes the run list of two pictures, whose runs were counted, at a place of out where it fits.
+// Writes the run list of two buffers, whose runs were counted, at a place of out where it fits.
 fn put_list(
     out: &mut [u8],
     at: usize,
@@ -168,10 +171,66 @@ fn put_picture(
     put_list(out, list, runs, old, new, commit)
 }
 
-// Records a step: writes the frame number reached, the next place before it and the runs of the hidden picture before and after,
-// and makes the hidden picture the new one. A refusal leaves both as they are.
-pub fn commit(out: &mut [u8], frame: u32, place: u32, old: &mut [u8], new: &[u8]) -> Recorded
-    ensures { λ r. ⌜ Commits (now (out .entry)) frame place (now (old .entry)) (now (new .entry)) (recordedOf r) (now (out .exit)) (now (old .exit)) ⌝ }
+// How many bytes the map part of a record is written in, for a map and a CMAP that is laid over it.
+fn map_length(map: &[u8], cmap: &[u8]) -> usize
+    requires { ⌜ Laid (now map) (now cmap) ⌝ }
+    ensures { λ r. ⌜ (r ≡ length (mapBytes (now (map .entry)) (coloured (now (map .entry)) (now (cmap .entry))))) × (r ≤ mapRoom) ⌝ }
+{
+    let k = cmap.len();
+    let part = &map[..k];
+    let counts = count(part, cmap);
+    number::written_length(counts.runs as u32) + measure(part, cmap)
+}
+
+// Writes the map part of a record at a place of out where it fits, and lays the CMAP over the map.
+fn put_map(out: &mut [u8], at: usize, map: &mut [u8], cmap: &[u8]) -> usize
+    requires { ⌜ Laid (now map) (now cmap) × (at + length (mapBytes (now map) (coloured (now map) (now cmap))) ≤ length (now out)) ⌝ }
+    ensures { λ r. ⌜ Put (now (out .entry)) at (mapBytes (now (map .entry)) (coloured (now (map .entry)) (now (cmap .entry)))) (now (out .exit)) r
+        × (now (map .exit) ≡ coloured (now (map .entry)) (now (cmap .entry))) ⌝ }
+{
+    let k = cmap.len();
+    let counts = count(&map[..k], cmap);
+    put_list(out, at, counts.runs, &mut map[..k], cmap, true)
+}
+
+// Writes a record into out where it fits, makes the old picture the new one, and lays the CMAP over the map.
+fn put_record(
+    out: &mut [u8],
+    frame: u32,
+    place: u32,
+    counts: Counts,
+    old: &mut [u8],
+    new: &[u8],
+    map: &mut [u8],
+    cmap: &[u8],
+) -> usize
+    requires { ⌜ Counted (now old) (now new) (counts .runs) × Laid (now map) (now cmap)
+        × (length (recordBytes frame place (now old) (now new) (now map) (coloured (now map) (now cmap))) ≤ length (now out)) ⌝ }
+    ensures { λ r. ⌜ Put (now (out .entry)) 0 (recordBytes frame place (now (old .entry)) (now (new .entry)) (now (map .entry))
+        (coloured (now (map .entry)) (now (cmap .entry)))) (now (out .exit)) r
+        × (now (old .exit) ≡ now (new .entry)) × (now (map .exit) ≡ coloured (now (map .entry)) (now (cmap .entry))) ⌝ }
+{
+    // Few changes go to the hidden picture run by run, more of them all at once.
+    let few = counts.changed < old.len() / 8;
+    let at = put_picture(out, frame, place, counts.runs, old, new, few);
+    let all = old.len();
+    replace(old, 0, new, 0, all, !few);
+    put_map(out, at, map, cmap)
+}
+
+// Records a step: writes the frame number reached, the next place before it, and the runs of the hidden picture and of the map before and
+// after, makes the hidden picture the new one, and lays the CMAP over the map. A refusal leaves all as they are.
+pub fn commit(
+    out: &mut [u8],
+    frame: u32,
+    place: u32,
+    old: &mut [u8],
+    new: &[u8],
+    map: &mut [u8],
+    cmap: &[u8],
+) -> Recorded
+    ensures { λ r. ⌜ Commits (now (out .entry)) frame place (now (old .entry)) (now (new .entry)) (now (map .entry)) (now (cmap .entry)) (recordedOf r)
+        (now (out .exit)) (now (old .exit)) (now (map .exit)) ⌝ }
 {
     if old.len() != new.len() {
         return Recorded::Refused(Refusal::BufferLength);
@@ -179,22 +238,22 @@ pub fn commit(out: &mut [u8], frame: u32, place: u32, old: &mut [u8], new: &[u8]
     if 1048576 < old.len() {
         return Recorded::Refused(Refusal::BufferLength);
     }
+    if map.len() != MAP {
+        return Recorded::Refused(Refusal::BufferLength);
+    }
+    let laid = buffer::part(cmap, 0, MAP);
     let counts = count(old, new);
-    let runs = counts.runs;
     let head = number::written_length(frame)
         + number::written_length(place)
-        + number::written_length(runs as u32);
+        + number::written_length(counts.runs as u32)
+        + map_length(map, laid);
     if out.len() < head {
         return Recorded::Refused(Refusal::NoRoom);
     }
     if !runs_fit(counts, old, new, out.len() - head) {
         return Recorded::Refused(Refusal::NoRoom);
     }
-    // Few changes go to the hidden picture run by run, more of them all at once.
-    let few = counts.changed < old.len() / 8;
-    let length = put_picture(out, frame, place, runs, old, new, few);
-    let all = old.len();
-    replace(old, 0, new, 0, all, !few);
+    let length = put_record(out, frame, place, counts, old, new, map, laid);
     Recorded::Written {
         length,
         changed: counts.changed,

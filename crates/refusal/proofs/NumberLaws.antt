@@ -9,7 +9,7 @@ use borrow.Author.Tests.{eqb-true, ltb-true}
 use Rattle.laws.proofs.ResultLaws.{false-true}
 use Rattle.refusal.specs.Number.{numberOf, numbers, among, isNumber}
 use Rattle.refusal.specs.declared.Refusal.{Refusal}
-use Rattle.refusal.specs.declared.Refusal.the-variants.{OutsideLimits, BufferLength, FileTooLong, NoSuchRow, ChunkPastParent, NotFormAnim, NoPicture, BadBmhd, BadBody, NoDelta, ShortAnhd, UnknownMethod, UnknownInterleave, UnknownOptions, OddLongColumns, BadPointer, DeltaTooShort, OpPastLastRow, WordPastPlane, NoRoom, LastFrame, BadRecord, OtherRecord}
+use Rattle.refusal.specs.declared.Refusal.the-variants.{OutsideLimits, BufferLength, FileTooLong, NoSuchRow, ChunkPastParent, NotFormAnim, NoPicture, BadBmhd, BadBody, NoDelta, ShortAnhd, UnknownMethod, UnknownInterleave, UnknownOptions, OddLongColumns, BadColours, BadPointer, DeltaTooShort, OpPastLastRow, WordPastPlane, NoRoom, LastFrame, BadRecord, OtherRecord}
 
 pub is-number : (r : Refusal) → isNumber (numberOf r) ≡ true
 is-number OutsideLimits = refl
@@ -27,6 +27,7 @@ is-number UnknownMethod = refl
 is-number UnknownInterleave = refl
 is-number UnknownOptions = refl
 is-number OddLongColumns = refl
+is-number BadColours = refl
 is-number BadPointer = refl
 is-number DeltaTooShort = refl
 is-number OpPastLastRow = refl

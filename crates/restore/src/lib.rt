@@ -1,11 +1,11 @@
-// Step records put back: read, checked whole, then restored into the shown picture, all or nothing.
+// Step records put back: read, checked whole, then restored into the shown picture and the map, all or nothing.
 ghost use mathlib.Core.Path.{_≡_};
 ghost use Prim.Native.Nat.{_+_, _≤_};
 ghost use lib.ListN.{length, take, drop};
 ghost use Rattle.runs.specs.Runs.{differ};
 ghost use Rattle.record.specs.RunList.{readRuns, readList};
 ghost use Rattle.restore.specs.Restored.{Restores, restoredOf};
-ghost use Rattle.restore.specs.Walk.{RunAt, RunTaken, Took, HeaderAt, belongs, LeadsBack};
+ghost use Rattle.restore.specs.Walk.{RunAt, RunTaken, Took, ListsAt, HeaderAt, belongs, LeadsBack};
 use copies::copy_part;
 use number::Parsed;
 use refusal::Refusal;
@@ -141,7 +141,7 @@ fn take_list(shown: &mut [u8], bytes: &[u8], at: usize, putting: bool) -> Taken
     }
 }
 
-// What stands before a record's run list: two numbers, and the place of the list.
+// What stands before a record's run lists: two numbers, and the place of the first list.
 enum Header {
     Numbers {
         frame: usize,
@@ -171,6 +171,35 @@ fn read_header(bytes: &[u8]) -> Header
     }
 }
 
+// Two run lists that were checked: the place of the second.
+enum Checked {
+    Good(usize),
+    Wrong,
+}
+
+// Checks the two run lists at a place of a record against the shown picture and the map, which stay as they are, and that nothing is left over.
+fn check_lists(bytes: &[u8], shown: &mut [u8], map: &mut [u8], list: usize) -> Checked
+    ensures { λ r. ⌜ ListsAt (now (bytes .entry)) list (now (shown .entry)) (now (map .entry)) r × (now (shown .exit) ≡ now (shown .entry))
+        × (now (map .exit) ≡ now (map .entry)) ⌝ }
+{
+    let p = take_list(shown, bytes, list, false);
+    match p {
+        Taken::Bad => Checked::Wrong,
+        Taken::Ends(map_list) => {
+            let m = take_list(map, bytes, map_list, false);
+            match m {
+                Taken::Bad => Checked::Wrong,
+                Taken::Ends(end) => {
+                    if end < bytes.len() {
+                        return Checked::Wrong;
+                    }
+                    Checked::Good(map_list)
+                }
+            }
+        }
+    }
+}
+
 // Whether a record belongs to a state: its frame is the state's and not the first, its place is from 12 on and before the next place.
 fn belongs(reached: usize, place: usize, frame: usize, next: usize) -> bool
     ensures { λ r. ⌜ r ≡ belongs reached place frame next ⌝ }
@@ -187,15 +216,20 @@ fn belongs(reached: usize, place: usize, frame: usize, next: usize) -> bool
     place < next
 }
 
-// Whether a record leads back from a state: the next place before its step, and where its run list stands.
+// Whether a record leads back from a state: the next place before its step, and where its two run lists stand.
 enum Leads {
-    To { place: usize, list: usize },
+    To {
+        place: usize,
+        list: usize,
+        map_list: usize,
+    },
     Refused(Refusal),
 }
 
-// Checks a whole record against the shown picture, which stays as it is, and then that it belongs to the state.
-fn leads_back(bytes: &[u8], shown: &mut [u8], frame: usize, next: usize) -> Leads
-    ensures { λ r. ⌜ LeadsBack (now (bytes .entry)) (now (shown .entry)) frame next r × (now (shown .exit) ≡ now (shown .entry)) ⌝ }
+// Checks a whole record against the shown picture and the map, which stay as they are, and then that it belongs to the state.
+fn leads_back(bytes: &[u8], shown: &mut [u8], map: &mut [u8], frame: usize, next: usize) -> Leads
+    ensures { λ r. ⌜ LeadsBack (now (bytes .entry)) (now (shown .entry)) (now (map .entry)) frame next r × (now (shown .exit) ≡ now (shown .entry))
+        × (now (map .exit) ≡ now (map .entry)) ⌝ }
 {
     let h = read_header(bytes);
     match h {
@@ -205,32 +239,44 @@ fn leads_back(bytes: &[u8], shown: &mut [u8], frame: usize, next: usize) -> Lead
             place,
             list,
         } => {
-            let c = take_list(shown, bytes, list, false);
+            let c = check_lists(bytes, shown, map, list);
             match c {
-                Taken::Bad => Leads::Refused(Refusal::BadRecord),
-                Taken::Ends(end) => {
-                    if end < bytes.len() {
-                        return Leads::Refused(Refusal::BadRecord);
-                    }
+                Checked::Wrong => Leads::Refused(Refusal::BadRecord),
+                Checked::Good(map_list) => {
                     if !belongs(reached, place, frame, next) {
                         return Leads::Refused(Refusal::OtherRecord);
                     }
-                    Leads::To { place, list }
+                    Leads::To {
+                        place,
+                        list,
+                        map_list,
+                    }
                 }
             }
         }
     }
 }
 
-// Puts a record back into the shown picture, at a frame number and a next place, all or nothing.
-pub fn restore(bytes: &[u8], shown: &mut [u8], frame: usize, next: usize) -> Restored
-    ensures { λ r. ⌜ Restores (now (bytes .entry)) (now (shown .entry)) frame next (restoredOf r) (now (shown .exit)) ⌝ }
+// Puts a record back into the shown picture and the map, at a frame number and a next place, all or nothing.
+pub fn restore(
+    bytes: &[u8],
+    shown: &mut [u8],
+    map: &mut [u8],
+    frame: usize,
+    next: usize,
+) -> Restored
+    ensures { λ r. ⌜ Restores (now (bytes .entry)) (now (shown .entry)) (now (map .entry)) frame next (restoredOf r) (now (shown .exit)) (now (map .exit)) ⌝ }
 {
-    let l = leads_back(bytes, shown, frame, next);
+    let l = leads_back(bytes, shown, map, frame, next);
     match l {
         Leads::Refused(why) => Restored::Refused(why),
-        Leads::To { place, list } => {
+        Leads::To {
+            place,
+            list,
+            map_list,
+        } => {
             take_list(shown, bytes, list, true);
+            take_list(map, bytes, map_list, true);
             Restored::Back(place)
         }
     }

@@ -1,5 +1,5 @@
--- The longest stretches of elements that changed between two lists, in order: the bytes of a picture for a record, the rows of
--- a column for the writer (document 01, "Opening, stepping on, stepping back" and "The writer").
+-- The longest stretches of elements that changed between two lists, in order: the bytes of a picture or of a map for a record, the
+-- rows of a column for the writer (document 01, "Opening, stepping on, stepping back" and "The writer").
 use Prim.Native.Nat.{ℕ, suc, _+_}
 use mathlib.Core.Bool.{Bool, true, false, _&&_}
 use mathlib.Core.List.{List, [], _∷_, _++_}

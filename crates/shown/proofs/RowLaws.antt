@@ -3,7 +3,7 @@ use Prim.Native.Nat.{ℕ, suc, _+_, _-_, _*_, _<_, _≤_}
 use native.Mathlib.Nat.{add-sub-cancel-left, suc-mul, mul-assoc, mul-le-mul-right}
 use native.Mathlib.Omega.{arith}
 use mathlib.Core.Bool.{true, false}
-use mathlib.Core.List.{[]}
+use mathlib.Core.List.{List, []}
 use mathlib.Core.Path.{_≡_}
 use lib.Dec.{ltb}
 use lib.ListN.{length, take, drop}
@@ -13,7 +13,7 @@ use Rattle.laws.proofs.ResultLaws.{Each, Each.each, each-bind, each-need, each-
 use Rattle.state.specs.declared.State.{State}
 use Rattle.state.specs.State.{rowBytes, frameBytes, lentLength}
 use Rattle.state.proofs.StateLaws.{SoundState, lent-sound, row-inside}
-use Rattle.state.specs.World.{World, isOdd, shownIn}
+use Rattle.state.specs.World.{isOdd}
 use Rattle.shown.specs.Row.{rowPlace, rowOf}
 
 -- the bytes of a row lie within either buffer
@@ -68,22 +68,22 @@ module _ (s : State) (a b plane row : ℕ) where
       place-is h q = simp (e, lt-ltb plane (s .sizes .planes) p, lt-ltb row (s .sizes .height) h, q)
 
 -- the part
-module _ (w : World) (plane row : ℕ) where
-  pub row-refused : {k : ℕ} → rowPlace (w .state) (length (w .a)) (length (w .b)) plane row ≡ fault k → [] ≡ rowOf w plane row
+module _ (s : State) (a b : List ℕ) (plane row : ℕ) where
+  pub row-refused : {k : ℕ} → rowPlace s (length a) (length b) plane row ≡ fault k → [] ≡ rowOf s a b plane row
   unfolding rowOf
   row-refused e = rw e
 
-  module _ {at B : ℕ} (e : rowPlace (w .state) (length (w .a)) (length (w .b)) plane row ≡ ok at) (q : B ≡ rowBytes (w .state .sizes .width)) where
-    pub row-odd : isOdd (w .state .frame) ≡ true → take (at + B - at) (drop at (w .a)) ≡ rowOf w plane row
-    unfolding rowOf shownIn
+  module _ {at B : ℕ} (e : rowPlace s (length a) (length b) plane row ≡ ok at) (q : B ≡ rowBytes (s .sizes .width)) where
+    pub row-odd : isOdd (s .frame) ≡ true → take (at + B - at) (drop at a) ≡ rowOf s a b plane row
+    unfolding rowOf
     row-odd h = rw (e, h, add-sub-cancel-left at B, q)
 
-    pub row-even : isOdd (w .state .frame) ≡ false → take (at + B - at) (drop at (w .b)) ≡ rowOf w plane row
-    unfolding rowOf shownIn
+    pub row-even : isOdd (s .frame) ≡ false → take (at + B - at) (drop at b) ≡ rowOf s a b plane row
+    unfolding rowOf
     row-even h = rw (e, h, add-sub-cancel-left at B, q)
 
-    pub lies-a : at + B ≤ length (w .a)
-    lies-a = rw q (each-is e (row-lies (w .state) (length (w .a)) (length (w .b)) plane row) .inA)
+    pub lies-a : at + B ≤ length a
+    lies-a = rw q (each-is e (row-lies s (length a) (length b) plane row) .inA)
 
-    pub lies-b : at + B ≤ length (w .b)
-    lies-b = rw q (each-is e (row-lies (w .state) (length (w .a)) (length (w .b)) plane row) .inB)
+    pub lies-b : at + B ≤ length b
+    lies-b = rw q (each-is e (row-lies s (length a) (length b) plane row) .inB)

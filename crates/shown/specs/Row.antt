@@ -8,7 +8,7 @@ use Rattle.laws.specs.Result.{Res, Res.ok, Res.fault, _>>=_, need}
 use Rattle.refusal.specs.Number.{numberOf}
 use Rattle.state.specs.State.{rowBytes, lentLength}
 use Rattle.state.specs.declared.State.{State}
-use Rattle.state.specs.World.{World, shownIn}
+use Rattle.state.specs.World.{shownOf}
 use Rattle.shown.specs.declared.Place.{Place}
 use Rattle.shown.specs.declared.Place.the-variants.{At, Refused}
 
@@ -26,8 +26,8 @@ partAt p B (ok at) = take B (drop at p)
 partAt p B (fault n) = []
 
 -- the row
-unfoldable pub rowOf : World → ℕ → ℕ → List ℕ
-rowOf w plane row = partAt (shownIn w) (rowBytes (w .state .sizes .width)) (rowPlace (w .state) (length (w .a)) (length (w .b)) plane row)
+unfoldable pub rowOf : State → (a b : List ℕ) → ℕ → ℕ → List ℕ
+rowOf s a b plane row = partAt (shownOf (s .frame) a b) (rowBytes (s .sizes .width)) (rowPlace s (length a) (length b) plane row)
 
 -- what an answer says in the paper's terms
 abbrev pub placeOf : Place → Res ℕ

@@ -34,7 +34,7 @@ pub fn row_place(state: State, a: &[u8], b: &[u8], plane: usize, row: usize) -> 
 
 // A row of a plane as a part of A in odd frames and of B in even ones; an empty part where it is refused.
 pub fn row<'a>(state: State, a: &'a [u8], b: &'a [u8], plane: usize, row: usize) -> &'a [u8]
-    ensures { λ r. ⌜ now r ≡ rowOf (record { a = now (a .entry); b = now (b .entry); state = state }) plane row ⌝ }
+    ensures { λ r. ⌜ now r ≡ rowOf state (now (a .entry)) (now (b .entry)) plane row ⌝ }
 {
     let sizes = state.sizes;
     let p = row_place(state, a, b, plane, row);

@@ -8,9 +8,10 @@ use lib.Dec.{leb, eqb}
 use borrow.Author.Tests.{leb-true, le-leb, eqb-true}
 use Rattle.laws.specs.Result.{Res.fault}
 use Rattle.laws.proofs.ResultLaws.{Each, Each.each, false-true, each-bind, each-need, each-map, two-true}
+use Rattle.colours.specs.Colours.{MAP}
 use Rattle.state.specs.declared.Sizes.{Sizes}
 use Rattle.state.specs.declared.State.{State}
-use Rattle.state.specs.State.{within, rowBytes, frameBytes, frameLength, stateLength, lentLength, Sound}
+use Rattle.state.specs.State.{within, rowBytes, frameBytes, frameLength, stateLength, lentLength, stepLength, Sound}
 
 -- what proofs use of a state within the limits
 pub record SoundState (s : State) (n : ℕ) : Type 0 where
@@ -100,3 +101,14 @@ lent-sound s a b =
     each-bind (state-sound s) λ n k.
     each-need (eqb a n) 12 _ λ l. each-need (eqb b n) 12 _ λ r.
     each (record { state = k; left = eqb-true a n l; right = eqb-true b n r })
+
+-- the same with a map of its length
+pub record SoundStep (s : State) (a b map n : ℕ) : Type 0 where
+  pub lent : SoundLent s a b n
+  pub mapLong : map ≡ MAP
+
+pub step-sound : (s : State) (a b map : ℕ) → Each (SoundStep s a b map) (stepLength s a b map)
+unfolding stepLength
+step-sound s a b map =
+    each-bind (lent-sound s a b) λ n k. each-need (eqb map MAP) 12 _ λ e.
+    each (record { lent = k; mapLong = eqb-true map MAP e })

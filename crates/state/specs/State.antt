@@ -1,10 +1,12 @@
--- The state, its limits and the length of a frame (document 01, "Numbers that bound the work"; 11 of "Refusal numbers").
+-- The state, its limits and the length of a frame (document 01, "Numbers that bound the work"; 11 and 12 of "Refusal numbers"; document 02,
+-- E6).
 use Prim.Native.Nat.{ℕ, _+_, _*_, _/_, _≤_}
 use mathlib.Core.Bool.{Bool, _&&_}
 use mathlib.Core.Path.{_≡_}
 use lib.Dec.{leb, eqb}
 use Rattle.laws.specs.Result.{Res, Res.ok, Res.fault, _>>=_, need}
 use Rattle.refusal.specs.Number.{numberOf}
+use Rattle.colours.specs.Colours.{MAP}
 use Rattle.state.specs.declared.Sizes.{Sizes}
 use Rattle.state.specs.declared.State.{State}
 use Rattle.state.specs.declared.Length.{Length}
@@ -44,6 +46,13 @@ lentLength s a b =
     stateLength s >>= λ n.
     need (eqb a n) 12 >>= λ _.
     need (eqb b n) 12 >>= λ _.
+    ok n
+
+-- the same where a map, of so many bytes, is lent too: 12 for one that isn't 768 bytes long
+unfoldable pub stepLength : State → ℕ → ℕ → ℕ → Res ℕ
+stepLength s a b map =
+    lentLength s a b >>= λ n.
+    need (eqb map MAP) 12 >>= λ _.
     ok n
 
 -- what an answer says in the paper's terms

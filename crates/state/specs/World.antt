@@ -1,4 +1,5 @@
--- What a call hands on to the next (document 01, "Opening, stepping on, stepping back"): both pictures and the state.
+-- What a call hands on to the next (document 01, "Opening, stepping on, stepping back", and document 02, E6): both pictures, the colour map
+-- and the state.
 use Prim.Native.Nat.{ℕ, _%_}
 use mathlib.Core.Bool.{Bool}
 use mathlib.Core.List.{List}
@@ -6,10 +7,11 @@ use lib.Dec.{eqb}
 use Rattle.laws.specs.Result.{pick}
 use Rattle.state.specs.declared.State.{State}
 
--- the pictures in buffers A and B, and the state
+-- the pictures in buffers A and B, the map, and the state
 pub record World : Type 0 where
   pub a : List ℕ
   pub b : List ℕ
+  pub map : List ℕ
   pub state : State
 
 -- whether a number is odd
@@ -31,9 +33,9 @@ shownIn w = shownOf (w .state .frame) (w .a) (w .b)
 unfoldable pub hiddenIn : World → List ℕ
 hiddenIn w = hiddenOf (w .state .frame) (w .a) (w .b)
 
--- the same with another picture in the shown buffer, or in the hidden one, and another state
-unfoldable pub withShown : World → List ℕ → State → World
-withShown w p s = record { a = pick (isOdd (w .state .frame)) p (w .a); b = pick (isOdd (w .state .frame)) (w .b) p; state = s }
+-- the same with another picture in the shown buffer, or in the hidden one, another map and another state
+unfoldable pub withShown : World → List ℕ → List ℕ → State → World
+withShown w p m s = record { a = pick (isOdd (w .state .frame)) p (w .a); b = pick (isOdd (w .state .frame)) (w .b) p; map = m; state = s }
 
-unfoldable pub withHidden : World → List ℕ → State → World
-withHidden w p s = record { a = pick (isOdd (w .state .frame)) (w .a) p; b = pick (isOdd (w .state .frame)) p (w .b); state = s }
+unfoldable pub withHidden : World → List ℕ → List ℕ → State → World
+withHidden w p m s = record { a = pick (isOdd (w .state .frame)) (w .a) p; b = pick (isOdd (w .state .frame)) p (w .b); map = m; state = s }

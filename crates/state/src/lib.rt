@@ -1,6 +1,6 @@
 // The player's state and the sizes of a picture: their limits, and how long a frame of those sizes is.
 ghost use mathlib.Core.Path.{_≡_};
-ghost use Rattle.state.specs.State.{rowBytes, within, lengthOf, frameLength, stateLength, lentLength, opened, zeros, moved};
+ghost use Rattle.state.specs.State.{rowBytes, within, lengthOf, frameLength, stateLength, lentLength, stepLength, opened, zeros, moved};
 use refusal::Refusal;
 
 // The sizes of a picture.
@@ -18,8 +18,8 @@ pub struct State {
     pub end: usize,
 }
 
-// What a taken step on reports: the method, the relative time, how many bytes changed, the record's length, and the number of ops, 0 for
-// lists of words.
+// What a taken step on reports: the method, the relative time, how many bytes of the picture changed, the record's length, and the number
+// of ops, 0 for lists of words.
 pub struct Report {
     pub method: usize,
     pub time: usize,
@@ -155,6 +155,22 @@ impl State {
                     return Length::Refused(Refusal::BufferLength);
                 }
                 if b != n {
+                    return Length::Refused(Refusal::BufferLength);
+                }
+                Length::Bytes(n)
+            }
+        }
+    }
+
+    // The same, if the map has its length too.
+    pub fn step_length(self, a: usize, b: usize, map: usize) -> Length
+        ensures { λ r. ⌜ lengthOf r ≡ stepLength self a b map ⌝ }
+    {
+        let l = self.lent_length(a, b);
+        match l {
+            Length::Refused(why) => Length::Refused(why),
+            Length::Bytes(n) => {
+                if map != colours::MAP {
                     return Length::Refused(Refusal::BufferLength);
                 }
                 Length::Bytes(n)

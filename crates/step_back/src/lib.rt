@@ -21,33 +21,39 @@ pub struct SteppedBack {
     pub state: State,
 }
 
-// Puts a record back into the shown buffer, A at an odd frame and B at an even one.
-fn restore_shown(state: State, a: &mut [u8], b: &mut [u8], bytes: &[u8]) -> Restored
-    ensures { λ r. ⌜ RestoresShown (record { a = now (a .entry); b = now (b .entry); state = state })
-        (restored (now (bytes .entry)) (shownIn (record { a = now (a .entry); b = now (b .entry); state = state })) (state .frame) (state .next))
-        (restoredOf r) (now (a .exit)) (now (b .exit)) ⌝ }
+// Puts a record back into the map and the shown buffer, A at an odd frame and B at an even one.
+fn restore_shown(state: State, a: &mut [u8], b: &mut [u8], map: &mut [u8], bytes: &[u8]) -> Restored
+    ensures { λ r. ⌜ RestoresShown (record { a = now (a .entry); b = now (b .entry); map = now (map .entry); state = state })
+        (restored (now (bytes .entry)) (shownIn (record { a = now (a .entry); b = now (b .entry); map = now (map .entry); state = state }))
+        (now (map .entry)) (state .frame) (state .next)) (restoredOf r) (now (a .exit)) (now (b .exit)) (now (map .exit)) ⌝ }
 {
     let frame = state.frame;
     let next = state.next;
     if frame % 2 == 1 {
-        return restore::restore(bytes, a, frame, next);
+        return restore::restore(bytes, a, map, frame, next);
     }
-    restore::restore(bytes, b, frame, next)
+    restore::restore(bytes, b, map, frame, next)
 }
 
-// Steps back: a record is put back into the shown buffer, and the frame before is shown.
-pub fn step_back(state: State, a: &mut [u8], b: &mut [u8], bytes: &[u8]) -> SteppedBack
-    ensures { λ r. ⌜ MeetsBack (record { a = now (a .entry); b = now (b .entry); state = state }) (now (bytes .entry)) r
-        (record { a = now (a .exit); b = now (b .exit); state = r .state }) ⌝ }
+// Steps back: a record is put back into the shown buffer and the map, and the frame before is shown.
+pub fn step_back(
+    state: State,
+    a: &mut [u8],
+    b: &mut [u8],
+    map: &mut [u8],
+    bytes: &[u8],
+) -> SteppedBack
+    ensures { λ r. ⌜ MeetsBack (record { a = now (a .entry); b = now (b .entry); map = now (map .entry); state = state }) (now (bytes .entry)) r
+        (record { a = now (a .exit); b = now (b .exit); map = now (map .exit); state = r .state }) ⌝ }
 {
-    let l = state.lent_length(a.len(), b.len());
+    let l = state.step_length(a.len(), b.len(), map.len());
     match l {
         Length::Refused(why) => SteppedBack {
             answer: Back::Refused(why),
             state,
         },
         Length::Bytes(_) => {
-            let p = restore_shown(state, a, b, bytes);
+            let p = restore_shown(state, a, b, map, bytes);
             match p {
                 Restored::Refused(why) => SteppedBack {
                     answer: Back::Refused(why),

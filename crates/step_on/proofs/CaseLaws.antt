@@ -9,22 +9,23 @@ use lib.ListN.{length}
 use Rattle.laws.specs.Result.{Res, Res.ok, Res.fault}
 use Rattle.laws.proofs.ResultLaws.{pick-case}
 use Rattle.state.specs.State.{moved}
-use Rattle.state.specs.World.{World, hiddenIn, withHidden}
+use Rattle.state.specs.World.{World, withHidden}
 use Rattle.state.specs.After.{Answer.refused, Answer.ended, Answer.tookOn, After, kept}
+use Rattle.colours.specs.Colours.{coloured}
 use Rattle.step_on.specs.Step.{Built, lookAhead, recordOf, reportOf, commit, settle, stepOn}
 
 -- a step that is taken
 abbrev pub stepTo : World → Built → After
 stepTo w x = record {
-  answer = tookOn (reportOf (w .state) (hiddenIn w) x);
-  world = withHidden w (x .picture) (moved (w .state) (suc (w .state .frame)) (x .next));
-  bytes = recordOf (w .state) (hiddenIn w) (x .picture);
+  answer = tookOn (reportOf w x);
+  world = withHidden w (x .picture) (coloured (w .map) (x .cmap)) (moved (w .state) (suc (w .state .frame)) (x .next));
+  bytes = recordOf w (x .picture) (x .cmap);
   work = some (x .picture);
 }
 
 -- whether the record of such a step fits
 abbrev pub recordFits : World → ℕ → Built → Bool
-recordFits w room x = leb (length (recordOf (w .state) (hiddenIn w) (x .picture))) room
+recordFits w room x = leb (length (recordOf w (x .picture) (x .cmap))) room
 
 module _ (P : After → Type 0) (w : World) (room : ℕ) where
   pub commit-case : (x : Built) → (recordFits w room x ≡ true → P (stepTo w x)) → (recordFits w room x ≡ false → P (kept w (refused 51) (some (x .picture)))) → P (commit w room x)

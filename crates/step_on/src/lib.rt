@@ -1,15 +1,12 @@
 // Stepping on: what lies ahead is looked for and built, then recorded and shown.
-ghost use mathlib.Core.Bool.{true};
-ghost use mathlib.Core.Option.{some};
 ghost use mathlib.Core.Path.{_≡_};
-ghost use lib.ListN.{length};
-ghost use Rattle.state.specs.State.{rowBytes};
+ghost use lib.ListN.{length, take};
 ghost use Rattle.state.specs.After.{lent};
-ghost use Rattle.anhd.specs.Anhd.{columnsOk};
+ghost use Rattle.colours.specs.Colours.{MAP};
 ghost use Rattle.record.specs.Record.{recordedOf};
 ghost use Rattle.delta.specs.Delta.{Applies, appliedOf};
-ghost use Rattle.step_on.specs.Step.{ready, basis, build, look, lookAhead, commit, Looks, LeavesOn, MeetsOn};
-ghost use Rattle.step_on.specs.Parts.{readyOf, Fits, frameOf, CommitsHidden};
+ghost use Rattle.step_on.specs.Step.{ready, basis, look, lookAhead, commit, Looks, LeavesOn, MeetsOn};
+ghost use Rattle.step_on.specs.Parts.{readyOf, Fits, CommitsHidden};
 use anhd::FrameHeader;
 use delta::Applied;
 use frame::Next;
@@ -20,13 +17,15 @@ use state::Report;
 use state::Sizes;
 use state::State;
 
-// What lies ahead: a frame that stands in the work buffer, the place past it, its header and the number of its ops; or none; or why there
-// is none.
+// What lies ahead: a frame that stands in the work buffer, the place past it, its header, the number of its ops, and where the contents of
+// its CMAP stand in FORM ANIM; or none; or why there is none.
 pub enum Ahead {
     Built {
         next: usize,
         header: FrameHeader,
         ops: usize,
+        cmap_start: usize,
+        cmap_len: usize,
     },
     End,
     Refused(Refusal),
@@ -51,14 +50,14 @@ enum Begins {
     Refused(Refusal),
 }
 
-// The tests of a step on, by the lengths of the file, A, B and the work buffer.
-fn ready(file: usize, state: State, a: usize, b: usize, work: usize) -> Begins
-    ensures { λ r. ⌜ readyOf r ≡ ready file state a b work ⌝ }
+// The tests of a step on, by the lengths of the file, A, B, the map and the work buffer.
+fn ready(file: usize, state: State, a: usize, b: usize, map: usize, work: usize) -> Begins
+    ensures { λ r. ⌜ readyOf r ≡ ready file state a b map work ⌝ }
 {
     if file < state.end {
         return Begins::Refused(Refusal::OutsideLimits);
     }
-    let l = state.lent_length(a, b);
+    let l = state.step_length(a, b, map);
     match l {
         Length::Refused(why) => Begins::Refused(why),
         Length::Bytes(n) => {
@@ -92,32 +91,11 @@ fn apply_frame(
     delta::apply(work, hidden, dlta, sizes, items)
 }
 
-// Builds a frame in the work buffer.
-fn build(
-    header: FrameHeader,
-    dlta: &[u8],
-    next: usize,
-    state: State,
-    shown: &[u8],
-    hidden: &[u8],
-    work: &mut [u8],
-) -> Ahead
-    requires { ⌜ Fits state (length (now shown)) (length (now work)) × Fits state (length (now hidden)) (length (now work))
-        × (columnsOk (header .items) (rowBytes (state .sizes .width)) ≡ true) ⌝ }
-    ensures { λ r. ⌜ Looks (build (state .sizes) (now (shown .entry)) (now (hidden .entry)) (some (frameOf next header (now (dlta .entry)))))
-        (now (work .entry)) r (now (work .exit)) ⌝ }
-{
-    let d = apply_frame(header, dlta, state.sizes, shown, hidden, work);
-    match d {
-        Applied::Refused(why) => Ahead::Refused(why),
-        Applied::Drawn { ops } => Ahead::Built { next, header, ops },
-    }
-}
-
 // Finds the next frame of FORM ANIM and builds it in the work buffer.
 fn look(anim: &[u8], state: State, shown: &[u8], hidden: &[u8], work: &mut [u8]) -> Ahead
     requires { ⌜ Fits state (length (now shown)) (length (now work)) × Fits state (length (now hidden)) (length (now work)) ⌝ }
-    ensures { λ r. ⌜ Looks (look (now (anim .entry)) state (now (shown .entry)) (now (hidden .entry))) (now (work .entry)) r (now (work .exit)) ⌝ }
+    ensures { λ r. ⌜ Looks (now (anim .entry)) (look (now (anim .entry)) state (now (shown .entry)) (now (hidden .entry))) (now (work .entry)) r
+        (now (work .exit)) ⌝ }
 {
     let sizes = state.sizes;
     let f = frame::frame_at(anim, state.next, sizes.row_bytes());
@@ -129,25 +107,43 @@ fn look(anim: &[u8], state: State, shown: &[u8], hidden: &[u8], work: &mut [u8])
             header,
             start,
             len,
+            cmap_start,
+            cmap_len,
         } => {
-            let stop = start + len;
-            let dlta = &anim[start..stop];
-            build(header, dlta, next, state, shown, hidden, work)
+            let dlta = buffer::part(anim, start, len);
+            let d = apply_frame(header, dlta, sizes, shown, hidden, work);
+            match d {
+                Applied::Refused(why) => Ahead::Refused(why),
+                Applied::Drawn { ops } => Ahead::Built {
+                    next,
+                    header,
+                    ops,
+                    cmap_start,
+                    cmap_len,
+                },
+            }
         }
     }
 }
 
 // Looks ahead: the next frame is found, checked and built in the work buffer.
-pub fn look_ahead(file: &[u8], state: State, a: &[u8], b: &[u8], work: &mut [u8]) -> Ahead
-    ensures { λ r. ⌜ Looks (lookAhead (now (file .entry)) (record { a = now (a .entry); b = now (b .entry); state = state }) (length (now (work .entry))))
+pub fn look_ahead(
+    file: &[u8],
+    state: State,
+    a: &[u8],
+    b: &[u8],
+    map: &[u8],
+    work: &mut [u8],
+) -> Ahead
+    ensures { λ r. ⌜ Looks (take (state .end) (now (file .entry)))
+        (lookAhead (now (file .entry)) (record { a = now (a .entry); b = now (b .entry); map = now (map .entry); state = state }) (length (now (work .entry))))
         (now (work .entry)) r (now (work .exit)) ⌝ }
 {
-    let t = ready(file.len(), state, a.len(), b.len(), work.len());
+    let t = ready(file.len(), state, a.len(), b.len(), map.len(), work.len());
     match t {
         Begins::Refused(why) => Ahead::Refused(why),
         Begins::Yes => {
-            let end = state.end;
-            let anim = &file[..end];
+            let anim = buffer::part(file, 0, state.end);
             if state.frame % 2 == 1 {
                 return look(anim, state, a, b, work);
             }
@@ -156,18 +152,27 @@ pub fn look_ahead(file: &[u8], state: State, a: &[u8], b: &[u8], work: &mut [u8]
     }
 }
 
-// Records a frame and puts it into the hidden buffer, B at an odd frame and A at an even one, unless the record doesn't fit.
-fn commit_hidden(state: State, a: &mut [u8], b: &mut [u8], work: &[u8], rec: &mut [u8]) -> Recorded
+// Records a frame and puts it into the hidden buffer, B at an odd frame and A at an even one, and its colours into the map, unless the
+// record doesn't fit.
+fn commit_hidden(
+    state: State,
+    cmap: &[u8],
+    a: &mut [u8],
+    b: &mut [u8],
+    map: &mut [u8],
+    work: &[u8],
+    rec: &mut [u8],
+) -> Recorded
     requires { ⌜ Fits state (length (now a)) (length (now work)) ⌝ }
-    ensures { λ r. ⌜ CommitsHidden (record { a = now (a .entry); b = now (b .entry); state = state }) (now (work .entry)) (now (rec .entry))
-        (recordedOf r) (now (a .exit)) (now (b .exit)) (now (rec .exit)) ⌝ }
+    ensures { λ r. ⌜ CommitsHidden (record { a = now (a .entry); b = now (b .entry); map = now (map .entry); state = state })
+        (now (work .entry)) (now (cmap .entry)) (now (rec .entry)) (recordedOf r) (now (a .exit)) (now (b .exit)) (now (map .exit)) (now (rec .exit)) ⌝ }
 {
     let frame = (state.frame + 1) as u32;
     let place = state.next as u32;
     if state.frame % 2 == 1 {
-        return record::commit(rec, frame, place, b, work);
+        return record::commit(rec, frame, place, b, work, map, cmap);
     }
-    record::commit(rec, frame, place, a, work)
+    record::commit(rec, frame, place, a, work, map, cmap)
 }
 
 // Steps to the frame in the work buffer: it is recorded and shown.
@@ -176,19 +181,21 @@ fn commit(
     next: usize,
     header: FrameHeader,
     ops: usize,
+    cmap: &[u8],
     a: &mut [u8],
     b: &mut [u8],
+    map: &mut [u8],
     work: &[u8],
     rec: &mut [u8],
 ) -> SteppedOn
-    requires { ⌜ Fits state (length (now a)) (length (now work)) × Fits state (length (now b)) (length (now work)) ⌝ }
+    requires { ⌜ Fits state (length (now a)) (length (now work)) × Fits state (length (now b)) (length (now work)) × (length (now map) ≡ MAP) ⌝ }
     ensures { λ r. ⌜ LeavesOn
-        (commit (record { a = now (a .entry); b = now (b .entry); state = state }) (length (now (rec .entry)))
-        (record { picture = now (work .entry); next = next; header = header; ops = ops }))
-        (lent (now (a .entry)) (now (b .entry)) state (now (work .entry)) (now (rec .entry))) r
-        (lent (now (a .exit)) (now (b .exit)) (r .state) (now (work .entry)) (now (rec .exit))) ⌝ }
+        (commit (record { a = now (a .entry); b = now (b .entry); map = now (map .entry); state = state }) (length (now (rec .entry)))
+        (record { picture = now (work .entry); next = next; header = header; ops = ops; cmap = now (cmap .entry) }))
+        (lent (now (a .entry)) (now (b .entry)) (now (map .entry)) state (now (work .entry)) (now (rec .entry))) r
+        (lent (now (a .exit)) (now (b .exit)) (now (map .exit)) (r .state) (now (work .entry)) (now (rec .exit))) ⌝ }
 {
-    let w = commit_hidden(state, a, b, work, rec);
+    let w = commit_hidden(state, cmap, a, b, map, work, rec);
     match w {
         Recorded::Refused(why) => SteppedOn {
             answer: On::Refused(why),
@@ -213,13 +220,14 @@ pub fn step_on(
     state: State,
     a: &mut [u8],
     b: &mut [u8],
+    map: &mut [u8],
     work: &mut [u8],
     rec: &mut [u8],
 ) -> SteppedOn
-    ensures { λ r. ⌜ MeetsOn (now (file .entry)) (lent (now (a .entry)) (now (b .entry)) state (now (work .entry)) (now (rec .entry))) r
-        (lent (now (a .exit)) (now (b .exit)) (r .state) (now (work .exit)) (now (rec .exit))) ⌝ }
+    ensures { λ r. ⌜ MeetsOn (now (file .entry)) (lent (now (a .entry)) (now (b .entry)) (now (map .entry)) state (now (work .entry)) (now (rec .entry))) r
+        (lent (now (a .exit)) (now (b .exit)) (now (map .exit)) (r .state) (now (work .exit)) (now (rec .exit))) ⌝ }
 {
-    let x = look_ahead(file, state, a, b, work);
+    let x = look_ahead(file, state, a, b, map, work);
     match x {
         Ahead::Refused(why) => SteppedOn {
             answer: On::Refused(why),
@@ -229,6 +237,16 @@ pub fn step_on(
             answer: On::End,
             state,
         },
-        Ahead::Built { next, header, ops } => commit(state, next, header, ops, a, b, work, rec),
+        Ahead::Built {
+            next,
+            header,
+            ops,
+            cmap_start,
+            cmap_len,
+        } => {
+            let anim = buffer::part(file, 0, state.end);
+            let cmap = buffer::part(anim, cmap_start, cmap_len);
+            commit(state, next, header, ops, cmap, a, b, map, work, rec)
+        }
     }
 }

@@ -7,7 +7,7 @@ use Rattle.anim_list.proofs.main.Tie as tie
 
 slice-aggregate-write-all : tie.Need-slice-aggregate-write-all
 slice-aggregate-write-all c =
-    let at-list = c .before .before .before .before .before .before in
+    let at-list = c .before .before .before .before .before .before .before in
     sym (length-take-le _ _ (at-list .list .ensures .most))
 
 pub main-spec : {M : Type 1} → statement M
@@ -16,6 +16,6 @@ main-spec =
     (tie.spec
     (λ c. search needs) (λ c κs. search needs) (λ c. search needs) (λ c κs. search needs) (λ c. search needs)
     (λ c. search needs) (λ c. search needs) (λ c. search needs) (λ c. search needs) (λ c. search needs)
-    (λ c. search needs) (λ c. search needs) (λ c κs. search needs) (λ c. search needs)
+    (λ c. search needs) (λ c. search needs) (λ c. search needs) (λ c κs. search needs) (λ c. search needs)
     slice-aggregate-write-all
     (λ c κs. search needs) (λ c. search needs) (λ c κs. search needs) (λ c. search needs) (λ c. search needs))

@@ -8,9 +8,9 @@ use Rattle.listing.proofs.list_file.Tie as tie
 
 list-front-requires : tie.Need-list-front-requires
 list-front-requires c κs =
-    let at-p = c .before .before .before .before .before .before in
+    let at-p = c .before .before .before .before .before .before .before in
     let at-plan-for = at-p .before .before in
-    let at-start = at-plan-for .before .before .before .before .before .before .before in
+    let at-start = at-plan-for .before .before .before .before .before .before .before .before in
     holds-less (pictures-fit _ (told planOf (at-plan-for .plan-for .ensures) (at-p .p2 .given .1))) (at-start .pre)
 
 same-length : tie.Need-same-length
@@ -23,8 +23,8 @@ returns c =
     lists-single _ _ (told planOf (at-plan-for .plan-for .ensures) (at-p .p .given .1)) (c .before .before .put-line .ensures)
 
 -- where the frames were listed
-abbrev listed : tie.After-slice-known11 → tie.After-list-front
-listed c = c .before .before .before .before .before .before .before .before .before .before
+abbrev listed : tie.After-slice-known13 → tie.After-list-front
+listed c = c .before .before .before .before .before .before .before .before .before .before .before .before
 
 same-length-2 : tie.Need-same-length-2
 same-length-2 c = listed c .list-front .kept .1 .1 .0
@@ -41,9 +41,12 @@ same-length-5 c = listed c .list-front .kept .1 .1 .1 .1 .1 .0
 same-length-6 : tie.Need-same-length-6
 same-length-6 c = listed c .list-front .kept .1 .1 .1 .1 .1 .1 .0
 
+same-length-7 : tie.Need-same-length-7
+same-length-7 c = listed c .list-front .kept .1 .1 .1 .1 .1 .1 .1 .0
+
 returns-2 : tie.Need-returns-2
 returns-2 c =
-    let at-p = listed c .before .before .before .before .before .before .before in
+    let at-p = listed c .before .before .before .before .before .before .before .before in
     let at-plan-for = at-p .before .before in
     lists-pictures _ _ (told planOf (at-plan-for .plan-for .ensures) (at-p .p2 .given .1)) (listed c .list-front .ensures)
 
@@ -60,4 +63,5 @@ list-file-spec =
     same-length-4
     same-length-5
     same-length-6
+    same-length-7
     returns-2)

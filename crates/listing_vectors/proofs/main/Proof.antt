@@ -1,14 +1,14 @@
--- `listing_vectors::main`: the numbers rise to 146.
+-- `listing_vectors::main`: the numbers rise to 168.
 use Prim.Native.Nat.{_≤_, _-_}
 use native.Mathlib.Omega.{arith}
 use Rattle.listing_vectors.proofs.main.Statement.{statement}
 use Rattle.listing_vectors.proofs.main.Tie as tie
 
 abbrev Inv-loop : tie.InvT-loop
-Inv-loop number₀ number = number ≤ 147
+Inv-loop number₀ number = number ≤ 169
 
 abbrev μ-loop : tie.MeasureT-loop
-μ-loop number₀ number = 147 - number
+μ-loop number₀ number = 169 - number
 
 loop-holds : tie.Need-loop-holds Inv-loop μ-loop
 loop-holds c = omega arith

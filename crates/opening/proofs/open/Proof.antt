@@ -16,13 +16,13 @@ part-open-picture-end : tie.Need-part-open-picture-end
 part-open-picture-end c = omega (arith, chunks-inside _ (told placesOf (c .before .before .before .first-places .ensures) (c .before .p2 .given .1)))
 
 returns : tie.Need-returns
-returns c = opens-nowhere _ _ _ (told placesOf (c .before .before .before .before .first-places .ensures) (c .before .before .p .given .1)) (c .refused .ensures)
+returns c = opens-nowhere _ _ _ _ (told placesOf (c .before .before .before .before .first-places .ensures) (c .before .before .p .given .1)) (c .refused .ensures)
 
 returns-2 : tie.Need-returns-2
 returns-2 c =
-    let o = c .before .before .before .before in
-    let p = o .before .before .before .before .before in
-    opens-at _ _ _ _ (told placesOf (p .before .before .first-places .ensures) (p .p2 .given .1)) (rw (add-sub-cancel-left _ _) refl) (o .open-picture .ensures)
+    let o = c .before .before .before .before .before .before in
+    let p = o .before .before .before .before .before .before in
+    opens-at _ _ _ _ _ (told placesOf (p .before .before .first-places .ensures) (p .p2 .given .1)) (rw (add-sub-cancel-left _ _) refl) (o .open-picture .ensures)
 
 pub open-spec : {M : Type 1} → statement M
 open-spec =
@@ -34,5 +34,5 @@ open-spec =
     part-open-picture-end
     (λ c κs. search needs)
     returns
-    (λ c. search needs) (λ c. search needs)
+    (λ c. search needs) (λ c. search needs) (λ c. search needs)
     returns-2)

@@ -1,35 +1,21 @@
--- `step_on::look`: the next frame, if there is one, is built; its DLTA is a part of FORM ANIM.
-use native.Mathlib.Nat.{add-sub-cancel-left}
-use native.Mathlib.Omega.{arith}
-use mathlib.Core.Path.{_≡_}
+-- `step_on::look`: the next frame, if there is one, is built; its DLTA and its CMAP are parts of FORM ANIM.
+use mathlib.Core.Path.{_≡_, refl}
 use Rattle.laws.proofs.ResultLaws.{told}
 use Rattle.state.specs.State.{rowBytes}
 use Rattle.frame.specs.Frame.{nextOf, frameAt}
-use Rattle.frame.proofs.FrameLaws.{Rises, frame-rises, frame-columns}
-use Rattle.step_on.proofs.StepLaws.{look-refused, look-ended, look-built}
+use Rattle.step_on.proofs.StepLaws.{look-refused, look-ended, look-unbuilt, look-built}
 use borrow.Author.Needs.{needs}
 use Rattle.step_on.proofs.look.Statement.{statement}
 use Rattle.step_on.proofs.look.Tie as tie
 
 -- where the call begins, and what the frame at the next place is
 abbrev begin : tie.After-frame-at → tie.Start
-begin f = f .before .before .before .before .before .before .before
+begin f =
+    let at-node = f .before .before .before .before .before .before .before in
+    at-node
 
 found : (f : tie.After-frame-at) → let k = begin f .args in nextOf (k .anim .now) (f .frame-at .result) ≡ frameAt (k .anim .now) (k .state .next) (rowBytes (k .state .sizes .width))
 found f = rw (f .before .row-bytes .ensures) at (f .frame-at .ensures)
-
-add-stop : tie.Need-add-stop
-add-stop c = let f = c .before .before .before in let l : Rises _ _ _ = frame-rises _ _ _ _ (told (nextOf (begin f .args .anim .now)) (found f) (c .before .f2 .given .1)) in omega (arith, l .holds)
-
-part-dlta-end : tie.Need-part-dlta-end
-part-dlta-end c = let f = c .before .before .before in let l : Rises _ _ _ = frame-rises _ _ _ _ (told (nextOf (begin f .args .anim .now)) (found f) (c .before .f2 .given .1)) in omega (arith, l .holds)
-
-build-requires : tie.Need-build-requires
-build-requires c κs =
-    let f = c .before .before .before .before .before in
-    let k = begin f .args in
-    let e = told (nextOf (k .anim .now)) (found f) (c .before .before .before .f2 .given .1) in
-    (begin f .pre .0, begin f .pre .1, frame-columns (k .anim .now) (rowBytes (k .state .sizes .width)) (k .state .next) _ e)
 
 returns : tie.Need-returns
 returns c =
@@ -45,22 +31,33 @@ returns-2 c =
 
 returns-3 : tie.Need-returns-3
 returns-3 c =
-    let t = c .before .before .before .before .before .before in
+    let d = c .before .before .before .before .before in
+    let t = d .before .before .before .before in
     let f = t .before .before in
-    let k = begin f .args in
-    look-built (k .anim .now) (k .state) (k .shown .now) (k .hidden .now) (k .work .now) (told (nextOf (k .anim .now)) (found f) (t .f2 .given .1))
-    (rw (add-sub-cancel-left _ _)) (c .before .before .build .ensures)
+    let b = begin f in
+    let k = b .args in
+    look-unbuilt (k .anim .now) (k .state) (k .shown .now) (k .hidden .now) (k .work .now) (b .pre .0) (b .pre .1) (told (nextOf (k .anim .now)) (found f) (t .f2 .given .1))
+    (rw (c .before .d .given .1, d .before .before .part .ensures) at (d .apply-frame .ensures))
+
+returns-4 : tie.Need-returns-4
+returns-4 c =
+    let d = c .before .before .before .before .before in
+    let t = d .before .before .before .before in
+    let f = t .before .before in
+    let b = begin f in
+    let k = b .args in
+    look-built (k .anim .now) (k .state) (k .shown .now) (k .hidden .now) (k .work .now) (b .pre .0) (b .pre .1) (told (nextOf (k .anim .now)) (found f) (t .f2 .given .1)) refl
+    (rw (c .before .d2 .given .1, d .before .before .part .ensures) at (d .apply-frame .ensures))
 
 pub look-spec : {M : Type 1} → statement M
 look-spec =
     tie.close
     (tie.spec
     (λ c κs. search needs) (λ c κs. search needs) (λ c. search needs) (λ c. search needs) (λ c. search needs)
-    add-stop
-    (λ c. search needs) (λ c. search needs)
-    part-dlta-end
-    build-requires
+    (λ c κs. search needs) (λ c κs. search needs) (λ c. search needs) (λ c. search needs)
     returns
     returns-2
     (λ c. search needs)
-    returns-3)
+    returns-3
+    (λ c. search needs)
+    returns-4)

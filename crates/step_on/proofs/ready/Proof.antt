@@ -15,23 +15,23 @@ returns-2 : tie.Need-returns-2
 unfolding ready
 returns-2 c =
     let l = c .before .before .before .before in
-    simp (le-leb _ _ (l .before .if1 .left), told lengthOf (l .lent-length .ensures) (c .before .before .l2 .given .1), ne-eqb _ _ (c .if2 .taken))
+    simp (le-leb _ _ (l .before .if1 .left), told lengthOf (l .step-length .ensures) (c .before .before .l2 .given .1), ne-eqb _ _ (c .if2 .taken))
 
 returns-3 : tie.Need-returns-3
 unfolding ready
 returns-3 c =
     let l = c .before .before .before .before .before .before in
-    simp (le-leb _ _ (l .before .if1 .left), told lengthOf (l .lent-length .ensures) (c .before .before .before .before .l2 .given .1), eq-eqb _ _ (c .before .before .if2 .left), le-ltb _ _ (c .if3 .taken))
+    simp (le-leb _ _ (l .before .if1 .left), told lengthOf (l .step-length .ensures) (c .before .before .before .before .l2 .given .1), eq-eqb _ _ (c .before .before .if2 .left), le-ltb _ _ (c .if3 .taken))
 
 returns-4 : tie.Need-returns-4
 unfolding ready
-returns-4 c = simp (le-leb _ _ (c .before .before .before .before .if1 .left), told lengthOf (c .before .before .before .lent-length .ensures) (c .before .l .given .1))
+returns-4 c = simp (le-leb _ _ (c .before .before .before .before .if1 .left), told lengthOf (c .before .before .before .step-length .ensures) (c .before .l .given .1))
 
 returns-5 : tie.Need-returns-5
 unfolding ready
 returns-5 c =
     let l = c .before .before .before .before .before .before in
-    simp (le-leb _ _ (l .before .if1 .left), told lengthOf (l .lent-length .ensures) (c .before .before .before .before .l2 .given .1), eq-eqb _ _ (c .before .before .if2 .left), lt-ltb _ _ (c .if3 .left))
+    simp (le-leb _ _ (l .before .if1 .left), told lengthOf (l .step-length .ensures) (c .before .before .before .before .l2 .given .1), eq-eqb _ _ (c .before .before .if2 .left), lt-ltb _ _ (c .if3 .left))
 
 pub ready-spec : {M : Type 1} → statement M
 ready-spec =

@@ -73,6 +73,9 @@ returns-22 c = ap numberOf (sym (c .enum-told22 .given .1))
 returns-23 : tie.Need-returns-23
 returns-23 c = ap numberOf (sym (c .enum-told23 .given .1))
 
+returns-24 : tie.Need-returns-24
+returns-24 c = ap numberOf (sym (c .enum-told24 .given .1))
+
 pub number-spec : {M : Type 1} → statement M
 number-spec =
     tie.close
@@ -81,7 +84,7 @@ number-spec =
     (λ c. search needs) (λ c. search needs) (λ c. search needs) (λ c. search needs) (λ c. search needs)
     (λ c. search needs) (λ c. search needs) (λ c. search needs) (λ c. search needs) (λ c. search needs)
     (λ c. search needs) (λ c. search needs) (λ c. search needs) (λ c. search needs) (λ c. search needs)
-    (λ c. search needs) (λ c. search needs) (λ c. search needs)
+    (λ c. search needs) (λ c. search needs) (λ c. search needs) (λ c. search needs)
     returns
     returns-2
     returns-3
@@ -104,4 +107,5 @@ number-spec =
     returns-20
     returns-21
     returns-22
-    returns-23)
+    returns-23
+    returns-24)
