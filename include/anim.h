@@ -3,8 +3,8 @@
  *
  * It reads files whose first picture is an ILBM BODY, plain or packed by ByteRun1, or a delta, and
  * whose later frames are deltas, of method 2 (long delta), 3 (short delta), 5 (byte vertical) or 7
- * (short or long vertical). It plays them forward and, with the records that it writes, back again,
- * and it writes method 5 deltas.
+ * (short or long vertical), with the colours of their CMAPs. It plays them forward and, with the
+ * records that it writes, back again, and it writes method 5 deltas.
  *
  *     rt staticlib anim
  *     cc -I include examples/viewer.c target/staticlib/libanim.a -o viewer
@@ -23,10 +23,10 @@
  *     no alignment.
  *   - Calls may run at the same time in several threads if no buffer that one of them writes overlaps a
  *     buffer of another. Two players may share one file, which is only read.
- *   - Its arguments stand in one order: numbers (sizes, plane, row); the file; the state; A, B; the work
- *     buffer; the record or the output; the report or the length. Each function has a typed call at the
- *     end of this header, which takes an anim_state, an anim_report or a uint64_t by its address, and
- *     the length of A, B and the work buffer once.
+ *   - Its arguments stand in one order: numbers (sizes, plane, row); the file; the state; A, B, the map;
+ *     the work buffer; the record or the output; the report or the length. Each function has a typed call
+ *     at the end of this header, which takes an anim_state, an anim_report or a uint64_t by its address,
+ *     the map without its length, and the length of A, B and the work buffer once.
  *   - Of several things that are wrong, the first in the order given here is answered.
  *   - A refused call changes nothing, with two exceptions: anim_open writes six zeros to the state,
  *     and a step on that is refused with ANIM_NO_ROOM leaves the frame in the work buffer.
@@ -40,10 +40,19 @@
  *
  *   A player has two picture buffers, A and B, each exactly a frame long. Odd frames are shown in A,
  *   even ones in B; the other one is hidden and holds the frame before (frame 1 at frame 1). The work
- *   buffer is a third buffer of the same length. Between calls the caller may read everything, and may
- *   write the work buffer, the report and any record buffer whose record isn't kept for stepping back.
- *   Whoever changes the file, A, B, the state or a kept record in between gets pictures built on what
- *   was written, or a refusal: still nothing undefined, but no longer the file's frames.
+ *   buffer is a third buffer of the same length.
+ *
+ *   The map is a buffer of exactly 768 bytes, 256 colours of three bytes each: red, green, blue, as CMAP
+ *   has them. Colour n, the number that the planes' bits make up, stands at 3 * n; with 5 planes the
+ *   pixels' colours are the first 32. Opening clears the map, so that colours which were never set are
+ *   zeros. A frame's CMAP replaces as many of the first colours as it has and no others, and they hold
+ *   for that frame and all after it until the next CMAP. A frame without a CMAP, or with one of no bytes,
+ *   changes none. There is one map and not one for each picture: it has the colours of the shown frame.
+ *
+ *   Between calls the caller may read everything, and may write the work buffer, the report and any
+ *   record buffer whose record isn't kept for stepping back. Whoever changes the file, A, B, the map, the
+ *   state or a kept record in between gets pictures and colours built on what was written, or a refusal:
+ *   still nothing undefined, but no longer the file's frames.
  */
 #ifndef ANIM_H
 #define ANIM_H
@@ -56,7 +65,7 @@ extern "C" {
 #endif
 
 /* The version of the interface. It grows by one with every landing that changes the interface. */
-#define ANIM_VERSION 6
+#define ANIM_VERSION 7
 
 /* Limits. */
 #define ANIM_MAX_WIDTH 1024                /* pixels */
@@ -66,13 +75,16 @@ extern "C" {
 #define ANIM_MAX_FRAME_BYTES 1048576       /* the longest frame: 1024 x 1024 in 8 planes */
 #define ANIM_MAX_FILE UINT64_C(2147483647) /* the longest file, in bytes */
 
+/* The map's length: 256 colours of three bytes. */
+#define ANIM_MAP_BYTES 768
+
 /* Answers that aren't refusals. */
 #define ANIM_OK 0  /* opened, taken or written; the size is answered; the row is there */
 #define ANIM_END 1 /* stepping on: no frame is left, nothing changed */
 
 /* Refusals. 44, once a Uniq or Same of none, is retired: no call is refused with it, and it isn't used again. */
 #define ANIM_OUTSIDE_LIMITS 11     /* a state or size outside the limits; a state, report, size or length lent with a wrong length */
-#define ANIM_BUFFER_LENGTH 12      /* a picture or work buffer that isn't exactly a frame long */
+#define ANIM_BUFFER_LENGTH 12      /* a picture or work buffer that isn't exactly a frame long; a map that isn't 768 bytes long */
 #define ANIM_FILE_TOO_LONG 13      /* a file of more than 2147483647 bytes */
 #define ANIM_NO_SUCH_ROW 14        /* no such plane or row */
 #define ANIM_CHUNK_PAST_PARENT 21  /* under 12 bytes; a chunk passes its parent; FORM ANIM or a FORM directly in it under 4 bytes */
@@ -86,6 +98,7 @@ extern "C" {
 #define ANIM_UNKNOWN_INTERLEAVE 34 /* a later frame's interleave other than 0, 1 and 2 */
 #define ANIM_UNKNOWN_OPTIONS 35    /* option bits: any for methods 2, 3 and 5, bits 1 to 31 for method 7 */
 #define ANIM_ODD_LONG_COLUMNS 36   /* method 7 with long data, and B isn't a multiple of 4 */
+#define ANIM_BAD_COLOURS 37        /* a CMAP whose length isn't a multiple of 3 or is above 768 */
 #define ANIM_BAD_POINTER 41        /* DLTA under 64 bytes (methods 2 and 3: 32), or a pointer outside that to its length */
 #define ANIM_DELTA_TOO_SHORT 42    /* an op count, op, offset, count, item or word past DLTA's end */
 #define ANIM_OP_PAST_LAST_ROW 43   /* an op past the last row */
@@ -97,7 +110,7 @@ extern "C" {
 
 /*
  * Where a player stands. anim_open fills it; hand it to the other calls as anim_open or the last step
- * left it. It may be copied, kept and put back together with A and B.
+ * left it. It may be copied, kept and put back together with A, B and the map.
  *
  * It is handed over as its 48 bytes, each number with its low byte first, as on x86-64. It is lent as
  * (uint8_t *)&state, sizeof state, which the typed calls do: a struct of six uint64_t has no gaps, and
@@ -120,7 +133,7 @@ typedef struct anim_state {
 typedef struct anim_report {
     uint64_t method;        /* 2, 3, 5 or 7 */
     uint64_t time;          /* ANHD's relative time, in sixtieths of a second */
-    uint64_t changed;       /* how many bytes of the hidden buffer changed */
+    uint64_t changed;       /* how many bytes of the hidden buffer changed; those of the map aren't counted */
     uint64_t record_length; /* how many bytes of the record buffer are this step's record */
     uint64_t ops;           /* methods 5 and 7: how many ops its lists have; methods 2 and 3: 0 */
 } anim_report;
@@ -137,15 +150,17 @@ typedef char anim_report_has_40_bytes[sizeof(anim_report) == 40 ? 1 : -1];
 
 /*
  * A record buffer's length that is enough for every step, for frames of so many bytes: twice the frame
- * and 12 bytes. It is proved that no step on with a record buffer of this length, or a longer one, is
- * refused with 51 (theorem never-51). 320 x 200 x 5: 2 * 40000 + 12 = 80012.
+ * and 12 bytes for the picture, and 1539 bytes for the map. It is proved that no step on with a record
+ * buffer of this length, or a longer one, is refused with 51 (theorem never-51). 320 x 200 x 5:
+ * 2 * 40000 + 12 + 1539 = 81551.
  *
- * A record is a frame number of at most three bytes, a place of at most five, a number of runs of at
- * most three, and for each run of changed bytes two numbers and the run's old bytes, in all at most twice
- * the frame and one byte. A shorter buffer does no harm: a step that has no room is refused with 51 and
- * changes nothing but the work buffer.
+ * A record is a frame number of at most three bytes, a place of at most five, and two lists of runs, of
+ * the picture's changed bytes and of the map's. A list is the number of its runs, of at most three bytes
+ * for a picture and two for the map, and for each run two numbers and the run's old bytes, in all at most
+ * one byte more than twice the picture or the map. A shorter buffer does no harm: a step that has no room
+ * is refused with 51 and changes nothing but the work buffer.
  */
-#define ANIM_RECORD_ROOM(frame_bytes) (2 * (frame_bytes) + 12)
+#define ANIM_RECORD_ROOM(frame_bytes) (2 * (frame_bytes) + 12 + 1539)
 
 /*
  * A delta buffer's length that is enough for every two pictures: 64 bytes of pointers, and for each
@@ -175,7 +190,7 @@ static inline const char *anim_refusal_text(uint64_t answer) {
     case ANIM_OK: return "not refused";
     case ANIM_END: return "no frame is left";
     case ANIM_OUTSIDE_LIMITS: return "a state or size is outside the limits, or lent with a wrong length";
-    case ANIM_BUFFER_LENGTH: return "a picture or work buffer isn't a frame long";
+    case ANIM_BUFFER_LENGTH: return "a picture or work buffer isn't a frame long, or the map isn't 768 bytes";
     case ANIM_FILE_TOO_LONG: return "the file is too long";
     case ANIM_NO_SUCH_ROW: return "no such plane or row";
     case ANIM_CHUNK_PAST_PARENT: return "a chunk passes its parent, or the file or a FORM is too short";
@@ -189,13 +204,14 @@ static inline const char *anim_refusal_text(uint64_t answer) {
     case ANIM_UNKNOWN_INTERLEAVE: return "the interleave is none of 0, 1 and 2";
     case ANIM_UNKNOWN_OPTIONS: return "option bits that the method doesn't have";
     case ANIM_ODD_LONG_COLUMNS: return "method 7's long data, and a row isn't a multiple of 4 bytes";
+    case ANIM_BAD_COLOURS: return "CMAP has a length that isn't a multiple of 3, or is above 768";
     case ANIM_BAD_POINTER: return "DLTA is too short for its pointers, or a pointer is bad";
     case ANIM_DELTA_TOO_SHORT: return "an op or its data passes DLTA's end";
     case ANIM_OP_PAST_LAST_ROW: return "an op passes the last row";
     case ANIM_WORD_PAST_PLANE: return "a move or a word goes beyond its plane";
     case ANIM_NO_ROOM: return "the record or delta is longer than its buffer";
     case ANIM_LAST_FRAME: return "no step goes on from frame 1000000";
-    case ANIM_BAD_RECORD: return "the record is malformed, or doesn't fit the shown picture";
+    case ANIM_BAD_RECORD: return "the record is malformed, or doesn't fit the shown picture or the map";
     case ANIM_OTHER_RECORD: return "the record is of another step";
     default: return "no such answer";
     }
@@ -217,15 +233,16 @@ uint64_t anim_frame_size(const uint8_t *file, size_t file_length,
                          uint8_t *size, size_t size_length);
 
 /*
- * Opens a file: A and B get its first picture, and the state gets frame 1. The first picture is the
- * BODY of the first FORM ILBM, or without one what its DLTA makes of an all-zero picture. With a BODY
- * neither ANHD nor DLTA is looked at.
+ * Opens a file: A and B get its first picture, the map its colours, and the state gets frame 1. The first
+ * picture is the BODY of the first FORM ILBM, or without one what its DLTA makes of an all-zero picture.
+ * With a BODY neither ANHD nor DLTA is looked at.
  *
  * file       the whole file; it is read and never changed. FORM ANIM starts at its first byte, and
  *            bytes after the FORM's end aren't read.
  * state      the 48 bytes of an anim_state.
  * a, b       each exactly a frame long, as anim_frame_size answers. A wrong guess does no harm, it is
  *            refused with 12.
+ * map        exactly 768 bytes, of any content.
  *
  * Answers ANIM_OK, or the first of these refusals:
  *   11  the state isn't 48 bytes long; then the state isn't written either
@@ -241,19 +258,22 @@ uint64_t anim_frame_size(const uint8_t *file, size_t file_length,
  *   31  it has neither BODY nor ANHD
  *   24  BMHD isn't 20 bytes long, has a width or height outside 1 to 1024 or planes outside 1 to 8,
  *       masking 1, or a compression above 1
- *   12  A or B isn't a frame long
+ *   12  A or B isn't a frame long, or the map isn't 768 bytes long
+ *   37  the length of CMAP isn't a multiple of 3 or is above 768
  *   25  BODY is too short, or a packed run passes its row
- *   or without a BODY
- *   32, 33, 35, 36, 41, 42, 43, 45  as anim_step_on answers them, in its order; 34 isn't asked, since
+ *   or without a BODY, after 12
+ *   32, 33, 35, 36, 37, 41, 42, 43, 45  as anim_step_on answers them, in its order; 34 isn't asked, since
  *       the first frame's interleave isn't looked at
  *
- * Opened, A and B both hold frame 1. Refused, A and B are as they were and the state is six zeros,
- * which every other call refuses with 11.
+ * Opened, A and B both hold frame 1, and the map holds the colours of the frame's CMAP and zeros behind
+ * them. Refused, A, B and the map are as they were and the state is six zeros, which every other call
+ * refuses with 11.
  */
 uint64_t anim_open(const uint8_t *file, size_t file_length,
                    uint8_t *state, size_t state_length,
                    uint8_t *a, size_t a_length,
-                   uint8_t *b, size_t b_length);
+                   uint8_t *b, size_t b_length,
+                   uint8_t *map, size_t map_length);
 
 /*
  * Steps on to the next frame.
@@ -261,6 +281,7 @@ uint64_t anim_open(const uint8_t *file, size_t file_length,
  * file       the file that was opened, whole and unchanged.
  * state      the 48 bytes of the anim_state.
  * a, b       the two picture buffers, each exactly a frame long.
+ * map        the map, exactly 768 bytes.
  * work       exactly a frame long, of any content. The new frame is built here.
  * record     of any length; ANIM_RECORD_ROOM of a frame is always enough. Keep the first
  *            report.record_length bytes for as long as the step may be taken back.
@@ -270,7 +291,7 @@ uint64_t anim_open(const uint8_t *file, size_t file_length,
  *   11  the state isn't 48 bytes long, or the report isn't 40
  *   11  the state is outside the limits (width, height, planes, frame), or not 12 <= next <= end <=
  *       2147483647, or the end place is past the file's length
- *   12  A, B or the work buffer isn't a frame long
+ *   12  A, B or the work buffer isn't a frame long, or the map isn't 768 bytes long
  *   53  the state is at frame 1000000, a frame left or not
  *   21  a chunk from the next place to the end of the next FORM ILBM, or to the end place if there is
  *       none, passes its parent, or a FORM directly in FORM ANIM is shorter than 4
@@ -282,6 +303,7 @@ uint64_t anim_open(const uint8_t *file, size_t file_length,
  *   34  the interleave is none of 0, 1 and 2
  *   35  option bits that the method doesn't have
  *   36  method 7 with long data, and B isn't a multiple of 4
+ *   37  the length of CMAP isn't a multiple of 3 or is above 768; no CMAP is as one of no bytes
  *   41  DLTA is shorter than 64 bytes (methods 2 and 3: 32)
  *   then plane by plane
  *   41  a pointer that is read doesn't lead to 64 (methods 2 and 3: 32) .. DLTA's length
@@ -296,17 +318,20 @@ uint64_t anim_open(const uint8_t *file, size_t file_length,
  *
  * The new frame is what its delta makes of the hidden picture (interleave 0 or 2: two frames back, for
  * frame 2 the first picture) or of the shown one (interleave 1: one frame back). The record is of the
- * hidden buffer before and after, whichever picture the frame is built on.
+ * hidden buffer before and after, whichever picture the frame is built on, and of the map before and
+ * after.
  *
  * Taken: the hidden buffer and the work buffer hold the new frame, the shown buffer is as it was, the
- * state is at the next frame and past its FORM, the report tells of it, and the record's bytes stand
- * at the front of the record buffer, whose other bytes stay. The hidden buffer is now the shown one.
+ * frame's colours stand in the map, whose other colours stay, the state is at the next frame and past its
+ * FORM, the report tells of it, and the record's bytes stand at the front of the record buffer, whose
+ * other bytes stay. The hidden buffer is now the shown one.
  * End or refused: all is as it was, but that 51 leaves the new frame in the work buffer.
  */
 uint64_t anim_step_on(const uint8_t *file, size_t file_length,
                       uint8_t *state, size_t state_length,
                       uint8_t *a, size_t a_length,
                       uint8_t *b, size_t b_length,
+                      uint8_t *map, size_t map_length,
                       uint8_t *work, size_t work_length,
                       uint8_t *record, size_t record_length,
                       uint8_t *report, size_t report_length);
@@ -316,6 +341,7 @@ uint64_t anim_step_on(const uint8_t *file, size_t file_length,
  *
  * state      the 48 bytes of the anim_state.
  * a, b       the two picture buffers, each exactly a frame long.
+ * map        the map, exactly 768 bytes.
  * record     the record of the step that led to the shown frame, exactly as long as its report said.
  *
  * The file isn't needed. Steps are taken back latest first, so keep the records of steps on as a stack.
@@ -323,18 +349,19 @@ uint64_t anim_step_on(const uint8_t *file, size_t file_length,
  * Answers ANIM_OK if the step is taken back, or the first of these refusals:
  *   11  the state isn't 48 bytes long
  *   11  the state is outside the limits, or not 12 <= next <= end <= 2147483647
- *   12  A or B isn't a frame long
- *   61  the record is malformed for a frame of this length, has bytes left over, or has an old byte
- *       that equals the one it would replace in the shown picture
+ *   12  A or B isn't a frame long, or the map isn't 768 bytes long
+ *   61  the record is malformed for a frame of this length or for the map, has bytes left over, or has an
+ *       old byte that equals the one it would replace in the shown picture or in the map
  *   62  the record's frame is below 2 or not the state's, or its place isn't in 12 .. next - 1
  *
- * Taken: the shown buffer holds the frame that it held before the step on, the other one is as it was
- * and is now the shown one, and the state is at the frame before, as it was then. Refused: all is as
+ * Taken: the shown buffer and the map hold what they held before the step on, the other buffer is as it
+ * was and is now the shown one, and the state is at the frame before, as it was then. Refused: all is as
  * it was. At frame 1 the answer is never ANIM_OK.
  */
 uint64_t anim_step_back(uint8_t *state, size_t state_length,
                         uint8_t *a, size_t a_length,
                         uint8_t *b, size_t b_length,
+                        uint8_t *map, size_t map_length,
                         const uint8_t *record, size_t record_length);
 
 /*
@@ -388,28 +415,32 @@ uint64_t anim_write_delta(uint64_t width, uint64_t height, uint64_t planes,
 
 /*
  * Typed calls. Each makes the call of its name without _typed, in which the state, the report, the size
- * and the length have the right lengths, and each picture and the work buffer have frame_length bytes.
- * Answers and refusals are that call's.
+ * and the length have the right lengths, the map has ANIM_MAP_BYTES, and each picture and the work buffer
+ * have frame_length bytes. Answers and refusals are that call's.
  */
 static inline uint64_t anim_frame_size_typed(const uint8_t *file, size_t file_length, uint64_t *size) {
     return anim_frame_size(file, file_length, (uint8_t *)size, sizeof *size);
 }
 
 static inline uint64_t anim_open_typed(const uint8_t *file, size_t file_length, anim_state *state,
-                                       uint8_t *a, uint8_t *b, size_t frame_length) {
-    return anim_open(file, file_length, (uint8_t *)state, sizeof *state, a, frame_length, b, frame_length);
+                                       uint8_t *a, uint8_t *b, uint8_t map[ANIM_MAP_BYTES], size_t frame_length) {
+    return anim_open(file, file_length, (uint8_t *)state, sizeof *state, a, frame_length, b, frame_length,
+                     map, ANIM_MAP_BYTES);
 }
 
 static inline uint64_t anim_step_on_typed(const uint8_t *file, size_t file_length, anim_state *state,
-                                          uint8_t *a, uint8_t *b, uint8_t *work, size_t frame_length,
+                                          uint8_t *a, uint8_t *b, uint8_t map[ANIM_MAP_BYTES],
+                                          uint8_t *work, size_t frame_length,
                                           uint8_t *record, size_t record_length, anim_report *report) {
     return anim_step_on(file, file_length, (uint8_t *)state, sizeof *state, a, frame_length, b, frame_length,
-                        work, frame_length, record, record_length, (uint8_t *)report, sizeof *report);
+                        map, ANIM_MAP_BYTES, work, frame_length, record, record_length, (uint8_t *)report, sizeof *report);
 }
 
-static inline uint64_t anim_step_back_typed(anim_state *state, uint8_t *a, uint8_t *b, size_t frame_length,
+static inline uint64_t anim_step_back_typed(anim_state *state,
+                                            uint8_t *a, uint8_t *b, uint8_t map[ANIM_MAP_BYTES], size_t frame_length,
                                             const uint8_t *record, size_t record_length) {
-    return anim_step_back((uint8_t *)state, sizeof *state, a, frame_length, b, frame_length, record, record_length);
+    return anim_step_back((uint8_t *)state, sizeof *state, a, frame_length, b, frame_length, map, ANIM_MAP_BYTES,
+                          record, record_length);
 }
 
 static inline uint64_t anim_row_place_typed(uint64_t plane, uint64_t row, const anim_state *state,

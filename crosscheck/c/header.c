@@ -12,7 +12,7 @@ typedef uint8_t delta_buffer[ANIM_DELTA_ROOM(320, 200, 5)];
 
 /* 44 is retired: it has no text of its own. */
 static const uint64_t answers[] = {ANIM_OK, ANIM_END, 11, 12, 13, 14, 21, 22, 23, 24, 25, 31, 32,
-                                   33, 34, 35, 36, 41, 42, 43, 45, 51, 53, 61, 62};
+                                   33, 34, 35, 36, 37, 41, 42, 43, 45, 51, 53, 61, 62};
 static int failed = 0;
 
 static void expect(int holds, const char *what) {
@@ -25,20 +25,21 @@ static void expect(int holds, const char *what) {
 static void numbers(void) {
     uint64_t width = 320, height = 200, planes = 5, frame = 40000;
     expect(ANIM_MAX_FILE + 1 == (uint64_t)1 << 31, "ANIM_MAX_FILE and 1 is 2147483648");
-    expect(ANIM_RECORD_ROOM(2) == 16 && sizeof(record_buffer) == 80012, "record buffers for 2 and for 40000 bytes");
+    expect(ANIM_MAP_BYTES == 256 * 3, "the map has 256 colours of three bytes");
+    expect(ANIM_RECORD_ROOM(2) == 1555 && sizeof(record_buffer) == 81551, "record buffers for 2 and for 40000 bytes");
     expect(sizeof(delta_buffer) == 60464, "a delta buffer for 320 x 200 x 5");
-    expect(ANIM_RECORD_ROOM(frame++) == 80012 && frame == 40001, "ANIM_RECORD_ROOM evaluates its argument once");
+    expect(ANIM_RECORD_ROOM(frame++) == 81551 && frame == 40001, "ANIM_RECORD_ROOM evaluates its argument once");
     expect(ANIM_DELTA_ROOM(width++, height++, planes++) == 60464, "ANIM_DELTA_ROOM of what is counted on");
     expect(width == 321 && height == 201 && planes == 6, "ANIM_DELTA_ROOM evaluates its arguments once");
 }
 
 /* The report's numbers, of eight bytes each, stand in their order. */
 static void reports(void) {
-    const anim_report report = {5, 3, 2, 9, 1};
-    const uint64_t wanted[] = {5, 3, 2, 9, 1};
+    const anim_report report = {5, 3, 2, 10, 1};
+    const uint64_t wanted[] = {5, 3, 2, 10, 1};
     expect(sizeof report == sizeof wanted && memcmp(&report, wanted, sizeof wanted) == 0, "a report is five numbers");
     expect(report.method == 5 && report.time == 3 && report.changed == 2, "a report's first three numbers");
-    expect(report.record_length == 9 && report.ops == 1, "a report's last two numbers");
+    expect(report.record_length == 10 && report.ops == 1, "a report's last two numbers");
 }
 
 static void pictures(void) {

@@ -13,7 +13,7 @@ struct kept {
 };
 
 struct player {
-    uint8_t *file, *a, *b, *work, *record;
+    uint8_t *file, *a, *b, *map, *work, *record;
     size_t file_length, frame, room;
     anim_state state;
     anim_report report;
@@ -52,12 +52,13 @@ static uint64_t open_file(struct player *p) {
     p->room = ANIM_RECORD_ROOM(p->frame);
     p->a = memory(p->frame);
     p->b = memory(p->frame);
+    p->map = memory(ANIM_MAP_BYTES);
     p->work = memory(p->frame);
     p->record = memory(p->room);
     p->latest = NULL;
     if (answer != ANIM_OK)
         return answer;
-    return anim_open_typed(p->file, p->file_length, &p->state, p->a, p->b, p->frame);
+    return anim_open_typed(p->file, p->file_length, &p->state, p->a, p->b, p->map, p->frame);
 }
 
 /* Lists of words have no ops that count, and columns have at most 255 each. */
@@ -70,7 +71,7 @@ static void check_ops(const struct player *p) {
 /* Steps on and keeps the record in memory of its own length. */
 static uint64_t step_on(struct player *p) {
     struct kept *k;
-    uint64_t answer = anim_step_on_typed(p->file, p->file_length, &p->state, p->a, p->b, p->work, p->frame,
+    uint64_t answer = anim_step_on_typed(p->file, p->file_length, &p->state, p->a, p->b, p->map, p->work, p->frame,
                                          p->record, p->room, &p->report);
     if (answer == ANIM_NO_ROOM)
         stop("a record has no room");
@@ -91,18 +92,20 @@ static uint64_t step_on(struct player *p) {
 /* Takes the latest step back and gives its record up. */
 static void step_back(struct player *p) {
     struct kept *k = p->latest;
-    if (anim_step_back_typed(&p->state, p->a, p->b, p->frame, k->bytes, k->length) != ANIM_OK)
+    if (anim_step_back_typed(&p->state, p->a, p->b, p->map, p->frame, k->bytes, k->length) != ANIM_OK)
         stop("a step back is refused");
     p->latest = k->before;
     free(k->bytes);
     free(k);
 }
 
-/* Asks for every row of the shown picture and looks at its bytes. */
+/* Looks at the bytes of the map, asks for every row of the shown picture, and looks at its bytes. */
 static unsigned look(const struct player *p) {
     const uint8_t *shown = anim_shown(&p->state, p->a, p->b);
     unsigned sum = 0;
     uint64_t plane, row, at, x;
+    for (x = 0; x < ANIM_MAP_BYTES; x++)
+        sum = sum * 31 + p->map[x];
     for (plane = 0; plane < p->state.planes; plane++)
         for (row = 0; row < p->state.height; row++) {
             if (anim_row_refusal_typed(plane, row, &p->state, p->a, p->b, p->frame) != ANIM_OK)
@@ -148,10 +151,11 @@ static void write_delta(const struct player *p) {
 static void play(struct player *p) {
     anim_state first = p->state;
     unsigned looked = look(p), most = 0;
-    uint8_t *a = memory(p->frame), *b = memory(p->frame);
+    uint8_t *a = memory(p->frame), *b = memory(p->frame), *map = memory(ANIM_MAP_BYTES);
     uint64_t answer;
     memcpy(a, p->a, p->frame);
     memcpy(b, p->b, p->frame);
+    memcpy(map, p->map, ANIM_MAP_BYTES);
     while ((answer = step_on(p)) == ANIM_OK) {
         look(p);
         write_delta(p);
@@ -159,10 +163,12 @@ static void play(struct player *p) {
     }
     while (p->latest != NULL)
         step_back(p);
-    if (memcmp(&first, &p->state, sizeof first) != 0 || memcmp(a, p->a, p->frame) != 0 || memcmp(b, p->b, p->frame) != 0 || look(p) != looked)
+    if (memcmp(&first, &p->state, sizeof first) != 0 || memcmp(a, p->a, p->frame) != 0 || memcmp(b, p->b, p->frame) != 0 ||
+        memcmp(map, p->map, ANIM_MAP_BYTES) != 0 || look(p) != looked)
         stop("it doesn't come back to frame 1");
     free(a);
     free(b);
+    free(map);
     printf("%u steps on and back, ", most);
     if (answer == ANIM_END)
         printf("end\n");
@@ -184,6 +190,7 @@ int main(int argc, char **argv) {
     free(p.file);
     free(p.a);
     free(p.b);
+    free(p.map);
     free(p.work);
     free(p.record);
     return 0;

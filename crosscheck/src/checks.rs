@@ -1,5 +1,6 @@
 //! The checks: groups of calls that are made on both sides.
 pub mod calls;
+pub mod colours;
 pub mod damaged;
 pub mod fences;
 pub mod first;
@@ -7,6 +8,7 @@ pub mod interleaves;
 pub mod large;
 pub mod limits;
 pub mod listings;
+pub mod lists;
 pub mod none;
 pub mod ops;
 pub mod orders;
@@ -39,21 +41,32 @@ pub fn play(check: &mut Check, file: &[u8]) -> Checked<()> {
 pub fn on_and_back(check: &mut Check, mut player: Player) -> Checked<()> {
     let mut past = Vec::new();
     loop {
-        let before = (player.a.bytes().to_vec(), player.b.bytes().to_vec(), player.now());
+        let before = (player.screen(), player.now());
         if player.step_on(&mut check.pair)? != 0 {
             break;
         }
         past.push((player.written(), before));
     }
-    for (record, (a, b, state)) in past.into_iter().rev() {
+    for (record, (screen, state)) in past.into_iter().rev() {
         if player.step_back(&mut check.pair, &record)? != 0 {
             return Err(format!("a step back to {state:?} with its own record is refused"));
         }
-        if (player.a.bytes(), player.b.bytes(), player.now()) != (&a, &b, state) {
+        if (player.screen(), player.now()) != (screen, state) {
             return Err(format!("a step back to {state:?} leads elsewhere"));
         }
     }
     Ok(())
+}
+
+/// The parts in one of their orders.
+pub fn ordered(mut parts: Vec<Vec<u8>>, mut order: usize) -> Vec<Vec<u8>> {
+    let mut out = Vec::new();
+    while !parts.is_empty() {
+        let many = parts.len();
+        out.push(parts.remove(order % many));
+        order /= many;
+    }
+    out
 }
 
 /// Small well-formed files of every kind of BODY and delta, and of every kind of first picture.
@@ -72,25 +85,28 @@ pub fn small_films(check: &mut Check) -> Vec<Vec<u8>> {
     films
 }
 
-/// A file of a first picture and a frame after it, both of them deltas of this method.
+/// A file of a first picture and a frame after it, both of them deltas of this method with a CMAP.
 fn only_deltas(random: &mut Random, sizes: Sizes, method: Method) -> Vec<u8> {
     let picture = files::any_picture(random, sizes, 256);
     let first = files::delta_on_black(&picture, sizes, method);
     let next = files::random_delta(random, sizes, method);
-    files::form(b"ANIM", &[files::first_delta_form(sizes, method, 3, &first), files::delta_form(method, 0, 1, &next)])
+    let parts = [files::first_delta_form(sizes, method, 3, &first), files::delta_form(method, 0, 1, &next)];
+    files::form(b"ANIM", &parts.map(|part| files::coloured(&part, &random.bytes(6))))
 }
 
-/// The methods with an interleave each.
-const INTERLEAVED: [(Method, u8); 5] = [(BYTES, 0), (SHORTS, 1), (LONGS, 2), (LONG_WORDS, 2), (SHORT_WORDS, 1)];
+/// The methods with an interleave each, and the bytes of a CMAP.
+const INTERLEAVED: [(Method, u8, Option<usize>); 5] =
+    [(BYTES, 0, Some(3)), (SHORTS, 1, None), (LONGS, 2, Some(6)), (LONG_WORDS, 2, Some(0)), (SHORT_WORDS, 1, Some(9))];
 
-/// A file with a packed BODY and a frame of each method that the picture may have, and of each interleave.
+/// A file with a packed BODY and a frame of each method that the picture may have, and of each interleave, most of them with a CMAP.
 fn every_method(random: &mut Random, sizes: Sizes) -> Vec<u8> {
     let picture = random.bytes(sizes.frame());
     let body = files::packed_body(&picture, sizes);
-    let mut parts = vec![files::picture_form(sizes, 1, &body)];
-    for (method, interleave) in INTERLEAVED.into_iter().filter(|(method, _)| method.fits(sizes)) {
+    let mut parts = vec![files::coloured(&files::picture_form(sizes, 1, &body), &random.bytes(6))];
+    for (method, interleave, cmap) in INTERLEAVED.into_iter().filter(|(method, ..)| method.fits(sizes)) {
         let delta = files::random_delta(random, sizes, method);
-        parts.push(files::delta_form(method, interleave, 3, &delta));
+        let form = files::delta_form(method, interleave, 3, &delta);
+        parts.push(cmap.map_or(form.clone(), |length| files::coloured(&form, &random.bytes(length))));
     }
     files::form(b"ANIM", &parts)
 }

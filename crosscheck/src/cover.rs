@@ -1,6 +1,6 @@
 //! The rules of the C interface over the plain functions: states, reports and lengths are numbers of eight bytes, low byte first.
 use crate::faults::broken;
-use crate::plain::{self, Answer, Report, State};
+use crate::plain::{self, Answer, Report, Screen, State};
 
 /// The number of a state, report or length slice of a wrong length.
 const WRONG_LENGTH: u64 = 11;
@@ -35,21 +35,21 @@ pub fn frame_size(file: &[u8], size: &mut [u8]) -> u64 {
     number(asked)
 }
 
-pub fn open(file: &[u8], state: &mut [u8], a: &mut [u8], b: &mut [u8]) -> u64 {
+pub fn open(file: &[u8], state: &mut [u8], screen: Screen) -> u64 {
     if state.len() != 48 {
         return WRONG_LENGTH;
     }
-    let opened = plain::open(file, a, b);
+    let opened = plain::open(file, screen);
     state.copy_from_slice(&state_bytes(opened.unwrap_or_default()));
     number(opened)
 }
 
-pub fn step_on(file: &[u8], state: &mut [u8], a: &mut [u8], b: &mut [u8], work: &mut [u8], record: &mut [u8], report: &mut [u8]) -> u64 {
+pub fn step_on(file: &[u8], state: &mut [u8], screen: Screen, work: &mut [u8], record: &mut [u8], report: &mut [u8]) -> u64 {
     if state.len() != 48 || !is_report(report.len()) {
         return WRONG_LENGTH;
     }
     let mut now = state_in(state);
-    match plain::step_on(file, &mut now, a, b, work, record) {
+    match plain::step_on(file, &mut now, screen, work, record) {
         Ok(Some(r)) => {
             state.copy_from_slice(&state_bytes(now));
             report.copy_from_slice(&report_bytes(r)[..report.len()]);
@@ -76,12 +76,12 @@ fn report_bytes(r: Report) -> Vec<u8> {
     numbers(&[r.method, r.time, r.changed, r.record_length, r.ops])
 }
 
-pub fn step_back(state: &mut [u8], a: &mut [u8], b: &mut [u8], record: &[u8]) -> u64 {
+pub fn step_back(state: &mut [u8], screen: Screen, record: &[u8]) -> u64 {
     if state.len() != 48 {
         return WRONG_LENGTH;
     }
     let mut now = state_in(state);
-    let taken = plain::step_back(&mut now, a, b, record);
+    let taken = plain::step_back(&mut now, screen, record);
     if taken.is_ok() {
         state.copy_from_slice(&state_bytes(now));
     }

@@ -3,7 +3,7 @@ pub mod columns;
 pub mod words;
 
 use crate::bounds::delta_room;
-use crate::plain::{self, Sizes};
+use crate::plain::{self, Sizes, MAP};
 use crate::random::Random;
 
 /// A method, and the bytes of its items or words.
@@ -96,6 +96,11 @@ pub fn anhd(method: Method, interleave: u8, time: u32) -> Vec<u8> {
     all[18] = interleave;
     all[23] = u8::from(method == LONGS);
     all
+}
+
+/// A FORM with a CMAP behind its other chunks.
+pub fn coloured(form: &[u8], cmap: &[u8]) -> Vec<u8> {
+    chunk(b"FORM", &[&form[8..], &chunk(b"CMAP", cmap)].concat())
 }
 
 /// The FORM of a first picture with a BODY.
@@ -421,11 +426,12 @@ pub enum Harm {
     AnimHeader,
     PictureHeader,
     Body,
+    Colours,
     Missing,
     Bytes,
 }
 
-pub const HARMS: [Harm; 7] = [Harm::None, Harm::Delta, Harm::AnimHeader, Harm::PictureHeader, Harm::Body, Harm::Missing, Harm::Bytes];
+pub const HARMS: [Harm; 8] = [Harm::None, Harm::Delta, Harm::AnimHeader, Harm::PictureHeader, Harm::Body, Harm::Colours, Harm::Missing, Harm::Bytes];
 
 /// A file of some frames, with other chunks in between, well formed but for the harm.
 pub fn film(random: &mut Random, sizes: Sizes, frames: usize, harm: Harm) -> Vec<u8> {
@@ -464,6 +470,27 @@ fn other_chunk(random: &mut Random) -> Option<Vec<u8>> {
     }
 }
 
+/// Lengths of a CMAP that are refused.
+pub const BAD_LENGTHS: [usize; 11] = [1, 2, 4, 5, 8, 766, 767, 769, 770, 771, 2 * MAP];
+
+/// A CMAP's contents: of a few colours, of many or of all, and of one, two or all values; of a bad length if that is the harm.
+pub fn cmap(random: &mut Random, harm: Harm) -> Vec<u8> {
+    let colours = match random.below(8) {
+        0 => 256,
+        1 => random.below(257),
+        _ => random.below(9),
+    };
+    let length = if harm == Harm::Colours { *random.pick(&BAD_LENGTHS) } else { 3 * colours };
+    let values = *random.pick(&[1, 2, 256]);
+    (0..length).map(|_| random.below(values) as u8).collect()
+}
+
+/// Once in three times a CMAP, and always where its length is to be bad.
+fn cmap_chunk(random: &mut Random, harm: Harm) -> Option<Vec<u8>> {
+    let there = harm == Harm::Colours || random.once_in(3);
+    there.then(|| chunk(b"CMAP", &cmap(random, harm)))
+}
+
 /// Whether a first frame has a BODY and a delta: half of them a BODY, a third a delta, the others both.
 const FIRSTS: [(bool, bool); 6] = [(true, false), (true, false), (true, false), (true, true), (false, true), (false, true)];
 
@@ -472,7 +499,7 @@ fn first_frame(random: &mut Random, sizes: Sizes, harm: Harm) -> Vec<u8> {
     let packed = random.once_in(2);
     let (body, delta) = if harm == Harm::Body { (true, false) } else { *random.pick(&FIRSTS) };
     let mut parts = vec![chunk(b"BMHD", &first_bmhd(random, sizes, packed, harm))];
-    let mut behind: Vec<&[u8; 4]> = vec![b"DLTA", b"ANHD", b"BMHD"];
+    let mut behind: Vec<&[u8; 4]> = vec![b"DLTA", b"ANHD", b"BMHD", b"CMAP"];
     if body {
         parts.push(chunk(b"BODY", &first_body(random, sizes, packed, harm)));
         behind.push(b"BODY");
@@ -484,6 +511,8 @@ fn first_frame(random: &mut Random, sizes: Sizes, harm: Harm) -> Vec<u8> {
     if harm == Harm::Missing && random.once_in(3) {
         parts.remove(random.below(parts.len()));
     }
+    let colours = if random.once_in(3) { harm } else { Harm::None };
+    parts.extend(cmap_chunk(random, colours));
     mix(random, &mut parts, &behind);
     form(b"ILBM", &parts)
 }
@@ -516,7 +545,8 @@ fn first_body(random: &mut Random, sizes: Sizes, packed: bool, harm: Harm) -> Ve
 
 fn later_frame(random: &mut Random, sizes: Sizes, harm: Harm) -> Vec<u8> {
     let mut parts = delta_chunks(random, sizes, harm, false);
-    mix(random, &mut parts, &[b"BODY", b"DLTA", b"ANHD", b"BMHD"]);
+    parts.extend(cmap_chunk(random, harm));
+    mix(random, &mut parts, &[b"BODY", b"DLTA", b"ANHD", b"BMHD", b"CMAP"]);
     form(b"ILBM", &parts)
 }
 
@@ -557,7 +587,7 @@ fn mix(random: &mut Random, parts: &mut Vec<Vec<u8>>, behind: &[&[u8; 4]]) {
     if random.once_in(4) {
         let at = random.below(parts.len() + 1);
         let length = random.below(4);
-        let id = *random.pick(&[b"CMAP", b"FORM", b"ANNO"]);
+        let id = *random.pick(&[b"CAMG", b"FORM", b"ANNO"]);
         parts.insert(at, chunk(id, &random.bytes(length)));
     }
     if random.once_in(6) {

@@ -1,6 +1,6 @@
 //! Each call made on both sides, and everything compared after it.
 use crate::bounds::{self, record_room};
-use crate::plain::{self, State};
+use crate::plain::{self, State, MAP};
 use crate::random::Random;
 use crate::{cover, library};
 use std::collections::BTreeMap;
@@ -120,6 +120,7 @@ pub struct Player {
     pub state: Twin,
     pub a: Twin,
     pub b: Twin,
+    pub map: Twin,
     pub work: Twin,
     pub record: Twin,
     pub report: Twin,
@@ -133,6 +134,7 @@ impl Player {
             state: Twin::new("state", &random.bytes(48)),
             a: Twin::new("a", &random.bytes(frame)),
             b: Twin::new("b", &random.bytes(frame)),
+            map: Twin::new("map", &random.bytes(MAP)),
             work: Twin::new("work", &random.bytes(frame)),
             record: Twin::new("record", &random.bytes(record_room(frame))),
             report: Twin::new("report", &random.bytes(40)),
@@ -146,6 +148,11 @@ impl Player {
 
     pub fn now(&self) -> State {
         cover::state_in(self.state.bytes())
+    }
+
+    /// What A, B and the map hold.
+    pub fn screen(&self) -> [Vec<u8>; 3] {
+        [&self.a, &self.b, &self.map].map(|twin| twin.bytes().to_vec())
     }
 
     pub fn set_state(&mut self, state: State) {
@@ -171,9 +178,9 @@ impl Player {
 
     /// Opens the file.
     pub fn open_only(&mut self, pair: &mut Pair) -> Checked<u64> {
-        let x = library::open(self.file.bytes(), self.state.library(), self.a.library(), self.b.library());
-        let y = cover::open(self.file.plain_bytes(), self.state.plain(), self.a.plain(), self.b.plain());
-        pair.compare("anim_open", x, y, &[&self.file, &self.state, &self.a, &self.b])
+        let x = library::open(self.file.bytes(), self.state.library(), [self.a.library(), self.b.library(), self.map.library()]);
+        let y = cover::open(self.file.plain_bytes(), self.state.plain(), [self.a.plain(), self.b.plain(), self.map.plain()]);
+        pair.compare("anim_open", x, y, &[&self.file, &self.state, &self.a, &self.b, &self.map])
     }
 
     /// Steps on in the player's file.
@@ -192,30 +199,23 @@ impl Player {
     /// Steps on by a file for each side; where they are copies they are compared too.
     fn step_on_by(&mut self, pair: &mut Pair, files: [&[u8]; 2], copies: Option<&Twin>) -> Checked<u64> {
         let before = self.state.bytes().to_vec();
-        let x = library::step_on(
-            files[0],
-            self.state.library(),
-            self.a.library(),
-            self.b.library(),
-            self.work.library(),
-            self.record.library(),
-            self.report.library(),
-        );
-        let y =
-            cover::step_on(files[1], self.state.plain(), self.a.plain(), self.b.plain(), self.work.plain(), self.record.plain(), self.report.plain());
-        let lent = [&self.state, &self.a, &self.b, &self.work, &self.record, &self.report];
+        let screen = [self.a.library(), self.b.library(), self.map.library()];
+        let x = library::step_on(files[0], self.state.library(), screen, self.work.library(), self.record.library(), self.report.library());
+        let screen = [self.a.plain(), self.b.plain(), self.map.plain()];
+        let y = cover::step_on(files[1], self.state.plain(), screen, self.work.plain(), self.record.plain(), self.report.plain());
+        let lent = [&self.state, &self.a, &self.b, &self.map, &self.work, &self.record, &self.report];
         let buffers: Vec<&Twin> = copies.into_iter().chain(lent).collect();
         let answer = pair.compare("anim_step_on", x, y, &buffers).map_err(|e| from_state(e, &before))?;
-        bounds::step_on(answer, files[0], &before, self.record.len(), self.report.bytes()).map_err(|e| from_state(e, &before))?;
+        bounds::step_on(answer, files[0], &before, self.record.bytes(), self.report.bytes()).map_err(|e| from_state(e, &before))?;
         Ok(answer)
     }
 
     pub fn step_back(&mut self, pair: &mut Pair, record: &[u8]) -> Checked<u64> {
         let before = self.state.bytes().to_vec();
         let record = Twin::new("record", record);
-        let x = library::step_back(self.state.library(), self.a.library(), self.b.library(), record.bytes());
-        let y = cover::step_back(self.state.plain(), self.a.plain(), self.b.plain(), record.plain_bytes());
-        pair.compare("anim_step_back", x, y, &[&self.state, &self.a, &self.b, &record]).map_err(|e| from_state(e, &before))
+        let x = library::step_back(self.state.library(), [self.a.library(), self.b.library(), self.map.library()], record.bytes());
+        let y = cover::step_back(self.state.plain(), [self.a.plain(), self.b.plain(), self.map.plain()], record.plain_bytes());
+        pair.compare("anim_step_back", x, y, &[&self.state, &self.a, &self.b, &self.map, &record]).map_err(|e| from_state(e, &before))
     }
 
     /// Asks for a row's place and for its refusal.

@@ -1,6 +1,7 @@
 //! Document 01, with the change requests that have landed, in plain Rust, written from the papers and not from the proved library.
 //!
 //! A refused call changes nothing that it was lent, but for `step_on`'s work buffer under `NoRoom`.
+mod colours;
 mod delta;
 mod iff;
 mod list;
@@ -10,10 +11,13 @@ mod record;
 mod words;
 mod writer;
 
+pub use colours::MAP;
 pub use list::list;
+pub use record::parts;
 pub use writer::write_delta;
 
 use crate::faults::broken;
+use record::Front;
 use Refusal::*;
 
 pub const MAX_SIDE: u64 = 1_024;
@@ -41,6 +45,7 @@ pub enum Refusal {
     UnknownInterleave = 34,
     UnknownOptions = 35,
     OddLongColumns = 36,
+    BadColours = 37,
     BadPointer = 41,
     DeltaTooShort = 42,
     OpPastLastRow = 43,
@@ -137,10 +142,19 @@ pub struct Report {
     pub ops: u64,
 }
 
-/// Opens a file: A and B get its first picture.
-pub fn open(file: &[u8], a: &mut [u8], b: &mut [u8]) -> Answer<State> {
-    let first = picture::find(file)?;
-    first.fill(a, b)?;
+/// A, B and the map, as they are lent to a call.
+pub type Screen<'a> = [&'a mut [u8]; 3];
+
+/// Whether a map has its length, or one that is taken because this fault is chosen.
+fn is_map(map: &[u8], longer: &str, shorter: &str) -> bool {
+    map.len() == MAP || map.len() > MAP && broken(longer) || map.len() + 1 == MAP && broken(shorter)
+}
+
+/// Opens a file: A and B get its first picture, and the map its colours.
+pub fn open(file: &[u8], screen: Screen) -> Answer<State> {
+    let map_early = screen[2].len() != MAP && broken("map-length-before-24");
+    let first = picture::find(file).map_err(|refusal| if refusal == BadBmhd && map_early { BufferLength } else { refusal })?;
+    first.fill(screen)?;
     let sizes = first.sizes;
     Ok(State {
         width: sizes.width as u64,
@@ -156,62 +170,88 @@ pub fn open(file: &[u8], a: &mut [u8], b: &mut [u8]) -> Answer<State> {
 pub fn frame_length(file: &[u8]) -> Answer<usize> {
     let first = picture::find(file)?;
     first.read_early("length-asks-header")?;
+    first.ask_colours("length-asks-colours")?;
     Ok(first.sizes.frame())
 }
 
-/// Steps on to the next frame; `None` is End.
-pub fn step_on(file: &[u8], state: &mut State, a: &mut [u8], b: &mut [u8], work: &mut [u8], rec: &mut [u8]) -> Answer<Option<Report>> {
+/// Asks for 11, 12 and 53 before a step on, with A, B and the work buffer of these lengths.
+fn may_step_on(file: &[u8], state: &State, frames: [usize; 3], map: &[u8]) -> Answer<Sizes> {
     if broken("lengths-before-limits") {
         let row = state.width.div_ceil(16).wrapping_mul(2);
         let length = row.wrapping_mul(state.height).wrapping_mul(state.planes);
-        need(a.len() as u64 == length && b.len() == a.len() && work.len() == a.len(), BufferLength)?;
+        need(frames.map(|n| n as u64) == [length; 3], BufferLength)?;
     }
+    need(map.len() == MAP || !broken("map-length-before-11"), BufferLength)?;
     let sizes = state.sizes()?;
     need(state.end <= file.len() as u64, OutsideLimits)?;
-    let length = sizes.frame();
-    need(a.len() == length && b.len() == length && work.len() == length, BufferLength)?;
+    need(frames == [sizes.frame(); 3], BufferLength)?;
+    let map_fits = is_map(map, "long-map-stepped-on", "short-map-stepped-on");
+    need(map_fits || broken("map-length-after-53"), BufferLength)?;
     need(state.frame < MAX_FRAME || broken("last-frame-after-end"), LastFrame)?;
+    need(map_fits, BufferLength)?;
+    Ok(sizes)
+}
 
-    let Some(form) = iff::next_frame(&file[..state.end as usize], state.next as usize)? else {
-        return Ok(None);
-    };
-    if broken("last-frame-after-end") {
-        need(state.frame < MAX_FRAME, LastFrame)?;
-    }
-    let (header, dlta) = delta::find(form.contents, sizes)?;
-
-    let (shown, hidden) = if state.shows_a() { (a, b) } else { (b, a) };
-    let black = vec![0; if broken("frame-2-on-black") { length } else { 0 }];
-    let basis: &[u8] = match header.interleave {
-        _ if state.frame == 1 && broken("frame-2-on-black") => &black,
-        _ if state.frame == 1 && broken("frame-2-on-shown") => shown,
-        _ if state.frame == 1 && broken("frame-2-on-hidden") => hidden,
+/// The picture that a frame is built on: the shown one if its interleave is 1, else the hidden one. The black one is for a fault alone.
+fn basis<'a>(interleave: u8, frame: u64, shown: &'a [u8], hidden: &'a [u8], black: &'a [u8]) -> &'a [u8] {
+    match interleave {
+        _ if frame == 2 && broken("frame-2-on-black") => black,
+        _ if frame == 2 && broken("frame-2-on-shown") => shown,
+        _ if frame == 2 && broken("frame-2-on-hidden") => hidden,
         1 if !broken("one-back-as-two") => shown,
         0 if broken("zero-as-one-back") => shown,
         2 if broken("two-as-one-back") => shown,
         _ => hidden,
+    }
+}
+
+/// Steps on to the next frame; `None` is End.
+pub fn step_on(file: &[u8], state: &mut State, [a, b, map]: Screen, work: &mut [u8], rec: &mut [u8]) -> Answer<Option<Report>> {
+    let sizes = may_step_on(file, state, [a.len(), b.len(), work.len()], map)?;
+    let Some(form) = iff::next_frame(&file[..state.end as usize], state.next as usize)? else {
+        if broken("end-clears-map") {
+            map.fill(0);
+        }
+        return Ok(None);
     };
+    need(state.frame < MAX_FRAME, LastFrame)?;
+    let frame = delta::find(form.contents, sizes)?;
+    let (header, dlta) = (&frame.header, frame.dlta);
+    let colours = frame.colours(sizes);
+    if colours.is_err() && broken("refused-colours-change-map") {
+        map.fill(0);
+    }
+    let colours = colours::front(map, colours?, sizes.planes);
+
+    let (shown, hidden) = if state.shows_a() { (a, b) } else { (b, a) };
+    let black = vec![0; if broken("frame-2-on-black") { sizes.frame() } else { 0 }];
+    let basis = basis(header.interleave, state.frame + 1, shown, hidden, &black);
     if broken("drawn-before-checked") || header.items.are_words() && broken("words-half-drawn") {
         work.copy_from_slice(basis);
         delta::draw(dlta, sizes, header.items, work)?;
     }
     let mut ops = 0;
     if !(broken("first-delta-only") && state.frame > 1) {
-        ops = delta::check(dlta, sizes, header.items)?;
+        let checked = delta::check(dlta, sizes, header.items);
+        colours::lay_refused(&checked, map, &colours, "refused-delta-changes-map");
+        ops = checked?;
         if broken("full-record-hides-frame") {
             let mut drawn = basis.to_vec();
             delta::draw(dlta, sizes, header.items, &mut drawn)?;
-            record::write(hidden, &drawn, state.frame + 1, state.next, rec)?;
+            record::write([hidden, &drawn], [&map[..colours.len()], &colours], state.frame + 1, state.next, rec)?;
         }
         work.copy_from_slice(basis);
         delta::draw(dlta, sizes, header.items, work)?;
     }
     let before: &[u8] = if broken("record-of-shown") { basis } else { hidden };
-    let written = record::write(before, work, state.frame + 1, state.next, rec)?;
+    let written = record::write([before, work], [&map[..colours.len()], &colours], state.frame + 1, state.next, rec);
+    colours::lay_refused(&written, map, &colours, "full-record-changes-map");
+    let written = written?;
     hidden.copy_from_slice(work);
     if broken("one-back-in-both") && header.interleave == 1 {
         shown.copy_from_slice(work);
     }
+    colours::lay(map, &colours);
     state.frame += 1;
     state.next = form.next as u64;
     if broken("ops-of-no-change") && written.changed == 0 {
@@ -226,28 +266,51 @@ pub fn most_ops(file: &[u8], state: &State) -> Answer<Option<u64>> {
     let Some(form) = iff::next_frame(&file[..state.end as usize], state.next as usize)? else {
         return Ok(None);
     };
-    let (header, dlta) = delta::find(form.contents, sizes)?;
-    Ok(Some(ops::most(dlta, sizes, header.items)))
+    let frame = delta::find(form.contents, sizes)?;
+    Ok(Some(ops::most(frame.dlta, sizes, frame.header.items)))
 }
 
 /// Steps back with the record of the step that led here.
-pub fn step_back(state: &mut State, a: &mut [u8], b: &mut [u8], rec: &[u8]) -> Answer<()> {
+pub fn step_back(state: &mut State, [a, b, map]: Screen, rec: &[u8]) -> Answer<()> {
     let length = state.sizes()?.frame();
     need(a.len() == length && b.len() == length, BufferLength)?;
+    let map_fits = is_map(map, "long-map-stepped-back", "short-map-stepped-back");
+    need(map_fits || broken("map-length-after-61"), BufferLength)?;
     let shown = if state.shows_a() { a } else { b };
     if broken("other-before-bad") {
         need(rec.first() == Some(&(state.frame as u8)), OtherRecord)?;
     }
-    let past = record::read(rec, shown)?;
-    need(past.frame >= 2 && past.frame == state.frame, OtherRecord)?;
-    let last = if broken("place-at-next") { state.next } else { state.next - 1 };
-    need((FIRST_PLACE..=last).contains(&past.place), OtherRecord)?;
-    if !broken("back-counts-only") {
-        past.put_back(shown);
+    let past = record::read(rec, shown, map);
+    if past.is_err() {
+        map_list_late(state, shown, rec)?;
     }
+    let past = past?;
+    need(map_fits, BufferLength)?;
+    let taken = leads_to(state, &past.front);
+    if taken && !broken("back-counts-only") || broken("restored-before-62") {
+        past.put_back(shown, map);
+    }
+    need(taken, OtherRecord)?;
     state.frame -= 1;
-    state.next = past.place;
+    state.next = past.front.place;
     Ok(())
+}
+
+/// Whether the numbers of a record are those of a step that led here.
+fn leads_to(state: &State, front: &Front) -> bool {
+    let last = if broken("place-at-next") { state.next } else { state.next - 1 };
+    front.frame >= 2 && front.frame == state.frame && (FIRST_PLACE..=last).contains(&front.place)
+}
+
+/// What comes of a record that is refused with 61 where its map's list is read too late.
+fn map_list_late(state: &State, shown: &mut [u8], rec: &[u8]) -> Answer<()> {
+    let Some(front) = Front::read(rec, shown) else {
+        return Ok(());
+    };
+    if broken("picture-before-map-list") {
+        front.put_back(shown);
+    }
+    need(leads_to(state, &front) || !broken("other-before-map-list"), OtherRecord)
 }
 
 /// The place of a row of a plane in A and in B, of whose lengths it is told.

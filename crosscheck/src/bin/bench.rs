@@ -5,10 +5,11 @@
 //! A case is run N times (25 unless said), and for a fifth of a second at least. The table has ratios,
 //! library / plain Rust; with --times microseconds stand beside them.
 //! With --only a case is run if it has all the words: open or step or write, the width, light or heavy or noise,
-//! the method's items (1, 2 or 4 bytes, long-words, short-words) and one-back or two-back; for opening packed or plain, or delta and the items.
+//! the method's items (1, 2 or 4 bytes, long-words, short-words), one-back or two-back, and colours or no-colours; for opening packed or plain, or delta
+//! and the items.
 use crosscheck::bounds::{delta_room, record_room};
 use crosscheck::files::{self, Method, BYTES, LONGS, LONG_WORDS, SHORTS, SHORT_WORDS};
-use crosscheck::plain::{self, Sizes, State};
+use crosscheck::plain::{self, Screen, Sizes, State, MAP};
 use crosscheck::random::Random;
 use crosscheck::{cover, library};
 use std::hint::black_box;
@@ -17,14 +18,31 @@ use std::time::{Duration, Instant};
 const SIZES: [Sizes; 3] =
     [Sizes { width: 320, height: 200, planes: 5 }, Sizes { width: 640, height: 512, planes: 8 }, Sizes { width: 1024, height: 1024, planes: 8 }];
 const CHANGES: [&str; 3] = ["light", "heavy", "noise"];
-/// Methods of a later frame, with an interleave.
-const METHODS: [(&str, Method, u8); 6] = [
-    ("method 5", BYTES, 0),
-    ("7 short", SHORTS, 0),
-    ("7 long", LONGS, 0),
-    ("method 2", LONG_WORDS, 0),
-    ("method 3", SHORT_WORDS, 0),
-    ("5, one back", BYTES, 1),
+/// Bytes of a CMAP of 32 colours.
+const CMAP: usize = 96;
+
+/// A later frame: its method, its interleave, and the bytes of its CMAP.
+struct Later {
+    name: &'static str,
+    method: Method,
+    interleave: u8,
+    cmap: usize,
+}
+
+impl Later {
+    const fn new(name: &'static str, method: Method, interleave: u8, cmap: usize) -> Later {
+        Later { name, method, interleave, cmap }
+    }
+}
+
+const LATER: [Later; 7] = [
+    Later::new("method 5", BYTES, 0, 0),
+    Later::new("7 short", SHORTS, 0, 0),
+    Later::new("7 long", LONGS, 0, 0),
+    Later::new("method 2", LONG_WORDS, 0, 0),
+    Later::new("method 3", SHORT_WORDS, 0, 0),
+    Later::new("5, one back", BYTES, 1, 0),
+    Later::new("5, 32 colours", BYTES, 0, CMAP),
 ];
 /// Methods of a first picture.
 const FIRST_METHODS: [(&str, Method); 5] = [
@@ -122,16 +140,18 @@ fn next_picture(random: &mut Random, sizes: Sizes, old: &[u8], change: &str) -> 
     new
 }
 
-fn file_of(sizes: Sizes, compression: u8, body: &[u8], later: Option<(Method, u8, &[u8])>) -> Vec<u8> {
-    let mut parts = vec![files::picture_form(sizes, compression, body)];
-    parts.extend(later.map(|(method, interleave, delta)| files::delta_form(method, interleave, 1, delta)));
-    files::form(b"ANIM", &parts)
+/// A film of a plain picture and a later frame; each has a CMAP of any colours where the later one is to have one.
+fn film(random: &mut Random, sizes: Sizes, body: &[u8], later: &Later, delta: &[u8]) -> Vec<u8> {
+    let parts = [files::picture_form(sizes, 0, body), files::delta_form(later.method, later.interleave, 1, delta)];
+    if later.cmap == 0 {
+        return files::form(b"ANIM", &parts);
+    }
+    files::form(b"ANIM", &parts.map(|part| files::coloured(&part, &random.bytes(later.cmap))))
 }
 
-/// The buffers of one side.
+/// The buffers of one side; A, B and the map stand together.
 struct Side {
-    a: Vec<u8>,
-    b: Vec<u8>,
+    screen: [Vec<u8>; 3],
     work: Vec<u8>,
     record: Vec<u8>,
 }
@@ -139,8 +159,12 @@ struct Side {
 impl Side {
     fn new(sizes: Sizes) -> Side {
         let frame = vec![0; sizes.frame()];
-        Side { a: frame.clone(), b: frame.clone(), work: frame, record: vec![0; record_room(sizes.frame())] }
+        Side { screen: [frame.clone(), frame.clone(), vec![0; MAP]], work: frame, record: vec![0; record_room(sizes.frame())] }
     }
+}
+
+fn lent(screen: &mut [Vec<u8>; 3]) -> Screen<'_> {
+    screen.each_mut().map(Vec::as_mut_slice)
 }
 
 fn opening(least: usize, file: &[u8], sizes: Sizes) -> Best {
@@ -148,9 +172,9 @@ fn opening(least: usize, file: &[u8], sizes: Sizes) -> Best {
     let (mut l, mut p) = (Side::new(sizes), Side::new(sizes));
     let mut state = [0; 48];
     for _ in turns(least) {
-        let x = time(&mut best.library, || library::open(black_box(file), &mut state, &mut l.a, &mut l.b));
-        let y = time(&mut best.plain, || plain::open(black_box(file), &mut p.a, &mut p.b));
-        assert!(x == 0 && y == Ok(cover::state_in(&state)) && l.a == p.a && l.b == p.b);
+        let x = time(&mut best.library, || library::open(black_box(file), &mut state, lent(&mut l.screen)));
+        let y = time(&mut best.plain, || plain::open(black_box(file), lent(&mut p.screen)));
+        assert!(x == 0 && y == Ok(cover::state_in(&state)) && l.screen == p.screen);
     }
     best
 }
@@ -160,16 +184,16 @@ fn steps(least: usize, file: &[u8], sizes: Sizes) -> (Best, Best) {
     let (mut on, mut back) = (Best::new(), Best::new());
     let (mut l, mut p) = (Side::new(sizes), Side::new(sizes));
     let (mut state, mut report) = ([0; 48], [0; 40]);
-    assert_eq!(library::open(file, &mut state, &mut l.a, &mut l.b), 0);
-    let mut now: State = plain::open(file, &mut p.a, &mut p.b).expect("it opens");
+    assert_eq!(library::open(file, &mut state, lent(&mut l.screen)), 0);
+    let mut now: State = plain::open(file, lent(&mut p.screen)).expect("it opens");
     for _ in turns(least) {
-        let x = time(&mut on.library, || library::step_on(black_box(file), &mut state, &mut l.a, &mut l.b, &mut l.work, &mut l.record, &mut report));
-        let y = time(&mut on.plain, || plain::step_on(black_box(file), &mut now, &mut p.a, &mut p.b, &mut p.work, &mut p.record));
+        let x = time(&mut on.library, || library::step_on(black_box(file), &mut state, lent(&mut l.screen), &mut l.work, &mut l.record, &mut report));
+        let y = time(&mut on.plain, || plain::step_on(black_box(file), &mut now, lent(&mut p.screen), &mut p.work, &mut p.record));
         let length = y.expect("a step").expect("a frame").record_length as usize;
-        assert!(x == 0 && l.b == p.b && l.record[..length] == p.record[..length]);
-        let x = time(&mut back.library, || library::step_back(&mut state, &mut l.a, &mut l.b, black_box(&l.record[..length])));
-        let y = time(&mut back.plain, || plain::step_back(&mut now, &mut p.a, &mut p.b, black_box(&p.record[..length])));
-        assert!(x == 0 && y.is_ok() && l.b == p.b);
+        assert!(x == 0 && l.screen == p.screen && l.record[..length] == p.record[..length]);
+        let x = time(&mut back.library, || library::step_back(&mut state, lent(&mut l.screen), black_box(&l.record[..length])));
+        let y = time(&mut back.plain, || plain::step_back(&mut now, lent(&mut p.screen), black_box(&p.record[..length])));
+        assert!(x == 0 && y.is_ok() && l.screen == p.screen);
     }
     (on, back)
 }
@@ -224,7 +248,7 @@ fn bench_opening(words: &Words, tables: &mut Tables, sizes: Sizes, old: &[u8]) {
     let width = sizes.width.to_string();
     let mut line = format!("| {} |", name(sizes));
     for (kind, compression, body) in [("packed", 1, files::packed_body(old, sizes)), ("plain", 0, files::plain_body(old, sizes))] {
-        let file = file_of(sizes, compression, &body, None);
+        let file = files::form(b"ANIM", &[files::picture_form(sizes, compression, &body)]);
         let wanted = words.wants(&["open", &width, kind]);
         line += &cell(words, wanted.then(|| opening(words.turns, &file, sizes)));
     }
@@ -238,16 +262,17 @@ fn bench_opening(words: &Words, tables: &mut Tables, sizes: Sizes, old: &[u8]) {
     tables.open.push(line);
 }
 
-fn bench_change(words: &Words, tables: &mut Tables, sizes: Sizes, old: &[u8], new: &[u8], change: &str) {
+fn bench_change(words: &Words, tables: &mut Tables, random: &mut Random, sizes: Sizes, [old, new]: [&[u8]; 2], change: &str) {
     let width = sizes.width.to_string();
     let body = files::plain_body(old, sizes);
     let start = format!("| {} | {change} |", name(sizes));
     let (mut on_line, mut back_line) = (start.clone(), start.clone());
-    for (_, method, interleave) in METHODS {
-        let back = ["two-back", "one-back"][usize::from(interleave)];
-        let steps = words.wants(&["step", &width, change, &items(method), back]).then(|| {
-            let delta = files::delta_between(old, new, sizes, method);
-            steps(words.turns, &file_of(sizes, 0, &body, Some((method, interleave, &delta))), sizes)
+    for later in &LATER {
+        let back = ["two-back", "one-back"][usize::from(later.interleave)];
+        let colours = if later.cmap > 0 { "colours" } else { "no-colours" };
+        let steps = words.wants(&["step", &width, change, &items(later.method), back, colours]).then(|| {
+            let delta = files::delta_between(old, new, sizes, later.method);
+            steps(words.turns, &film(random, sizes, &body, later, &delta), sizes)
         });
         on_line += &cell(words, steps.map(|s| s.0));
         back_line += &cell(words, steps.map(|s| s.1));
@@ -276,14 +301,14 @@ fn main() {
         bench_opening(&words, &mut tables, sizes, &old);
         for change in CHANGES {
             let new = next_picture(&mut random, sizes, &old, change);
-            bench_change(&words, &mut tables, sizes, &old, &new, change);
+            bench_change(&words, &mut tables, &mut random, sizes, [&old, &new], change);
         }
     }
     println!("Ratios, library / plain Rust{}; below 1 the library is faster.", if words.times { " (microseconds of each)" } else { "" });
-    let methods = METHODS.map(|m| m.0);
+    let names: Vec<&str> = LATER.iter().map(|later| later.name).collect();
     table("Opening", &[&["sizes", "ByteRun1", "plain BODY"][..], &FIRST_METHODS.map(|m| m.0)].concat(), &tables.open);
-    table("Step on, record included", &[&["sizes", "changes"][..], &methods].concat(), &tables.on);
-    table("Step back", &[&["sizes", "changes"][..], &methods].concat(), &tables.back);
+    table("Step on, record included", &[&["sizes", "changes"][..], &names].concat(), &tables.on);
+    table("Step back", &[&["sizes", "changes"][..], &names].concat(), &tables.back);
     table("Writer", &["sizes", "changes", "method 5"], &tables.write);
 }
 

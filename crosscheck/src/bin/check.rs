@@ -2,7 +2,7 @@
 //!
 //!     check [--seed N] [--seconds N] [--broken NAME] [--names]
 use crosscheck::checks::{
-    calls, damaged, fences, first, interleaves, large, limits, listings, none, ops, orders, records, room, words, writer, Check,
+    calls, colours, damaged, fences, first, interleaves, large, limits, listings, lists, none, ops, orders, records, room, words, writer, Check,
 };
 use crosscheck::faults;
 use crosscheck::pair::{Checked, Pair};
@@ -19,6 +19,7 @@ const ONCE: &[Group] = &[
     ("interleaves", interleaves::run),
     ("first pictures given as deltas", first::run),
     ("ops of a step", ops::run),
+    ("colours", colours::run),
     ("the outside listings", listings::run),
     ("buffers of wrong lengths", limits::lengths),
     ("states around each limit", limits::states),
@@ -26,6 +27,7 @@ const ONCE: &[Group] = &[
     ("files too long", limits::long_file),
     ("things wrong at once: opening", orders::openings),
     ("things wrong at once: opening by words", orders::word_openings),
+    ("things wrong at once: opening with colours", orders::colour_openings),
     ("things wrong at once: stepping on", orders::steps_on),
     ("things wrong at once: stepping on by words", orders::word_steps),
     ("things wrong at once: stepping back", orders::steps_back),
@@ -34,6 +36,7 @@ const ONCE: &[Group] = &[
     ("each kind of damage", damaged::each_harm),
     ("numbers of a record", records::numbers),
     ("records altered at every byte", records::altered),
+    ("records of two lists", lists::run),
     ("BODY and DLTA cut at every byte", damaged::cut_contents),
     ("files cut at every byte", damaged::cut),
     ("every bit of a file changed", damaged::flipped),
@@ -49,12 +52,16 @@ const AGAIN: &[Group] = &[
     ("files", damaged::any_film),
     ("deltas", damaged::any_deltas),
     ("known pictures", interleaves::any_film),
+    ("known maps", colours::any_film),
     ("lists of calls", calls::list),
     ("written deltas", writer::pictures),
 ];
 
+/// Rounds that are made however short the time is.
+const LEAST_ROUNDS: usize = 600;
+
 /// Every number of the rules' table. 44 is retired: it isn't used again.
-const NUMBERS: [u64; 23] = [11, 12, 13, 14, 21, 22, 23, 24, 25, 31, 32, 33, 34, 35, 36, 41, 42, 43, 45, 51, 53, 61, 62];
+const NUMBERS: [u64; 24] = [11, 12, 13, 14, 21, 22, 23, 24, 25, 31, 32, 33, 34, 35, 36, 37, 41, 42, 43, 45, 51, 53, 61, 62];
 
 struct Words {
     seed: u64,
@@ -110,7 +117,7 @@ fn run(words: &Words) -> Checked<()> {
     }
     let mut counts = vec![0; AGAIN.len()];
     let mut round = 0;
-    while start.elapsed().as_secs() < words.seconds {
+    while round < LEAST_ROUNDS || start.elapsed().as_secs() < words.seconds {
         let k = round % AGAIN.len();
         let before = check.pair.calls;
         check.random = Random::new(words.seed ^ (round as u64) << 32);

@@ -2,7 +2,7 @@
 use super::{records, Check};
 use crate::files::{self, Harm};
 use crate::pair::{Checked, Player};
-use crate::plain::{Sizes, State};
+use crate::plain::{Sizes, State, MAP};
 
 /// One list of calls on one file.
 pub fn list(check: &mut Check) -> Checked<()> {
@@ -115,7 +115,7 @@ fn rows(check: &mut Check, player: &mut Player) -> Checked<()> {
     player.row(&mut check.pair, plane, row).map(drop)
 }
 
-/// A step on and a step back from a state that no opening gave.
+/// A step on and a step back from a state that no opening gave, now and then with a map of the caller's own.
 fn other_state(check: &mut Check, player: &Player) -> Checked<()> {
     let mut player = player.clone();
     let state = player.now();
@@ -129,6 +129,9 @@ fn other_state(check: &mut Check, player: &Player) -> Checked<()> {
         _ => State { next: 12, frame: state.frame + 1, ..state },
     };
     player.set_state(other);
+    if check.random.once_in(3) {
+        player.map.set(&check.random.bytes(MAP));
+    }
     let record = records::made_up(check, &player);
     player.step_back(&mut check.pair, &record)?;
     player.set_state(other);

@@ -3,9 +3,9 @@ use super::damaged::{one_frame, two_frames};
 use super::Check;
 use crate::bounds::{self, delta_room, record_room};
 use crate::fence::{Fenced, Side};
-use crate::files::{self, HARMS, WORDS};
+use crate::files::{self, Harm, BYTES, HARMS, WORDS};
 use crate::pair::Checked;
-use crate::plain::{self, Sizes};
+use crate::plain::{self, Sizes, MAP};
 use crate::{cover, library};
 
 pub fn run(check: &mut Check) -> Checked<()> {
@@ -16,6 +16,7 @@ pub fn run(check: &mut Check) -> Checked<()> {
         let film = files::film(&mut check.random, sizes, 3, harm);
         play(check, &film, side)?;
         words(check, sizes, side)?;
+        colours(check, sizes, side)?;
         write(check, sizes, side)?;
     }
     Ok(())
@@ -34,21 +35,32 @@ fn words(check: &mut Check, sizes: Sizes, side: Side) -> Checked<()> {
     play(check, &one_frame(sizes, method, &delta), side)
 }
 
-/// A player's buffers: the state, A, B, the work buffer, the record's and the report.
-type Buffers<T> = [T; 6];
+/// A CMAP at the very end of a file, in a later frame and in the first, once in three times of a bad length.
+fn colours(check: &mut Check, sizes: Sizes, side: Side) -> Checked<()> {
+    let random = &mut check.random;
+    let harm = if random.once_in(3) { Harm::Colours } else { Harm::None };
+    let cmap = files::cmap(random, harm);
+    let first = files::picture_form(sizes, 0, &random.bytes(sizes.frame()));
+    let later = files::delta_form(BYTES, 0, 1, &files::random_delta(random, sizes, BYTES));
+    play(check, &files::form(b"ANIM", &[files::coloured(&first, &cmap)]), side)?;
+    play(check, &files::form(b"ANIM", &[first, files::coloured(&later, &cmap)]), side)
+}
+
+/// A player's buffers: the state, A, B, the map, the work buffer, the record's and the report.
+type Buffers<T> = [T; 7];
 
 /// Opens a file and plays it to its end and back, with the plain side beside it.
 fn play(check: &mut Check, file: &[u8], side: Side) -> Checked<()> {
     let length = plain::frame_length(file).unwrap_or(4);
-    let lengths = [48, length, length, length, record_room(length), 40];
+    let lengths = [48, length, length, MAP, length, record_room(length), 40];
     let mut plain: Buffers<Vec<u8>> = std::array::from_fn(|k| vec![k as u8; lengths[k]]);
     let mut fenced = plain.each_ref().map(|bytes| Fenced::new(bytes, side));
     let file = Fenced::new(file, side);
-    let [state, a, b, ..] = fenced.each_mut().map(Fenced::bytes_mut);
-    let opened = library::open(file.bytes(), state, a, b);
+    let [state, a, b, map, ..] = fenced.each_mut().map(Fenced::bytes_mut);
+    let opened = library::open(file.bytes(), state, [a, b, map]);
     check.pair.count("anim_open", opened);
-    let [state, a, b, ..] = plain.each_mut().map(Vec::as_mut_slice);
-    equal("anim_open", opened, cover::open(file.bytes(), state, a, b), &fenced, &plain)?;
+    let [state, a, b, map, ..] = plain.each_mut().map(Vec::as_mut_slice);
+    equal("anim_open", opened, cover::open(file.bytes(), state, [a, b, map]), &fenced, &plain)?;
     if opened == 0 {
         on_and_back(check, &file, &mut fenced, &mut plain, side)?;
     }
@@ -57,31 +69,31 @@ fn play(check: &mut Check, file: &[u8], side: Side) -> Checked<()> {
 
 /// Steps on to the end or the first refusal, and takes every step back with a record that lies between fences too.
 fn on_and_back(check: &mut Check, file: &Fenced, fenced: &mut Buffers<Fenced>, plain: &mut Buffers<Vec<u8>>, side: Side) -> Checked<()> {
-    let opened = plain[..3].to_vec();
+    let opened = plain[..4].to_vec();
     let mut past = Vec::new();
     loop {
         let before = plain[0].clone();
-        let [state, a, b, work, record, report] = fenced.each_mut().map(Fenced::bytes_mut);
-        let answer = library::step_on(file.bytes(), state, a, b, work, record, report);
+        let [state, a, b, map, work, record, report] = fenced.each_mut().map(Fenced::bytes_mut);
+        let answer = library::step_on(file.bytes(), state, [a, b, map], work, record, report);
         check.pair.count("anim_step_on", answer);
-        let [state, a, b, work, record, report] = plain.each_mut().map(Vec::as_mut_slice);
-        equal("anim_step_on", answer, cover::step_on(file.bytes(), state, a, b, work, record, report), fenced, plain)?;
-        bounds::step_on(answer, file.bytes(), &before, plain[4].len(), &plain[5])?;
+        let [state, a, b, map, work, record, report] = plain.each_mut().map(Vec::as_mut_slice);
+        equal("anim_step_on", answer, cover::step_on(file.bytes(), state, [a, b, map], work, record, report), fenced, plain)?;
+        bounds::step_on(answer, file.bytes(), &before, &plain[5], &plain[6])?;
         row(check, fenced, plain)?;
         if answer != 0 {
             break;
         }
-        let length = cover::number_at(&plain[5], 3) as usize;
-        past.push(Fenced::new(&plain[4][..length], side));
+        let length = cover::number_at(&plain[6], 3) as usize;
+        past.push(Fenced::new(&plain[5][..length], side));
     }
     while let Some(record) = past.pop() {
-        let [state, a, b, ..] = fenced.each_mut().map(Fenced::bytes_mut);
-        let answer = library::step_back(state, a, b, record.bytes());
+        let [state, a, b, map, ..] = fenced.each_mut().map(Fenced::bytes_mut);
+        let answer = library::step_back(state, [a, b, map], record.bytes());
         check.pair.count("anim_step_back", answer);
-        let [state, a, b, ..] = plain.each_mut().map(Vec::as_mut_slice);
-        equal("anim_step_back", answer, cover::step_back(state, a, b, record.bytes()), fenced, plain)?;
+        let [state, a, b, map, ..] = plain.each_mut().map(Vec::as_mut_slice);
+        equal("anim_step_back", answer, cover::step_back(state, [a, b, map], record.bytes()), fenced, plain)?;
     }
-    if plain[..3] != opened {
+    if plain[..4] != opened {
         return Err("steps on and back between fences lead elsewhere".into());
     }
     Ok(())

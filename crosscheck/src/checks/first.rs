@@ -1,6 +1,6 @@
 //! First pictures that are given as deltas: known ones and black ones, with a BODY beside them, with bad pointers, and with chunks that are
 //! missing or there twice.
-use super::{interleaves, Check};
+use super::{interleaves, ordered, Check};
 use crate::files::{self, chunk, Method, METHODS};
 use crate::pair::{Checked, Player};
 use crate::plain::Sizes;
@@ -90,17 +90,6 @@ impl First {
         let wanted = wanted.err().unwrap_or(0);
         Err(format!("{:?}: opening answers {answer}, wanted {wanted}; A or B may be other than they should", self.sizes))
     }
-}
-
-/// The parts in one of their orders.
-fn ordered(mut parts: Vec<Vec<u8>>, mut order: usize) -> Vec<Vec<u8>> {
-    let mut out = Vec::new();
-    while !parts.is_empty() {
-        let many = parts.len();
-        out.push(parts.remove(order % many));
-        order /= many;
-    }
-    out
 }
 
 /// Each set of the four chunks, in each order.

@@ -1,10 +1,10 @@
 //! States and sizes at each limit and outside by one, and buffers of wrong lengths.
-use super::orders::{delta_frames, file_around};
+use super::orders::{delta_frames, file_around, BAD_CMAP};
 use super::records::number;
 use super::Check;
 use crate::files::{self, Harm, BYTES, LONG_WORDS};
 use crate::pair::{Checked, Player, Twin};
-use crate::plain::{Sizes, State, MAX_FILE, MAX_FRAME};
+use crate::plain::{Sizes, State, MAP, MAX_FILE, MAX_FRAME};
 use crate::{cover, library};
 
 /// Values around the limits of each field of a state.
@@ -29,7 +29,7 @@ fn every_call(check: &mut Check, file: &[u8], state: State) -> Checked<()> {
         player.row(&mut check.pair, plane, line)?;
     }
     let mut record = Vec::new();
-    for n in [state.frame, state.next.wrapping_sub(1), 0] {
+    for n in [state.frame, state.next.wrapping_sub(1), 0, 0] {
         number(&mut record, n);
     }
     player.step_back(&mut check.pair, &record)?;
@@ -99,7 +99,7 @@ fn stretched(bytes: &[u8], length: usize) -> Vec<u8> {
     bytes.iter().copied().cycle().take(length).collect()
 }
 
-/// Each buffer of each call of each wrong length, in a film that begins with a BODY and in films that begin with a delta.
+/// Each buffer of each call of each wrong length, in a film that begins with a BODY and in films that begin with a delta, all of them with CMAPs.
 pub fn lengths(check: &mut Check) -> Checked<()> {
     let sizes = Sizes { width: 16, height: 2, planes: 1 };
     let random = &mut check.random;
@@ -119,7 +119,7 @@ fn lengths_in(check: &mut Check, film: &[u8], n: usize) -> Checked<()> {
     for length in wrong(record.len()) {
         good.clone().step_back(&mut check.pair, &stretched(&record, length))?;
     }
-    for which in 0..7 {
+    for which in 0..8 {
         let mut player = before.clone();
         player.record.set(&record);
         let bytes = buffer(&mut player, which).bytes().to_vec();
@@ -165,6 +165,7 @@ fn buffer(player: &mut Player, which: usize) -> &mut Twin {
         3 => &mut player.record,
         4 => &mut player.state,
         5 => &mut player.report,
+        6 => &mut player.map,
         _ => &mut player.file,
     }
 }
@@ -197,31 +198,32 @@ pub fn long_file(check: &mut Check) -> Checked<()> {
     for length in [MAX_FILE as usize, MAX_FILE as usize + 1] {
         let mut file = vec![0; length];
         file[..film.len()].copy_from_slice(&film);
-        long_open(check, &file, 4)?;
+        long_open(check, &file, [4, MAP])?;
         long_step(check, &file, &opened)?;
     }
     long_and_wrong(check)
 }
 
-/// Files one byte too long that begin with each first frame that may be given as a delta, and with each set of the things wrong around a good one, with
-/// A and B of the right length and too long.
+/// Files one byte too long that begin with each first frame that may be given as a delta, with a good one behind a bad CMAP, and with each set of the
+/// things wrong around a good one, with A and B, and the map, of the right length and too long.
 fn long_and_wrong(check: &mut Check) -> Checked<()> {
     let mut file = vec![0; MAX_FILE as usize + 1];
-    let frames = delta_frames();
+    let mut frames = delta_frames(&[]);
+    frames.push(delta_frames(BAD_CMAP).swap_remove(0));
     let around = (0..1 << 4).map(|set| file_around(&frames[0], set));
     for front in frames.iter().map(|frame| file_around(frame, 0)).chain(around) {
         file[..front.len()].copy_from_slice(&front);
-        for length in [4, 5] {
-            long_open(check, &file, length)?;
+        for lengths in [[4, MAP], [5, MAP], [4, MAP + 1]] {
+            long_open(check, &file, lengths)?;
         }
     }
     Ok(())
 }
 
-/// Asks for the length of the frames, and opens the file with A and B of this length.
-fn long_open(check: &mut Check, file: &[u8], length: usize) -> Checked<()> {
-    let ([mut a, mut b], mut state) = ([vec![1; length], vec![2; length]], [5; 48]);
-    let ([mut pa, mut pb], mut plain_state) = ([a.clone(), b.clone()], state);
+/// Asks for the length of the frames, and opens the file with A, B and the map of these lengths.
+fn long_open(check: &mut Check, file: &[u8], [frame, map]: [usize; 2]) -> Checked<()> {
+    let (mut screen, mut state) = ([vec![1; frame], vec![2; frame], vec![3; map]], [5; 48]);
+    let (mut plain_screen, mut plain_state) = (screen.clone(), state);
     let [mut size, mut plain_size] = [[6; 8]; 2];
     let x = library::frame_size(file, &mut size);
     let y = cover::frame_size(file, &mut plain_size);
@@ -229,10 +231,10 @@ fn long_open(check: &mut Check, file: &[u8], length: usize) -> Checked<()> {
     if (x, size) != (y, plain_size) {
         return Err(format!("anim_frame_size of {} bytes differs: library {x}, plain {y}", file.len()));
     }
-    let x = library::open(file, &mut state, &mut a, &mut b);
-    let y = cover::open(file, &mut plain_state, &mut pa, &mut pb);
+    let x = library::open(file, &mut state, screen.each_mut().map(Vec::as_mut_slice));
+    let y = cover::open(file, &mut plain_state, plain_screen.each_mut().map(Vec::as_mut_slice));
     check.pair.count("anim_open", x);
-    if (x, state, a, b) == (y, plain_state, pa, pb) {
+    if (x, state, screen) == (y, plain_state, plain_screen) {
         return Ok(());
     }
     Err(format!("anim_open of {} bytes differs: library {x}, plain {y}", file.len()))

@@ -2,7 +2,7 @@
 use super::Check;
 use crate::files::{self, words, Method, BYTES, LONGS, WORDS};
 use crate::pair::{Checked, Player, Twin};
-use crate::plain::{Sizes, State};
+use crate::plain::{Sizes, State, MAP};
 
 /// Whether a thing is in a set.
 fn has(set: u32, thing: u32) -> bool {
@@ -13,8 +13,12 @@ const SIZES: Sizes = Sizes { width: 16, height: 2, planes: 1 };
 
 /// A chunk that passes its parent.
 const BROKEN: &[u8] = b"ANNO\0\0\0\x09ab";
+/// A CMAP of four bytes.
+pub const BAD_CMAP: &[u8] = b"CMAP\0\0\0\x04abcd";
+/// A CMAP of one colour.
+const GOOD_CMAP: &[u8] = b"CMAP\0\0\0\x03abc\0";
 
-/// BMHD and BODY, each as it should be, missing or bad, and a broken chunk behind them.
+/// BMHD and BODY, each as it should be, missing or bad, a bad CMAP, and a broken chunk behind them.
 fn first_frame(set: u32) -> Vec<u8> {
     let mut header = files::bmhd(SIZES, 0);
     if has(set, 0) {
@@ -29,6 +33,9 @@ fn first_frame(set: u32) -> Vec<u8> {
         parts.push(files::chunk(b"BODY", &body));
     }
     if has(set, 4) {
+        parts.push(BAD_CMAP.to_vec());
+    }
+    if has(set, 5) {
         parts.push(BROKEN.to_vec());
     }
     files::form(b"ILBM", &parts)
@@ -52,35 +59,42 @@ pub fn file_around(frame: &[u8], set: u32) -> Vec<u8> {
     file
 }
 
-/// Lengths of A, B and the state: each set of A and B too long and a state of 47 bytes.
-const LENGTHS: [[usize; 3]; 4] = [[4, 4, 48], [5, 5, 48], [4, 4, 47], [5, 5, 47]];
+/// Lengths of A, B, the map and the state: each set of A and B too long and the map too long, and with none and all of these a state of 47 bytes.
+const LENGTHS: [[usize; 4]; 6] = [[4, 4, MAP, 48], [5, 5, MAP, 48], [4, 4, MAP + 1, 48], [5, 5, MAP + 1, 48], [4, 4, MAP, 47], [5, 5, MAP + 1, 47]];
 /// A alone and B alone too long.
-const ALONE: [[usize; 3]; 2] = [[5, 4, 48], [4, 5, 48]];
+const ALONE: [[usize; 4]; 2] = [[5, 4, MAP, 48], [4, 5, MAP, 48]];
 
-/// Opens a frame with each set of six things wrong around it, and with A alone and B alone too long.
+/// Opens a frame with each set of four things wrong around it, with A, B, the map and the state of each of these lengths.
 fn open_around(check: &mut Check, frame: &[u8]) -> Checked<()> {
     open_each(check, &file_around(frame, 0), &ALONE)?;
     (0..1 << 4).try_for_each(|set| open_each(check, &file_around(frame, set), &LENGTHS))
 }
 
-/// Asks for the length of a file's frames, and opens it with A, B and the state of each of these lengths.
-fn open_each(check: &mut Check, file: &[u8], lengths: &[[usize; 3]]) -> Checked<()> {
+/// Opens each of these frames with each of the lengths of A, B, the map and the state.
+fn open_lengths(check: &mut Check, frames: &[Vec<u8>]) -> Checked<()> {
+    let lengths = [&LENGTHS[..], &ALONE].concat();
+    frames.iter().try_for_each(|frame| open_each(check, &file_around(frame, 0), &lengths))
+}
+
+/// Asks for the length of a file's frames, and opens it with A, B, the map and the state of each of these lengths.
+fn open_each(check: &mut Check, file: &[u8], lengths: &[[usize; 4]]) -> Checked<()> {
     let mut player = Player::new(&mut check.random, file, 4);
     for length in [8, 7] {
         player.frame_size(&mut check.pair, length)?;
     }
-    for &[a, b, state] in lengths {
+    for &[a, b, map, state] in lengths {
         player.a.set(&check.random.bytes(a));
         player.b.set(&check.random.bytes(b));
+        player.map.set(&check.random.bytes(map));
         player.state.set(&check.random.bytes(state));
         player.open_only(&mut check.pair)?;
     }
     Ok(())
 }
 
-/// Opening with each set of eleven things wrong.
+/// Opening with each set of six things wrong in the frame, and those around it.
 pub fn openings(check: &mut Check) -> Checked<()> {
-    for set in 0..1 << 5 {
+    for set in 0..1 << 6 {
         open_around(check, &first_frame(set))?;
     }
     Ok(())
@@ -133,10 +147,11 @@ fn forms(lists: &[Vec<Vec<u8>>]) -> Vec<Vec<u8>> {
     choices(&lists).into_iter().flat_map(|chunks| [b"ILBM", b"ILBN"].map(|kind| files::form(kind, std::slice::from_ref(&chunks)))).collect()
 }
 
-/// First frames that may be given as a delta: each choice of a DLTA, ANHD, BMHD and BODY that is good, bad or missing. The first of them is good.
-pub fn delta_frames() -> Vec<Vec<u8>> {
+/// First frames that may be given as a delta: each choice of a DLTA, ANHD, BMHD and BODY that is good, bad or missing, behind this CMAP, if it is one.
+/// The first of them is good.
+pub fn delta_frames(cmap: &[u8]) -> Vec<Vec<u8>> {
     // A Same of none is left out: nothing is wrong with it.
-    forms(&[delta_chunks(8), header_chunks(BYTES), bmhd_chunks(), body_chunks()])
+    forms(&[vec![cmap.to_vec()], delta_chunks(8), header_chunks(BYTES), bmhd_chunks(), body_chunks()])
 }
 
 /// BODY good, too short, empty, and missing.
@@ -146,19 +161,23 @@ fn body_chunks() -> Vec<Vec<u8>> {
 
 /// Opening each such frame with each set of the things wrong around it, and with A alone and B alone too long.
 pub fn delta_openings(check: &mut Check) -> Checked<()> {
-    delta_frames().iter().try_for_each(|frame| open_around(check, frame))
+    delta_frames(&[]).iter().try_for_each(|frame| open_around(check, frame))
 }
 
-/// Opening each first frame of words: each choice of some of the DLTAs, and of ANHD, BMHD and BODY, and each DLTA with each ANHD.
+/// Opening each such frame behind a CMAP that is bad and one that is good, with each of the lengths.
+pub fn colour_openings(check: &mut Check) -> Checked<()> {
+    [BAD_CMAP, GOOD_CMAP].into_iter().try_for_each(|cmap| open_lengths(check, &delta_frames(cmap)))
+}
+
+/// Opening each first frame of words: each choice of some of the DLTAs, and of ANHD, BMHD and BODY, each DLTA with each ANHD, and some of these behind a
+/// bad CMAP.
 pub fn word_openings(check: &mut Check) -> Checked<()> {
-    let lengths = [&LENGTHS[..], &ALONE].concat();
     for method in WORDS {
-        let some = forms(&[some_words(method), header_chunks(method), bmhd_chunks(), body_chunks()]);
+        let headers = header_chunks(method);
         let good_bmhd = vec![files::chunk(b"BMHD", &files::bmhd(SIZES, 0))];
-        let all = good_forms(&[all_words(method), header_chunks(method), good_bmhd]);
-        for frame in some.iter().chain(&all) {
-            open_each(check, &file_around(frame, 0), &lengths)?;
-        }
+        open_lengths(check, &forms(&[some_words(method), headers.clone(), bmhd_chunks(), body_chunks()]))?;
+        open_lengths(check, &good_forms(&[all_words(method), headers.clone(), good_bmhd.clone()]))?;
+        open_lengths(check, &good_forms(&[vec![BAD_CMAP.to_vec()], some_words(method), headers, good_bmhd]))?;
     }
     Ok(())
 }
@@ -238,27 +257,35 @@ fn all_words(method: Method) -> Vec<Vec<u8>> {
     each(b"DLTA", deltas.into_iter().chain([vec![0; 31], vec![]]))
 }
 
-/// Stepping on to each choice of a DLTA and ANHD that is good, bad or missing, with each set of five things wrong around it.
+/// Stepping on to each choice of a DLTA and ANHD that is good, bad or missing, without a CMAP, behind a bad one and behind a good one, with each set of
+/// six things wrong around it.
 pub fn steps_on(check: &mut Check) -> Checked<()> {
-    forms(&[delta_chunks(16), header_chunks(BYTES)]).iter().try_for_each(|frame| steps_around(check, frame))
+    let cmaps = [&[], BAD_CMAP, GOOD_CMAP].map(<[u8]>::to_vec).to_vec();
+    steps_each(check, &forms(&[cmaps, delta_chunks(16), header_chunks(BYTES)]))
 }
 
-/// Stepping on to each choice of a DLTA of words and ANHD, in the same way.
+/// Stepping on to each choice of a DLTA of words and ANHD, some of them behind a bad CMAP, in the same way.
 pub fn word_steps(check: &mut Check) -> Checked<()> {
     for method in WORDS {
-        forms(&[some_words(method), header_chunks(method)]).iter().try_for_each(|frame| steps_around(check, frame))?;
-        good_forms(&[all_words(method), header_chunks(method)]).iter().try_for_each(|frame| steps_around(check, frame))?;
+        let headers = header_chunks(method);
+        steps_each(check, &forms(&[some_words(method), headers.clone()]))?;
+        steps_each(check, &good_forms(&[all_words(method), headers.clone()]))?;
+        steps_each(check, &good_forms(&[vec![BAD_CMAP.to_vec()], some_words(method), headers]))?;
     }
     Ok(())
 }
 
-/// Steps on to this frame with each set of five things wrong around it.
-fn steps_around(check: &mut Check, frame: &[u8]) -> Checked<()> {
-    let file = files::form(b"ANIM", &[first_frame(0), frame.to_vec()]);
-    (0..1 << 5).try_for_each(|set| step_around(check, &file, set))
+/// Steps on to each of these frames with each set of six things wrong around it.
+fn steps_each(check: &mut Check, frames: &[Vec<u8>]) -> Checked<()> {
+    for frame in frames {
+        let file = files::form(b"ANIM", &[first_frame(0), frame.to_vec()]);
+        (0..1 << 6).try_for_each(|set| step_around(check, &file, set))?;
+    }
+    Ok(())
 }
 
-/// Steps on to a file's second frame with a set of things wrong: the frame number, the end place, the frames' lengths, the record's and the report's.
+/// Steps on to a file's second frame with a set of things wrong: the frame number, the end place, the frames' lengths, the map's, the record's and the
+/// report's.
 fn step_around(check: &mut Check, file: &[u8], set: u32) -> Checked<()> {
     let frame = if has(set, 0) { 1_000_000 } else { 2 };
     let next = first_frame(0).len() as u64 + 12;
@@ -271,37 +298,37 @@ fn step_around(check: &mut Check, file: &[u8], set: u32) -> Checked<()> {
     if has(set, 4) {
         player.report.set(&[6; 39]);
     }
+    if has(set, 5) {
+        player.map.set(&[5; MAP + 1]);
+    }
     player.step_on(&mut check.pair).map(drop)
 }
 
-/// Stepping back with each set of ten things wrong.
+/// A record's two lists with a set of things wrong in them. In the picture's list: an old byte that is equal, runs that touch, and one past the last byte;
+/// in the map's the same; a list that is missing, and a byte behind the last.
+fn wrong_lists(set: u32) -> Vec<u8> {
+    let list = |set: u32, past: &[u8]| {
+        let (old, gap) = (if has(set, 0) { 7 } else { 8 }, u8::from(!has(set, 1)));
+        let count = if has(set, 2) { past } else { &[1] };
+        [&[2, 0, 1, old, gap], count, &[8]].concat()
+    };
+    let map_list = if has(set, 6) { vec![] } else { list(set >> 3, &[0xff, 5]) };
+    let behind: &[u8] = if has(set, 7) { &[0] } else { &[] };
+    [&list(set, &[3]), &map_list, behind].concat()
+}
+
+/// Stepping back with each set of fifteen things wrong.
 pub fn steps_back(check: &mut Check) -> Checked<()> {
-    for set in 0..1 << 10 {
-        let shown = [7, 7, 7, 7];
-        let mut record = vec![if has(set, 0) { 3 } else { 2 }, 40, 2, 0, 1, 8, 1, 1, 8];
-        if has(set, 1) {
-            record[1] = 41;
-        }
-        if has(set, 2) {
-            record[5] = 7;
-        }
-        if has(set, 3) {
-            record[6] = 0;
-        }
-        if has(set, 4) {
-            record.push(0);
-        }
-        if has(set, 5) {
-            record[7] = 3;
-        }
-        if has(set, 6) {
-            record[0] = 1;
-        }
-        let mut player = Player::new(&mut check.random, &[], if has(set, 7) { 3 } else { 4 });
-        player.b.set(&shown[..player.a.bytes().len()]);
-        let planes = if has(set, 8) { 9 } else { 1 };
+    for set in 0..1 << 15 {
+        let frame = [2, 3, 1, 1][(set & 3) as usize];
+        let place = if has(set, 2) { 41 } else { 40 };
+        let record = [&[frame, place], &wrong_lists(set >> 3)[..]].concat();
+        let mut player = Player::new(&mut check.random, &[], if has(set, 11) { 3 } else { 4 });
+        player.b.set(&[7; 4][..player.a.bytes().len()]);
+        player.map.set(&vec![7; if has(set, 12) { MAP + 1 } else { MAP }]);
+        let planes = if has(set, 13) { 9 } else { 1 };
         player.set_state(State { width: 16, height: 2, planes, frame: 2, next: 41, end: 80 });
-        if has(set, 9) {
+        if has(set, 14) {
             player.state.set(&[1; 49]);
         }
         player.step_back(&mut check.pair, &record)?;

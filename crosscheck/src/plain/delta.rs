@@ -1,6 +1,6 @@
 //! ANHD, the deltas of methods 5 and 7, and which deltas are of words.
 use super::ops::Count;
-use super::{be32, iff, need, words, Answer, Refusal, Refusal::*, Sizes};
+use super::{be32, colours, iff, need, words, Answer, Refusal, Refusal::*, Sizes};
 use crate::faults::broken;
 
 /// What the items of a delta are.
@@ -119,16 +119,48 @@ fn interleave_read(interleave: u8) -> bool {
     }
 }
 
-/// The header and the DLTA of a later frame.
-pub fn find(frame: &[u8], sizes: Sizes) -> Answer<(Header, &[u8])> {
-    let [anhd, dlta] = iff::find(frame, [b"ANHD", b"DLTA"])?;
+/// A later frame: its header, its DLTA and its CMAP, if it has one.
+pub struct Frame<'a> {
+    pub header: Header,
+    pub dlta: &'a [u8],
+    cmap: Option<&'a [u8]>,
+}
+
+/// Finds the parts of a later frame and reads its header.
+pub fn find(frame: &[u8], sizes: Sizes) -> Answer<Frame<'_>> {
+    let [anhd, dlta, cmap] = iff::find(frame, [b"ANHD", b"DLTA", b"CMAP"])?;
     if let (Some(anhd), None, true) = (anhd, dlta, broken("header-before-missing-delta")) {
         Header::read(anhd, sizes, false)?;
     }
-    let dlta = dlta.ok_or(NoDelta)?;
-    let anhd = anhd.ok_or(length_first(dlta, NoDelta, "delta-length-before-31"))?;
-    let header = Header::read(anhd, sizes, false).map_err(|refusal| length_first(dlta, refusal, "delta-length-before-32"))?;
-    Ok((header, dlta))
+    let early = |refusal| colours::asked_first(cmap, refusal, false);
+    let dlta = dlta.ok_or(early(NoDelta))?;
+    let anhd = anhd.ok_or(early(length_first(dlta, NoDelta, "delta-length-before-31")))?;
+    let header = Header::read(anhd, sizes, false).map_err(|refusal| early(length_first(dlta, refusal, "delta-length-before-32")))?;
+    Ok(Frame { header, dlta, cmap })
+}
+
+impl<'a> Frame<'a> {
+    /// The frame's colours.
+    pub fn colours(&self, sizes: Sizes) -> Answer<&'a [u8]> {
+        if broken("later-colours-not-read") {
+            return Ok(&[]);
+        }
+        let asked = colours::read(self.cmap);
+        if asked.is_err() {
+            let shortest = if self.header.items.are_words() { 32 } else { 64 };
+            need(self.dlta.len() >= shortest || !broken("colours-after-delta-length"), BadPointer)?;
+            check_early(self.dlta, sizes, self.header.items, "colours-after-delta")?;
+        }
+        asked
+    }
+}
+
+/// Walks the delta before its turn, if this fault is chosen.
+pub fn check_early(dlta: &[u8], sizes: Sizes, items: Items, fault: &str) -> Answer<()> {
+    if broken(fault) {
+        check(dlta, sizes, items)?;
+    }
+    Ok(())
 }
 
 /// The refusal, or 41 if this fault is chosen and DLTA is under 32 bytes, too short for every method, as if its length were asked for before.

@@ -56,18 +56,29 @@ pub fn next_form(parent: &[u8], mut at: usize, wanted: impl Fn(&[u8]) -> bool) -
     Ok(None)
 }
 
-/// Whether the chunks found are enough: all, or of BMHD, BODY, ANHD and DLTA those of one picture.
+/// Whether the chunks found are enough: of BMHD, BODY, ANHD and DLTA those of one picture, or ANHD and DLTA. The last is CMAP, which need not be there.
 fn enough(found: &[Option<&[u8]>]) -> bool {
     match found.iter().map(Option::is_some).collect::<Vec<bool>>()[..] {
-        [bmhd, body, anhd, dlta] => bmhd && (body || anhd && dlta),
-        ref all => !all.contains(&false),
+        [bmhd, body, anhd, dlta, _] => bmhd && (body || anhd && dlta),
+        [anhd, dlta, _] => anhd && dlta,
+        _ => true,
     }
 }
 
 /// Whether a chunk counts, where one of its id may have been found before: only the first does.
 fn counts(found: Option<&[u8]>, chunk: &Chunk) -> bool {
     let shorter = chunk.id == b"BODY" && found.is_some_and(|found| chunk.contents.len() < found.len());
-    found.is_none() || broken("last-chunk-counts") || shorter && broken("shorter-body-counts")
+    found.is_none() || broken("last-chunk-counts") || shorter && broken("shorter-body-counts") || chunk.id == b"CMAP" && counts_later(found, chunk)
+}
+
+/// The wrong choices of a CMAP behind another.
+fn counts_later(found: Option<&[u8]>, chunk: &Chunk) -> bool {
+    let length = found.map_or(0, <[u8]>::len);
+    let good = |length: usize| length.is_multiple_of(3) && length <= 768;
+    broken("last-cmap-counts")
+        || length == 0 && broken("empty-cmap-passed-over")
+        || chunk.contents.len() > length && broken("longer-cmap-counts")
+        || !good(length) && good(chunk.contents.len()) && broken("good-cmap-counts")
 }
 
 /// The contents of the first chunk of each id, with the whole parent walked.
@@ -79,8 +90,9 @@ pub fn find<'a, const N: usize>(parent: &'a [u8], ids: [&[u8; 4]; N]) -> Answer<
             break;
         }
         let chunk = chunk_at(parent, at)?;
+        let behind = chunk.id == b"CMAP" && broken("cmap-behind-passed-over") && enough(&found);
         for (slot, id) in found.iter_mut().zip(ids) {
-            if chunk.id == id && counts(*slot, &chunk) {
+            if chunk.id == id && counts(*slot, &chunk) && !behind {
                 *slot = Some(chunk.contents);
             }
         }

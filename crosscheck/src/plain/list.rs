@@ -1,5 +1,5 @@
 //! The listing of a file.
-use super::{frame_length, open, step_on};
+use super::{frame_length, open, step_on, MAP};
 
 const MAX_FILE: usize = 65_536;
 const MAX_FRAME: usize = 16_384;
@@ -15,14 +15,15 @@ pub fn list(file: &[u8]) -> String {
         Err(refusal) => return format!("refused {}\n", refusal.number()),
     };
     let (mut a, mut b, mut work) = (vec![0; length], vec![0; length], vec![0; length]);
-    let mut record = vec![0; 2 * length + 32];
-    let mut state = match open(file, &mut a, &mut b) {
+    let mut map = vec![0; MAP];
+    let mut record = vec![0; 2 * (length + MAP) + 32];
+    let mut state = match open(file, [&mut a, &mut b, &mut map]) {
         Ok(state) => state,
         Err(refusal) => return format!("refused {}\n", refusal.number()),
     };
     let mut lines = format!("picture {}x{}x{}\n", state.width, state.height, state.planes);
     loop {
-        match step_on(file, &mut state, &mut a, &mut b, &mut work, &mut record) {
+        match step_on(file, &mut state, [&mut a, &mut b, &mut map], &mut work, &mut record) {
             Ok(Some(r)) => {
                 lines += &format!("frame {} method {} time {} changed {} record {}\n", state.frame, r.method, r.time, r.changed, r.record_length)
             }

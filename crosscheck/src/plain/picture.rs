@@ -1,6 +1,6 @@
 //! The first picture: BMHD, and BODY or else a delta on a black picture.
 use super::delta::{self, Header};
-use super::{be16, iff, need, Answer, Refusal, Refusal::*, Sizes, MAX_FILE};
+use super::{be16, colours, iff, is_map, need, Answer, Refusal, Refusal::*, Screen, Sizes, MAX_FILE};
 use crate::faults::broken;
 
 /// The contents of a chunk, if it is there.
@@ -29,6 +29,7 @@ pub struct First<'a> {
     pub end: usize,
     packed: bool,
     given: Given<'a>,
+    cmap: Found<'a>,
 }
 
 /// Finds the first picture and reads its BMHD.
@@ -45,19 +46,20 @@ pub fn find(file: &[u8]) -> Answer<First<'_>> {
 
 /// Walks the frame and reads its BMHD.
 fn read<'a>(frame: &iff::Chunk<'a>, end: usize) -> Answer<First<'a>> {
-    let [bmhd, body, anhd, dlta] = iff::find(frame.contents, [b"BMHD", b"BODY", b"ANHD", b"DLTA"])?;
+    let [bmhd, body, anhd, dlta, cmap] = iff::find(frame.contents, [b"BMHD", b"BODY", b"ANHD", b"DLTA", b"CMAP"])?;
     need(body.or(anhd).is_some() || !broken("header-before-picture"), NoDelta)?;
     let bmhd = bmhd.ok_or(NoPicture)?;
     if body.or(dlta).is_some() {
         bmhd_early(bmhd)?;
     }
-    let given = given(body, anhd, dlta)?;
+    let early = |refusal| colours::asked_first(cmap, refusal, true);
+    let given = given(body, anhd, dlta).map_err(early)?;
     let asked = read_bmhd(bmhd, body.is_some() || !broken("compression-free"));
-    let (sizes, packed) = asked.map_err(|refusal| given.length_first(refusal, "first-delta-length-before-24"))?;
+    let (sizes, packed) = asked.map_err(|refusal| early(given.length_first(refusal, "first-delta-length-before-24")))?;
     if let (Some(_), Some(anhd), true) = (body, anhd, broken("body-asks-header")) {
         Header::read(anhd, sizes, true)?;
     }
-    Ok(First { sizes, next: frame.next, end, packed, given })
+    Ok(First { sizes, next: frame.next, end, packed, given, cmap })
 }
 
 /// BODY, or where there is none the delta with its header.
@@ -99,20 +101,30 @@ fn read_bmhd(bmhd: &[u8], compression_asked: bool) -> Answer<(Sizes, bool)> {
     Ok((sizes, compression == 1))
 }
 
-impl First<'_> {
-    /// Fills A and B with the picture, or refuses and leaves both as they were.
-    pub fn fill(&self, a: &mut [u8], b: &mut [u8]) -> Answer<()> {
+impl<'a> First<'a> {
+    /// Fills A and B with the picture and the map with its colours, or refuses and leaves all three as they were.
+    pub fn fill(&self, [a, b, map]: Screen) -> Answer<()> {
         self.read_early("lengths-after-header")?;
         let length = self.sizes.frame();
-        need(a.len() == length && b.len() == length, self.given.length_first(BufferLength, "first-delta-length-before-12"))?;
-        match self.given {
-            Given::Body(body) if self.packed => self.unpack_packed(body, a)?,
-            Given::Body(body) => self.unpack_plain(body, a)?,
-            Given::Delta { anhd, dlta } => self.draw_delta(anhd, dlta, a)?,
+        let refusal = self.given.length_first(BufferLength, "first-delta-length-before-12");
+        need(a.len() == length && b.len() == length, colours::asked_first(self.cmap, refusal, true))?;
+        let map_fits = is_map(map, "long-map-opened", "short-map-opened");
+        if !map_fits {
+            self.ask_colours("first-map-length-after-37")?;
         }
+        need(map_fits, refusal)?;
+        let drawn = match self.given {
+            Given::Body(body) => self.draw_body(body, a),
+            Given::Delta { anhd, dlta } => self.draw_delta(anhd, dlta, a),
+        };
+        if clears_map(&drawn) {
+            map.fill(0);
+        }
+        let colours = drawn?;
         if !(matches!(self.given, Given::Delta { .. }) && broken("first-in-a-only")) {
             b.copy_from_slice(a);
         }
+        colours::lay(map, &colours::front(map, colours, self.sizes.planes));
         Ok(())
     }
 
@@ -124,10 +136,44 @@ impl First<'_> {
         }
     }
 
-    /// Draws a delta on a black picture.
-    fn draw_delta(&self, anhd: &[u8], dlta: &[u8], frame: &mut [u8]) -> Answer<()> {
+    /// Asks for 37 before its turn, if this fault is chosen.
+    pub fn ask_colours(&self, fault: &str) -> Answer<()> {
+        if broken(fault) {
+            self.colours()?;
+        }
+        Ok(())
+    }
+
+    /// The picture's colours.
+    fn colours(&self) -> Answer<&'a [u8]> {
+        match self.given {
+            Given::Body(_) if broken("colours-beside-body-not-read") => Ok(&[]),
+            Given::Delta { .. } if broken("first-delta-colours-not-read") => Ok(&[]),
+            _ => colours::read(self.cmap),
+        }
+    }
+
+    /// Draws BODY, and hands the colours back.
+    fn draw_body(&self, body: &[u8], frame: &mut [u8]) -> Answer<&'a [u8]> {
+        let colours = self.colours();
+        if colours.is_err() && broken("colours-after-body") {
+            self.unpack(body, &mut vec![0; frame.len()])?;
+        }
+        let colours = colours?;
+        self.unpack(body, frame)?;
+        Ok(colours)
+    }
+
+    /// Draws a delta on a black picture, and hands the colours back.
+    fn draw_delta(&self, anhd: &[u8], dlta: &[u8], frame: &mut [u8]) -> Answer<&'a [u8]> {
         let asked = Header::read(anhd, self.sizes, true);
-        let header = asked.map_err(|refusal| self.given.length_first(refusal, "first-delta-length-before-32"))?;
+        let early = |refusal| colours::asked_first(self.cmap, refusal, true);
+        let header = asked.map_err(|refusal| early(self.given.length_first(refusal, "first-delta-length-before-32")))?;
+        let colours = self.colours();
+        if colours.is_err() {
+            delta::check_early(dlta, self.sizes, header.items, "first-colours-after-delta")?;
+        }
+        let colours = colours?;
         if broken("first-black-early") {
             frame.fill(0);
         }
@@ -137,7 +183,17 @@ impl First<'_> {
         if !broken("first-on-buffer") {
             frame.fill(if broken("first-on-ones") { 255 } else { 0 });
         }
-        delta::draw(dlta, self.sizes, header.items, frame)
+        delta::draw(dlta, self.sizes, header.items, frame)?;
+        Ok(colours)
+    }
+
+    /// Unpacks BODY into a frame, or refuses and leaves it as it was.
+    fn unpack(&self, body: &[u8], frame: &mut [u8]) -> Answer<()> {
+        if self.packed {
+            self.unpack_packed(body, frame)
+        } else {
+            self.unpack_plain(body, frame)
+        }
     }
 
     /// Where a row of BODY goes: each row has all its planes in turn.
@@ -175,6 +231,15 @@ impl First<'_> {
             draw_row(&mut rest, &mut frame[at..at + row]);
         }
         Ok(())
+    }
+}
+
+/// Whether the map is cleared: if the picture is drawn.
+fn clears_map(drawn: &Answer<&[u8]>) -> bool {
+    match drawn {
+        Ok(_) => !broken("opening-keeps-map"),
+        Err(BadColours) if broken("refused-colours-clear-map") => true,
+        Err(_) => broken("refused-opening-clears-map"),
     }
 }
 

@@ -1,6 +1,7 @@
 //! Step records: what a step changed, so that it can be taken back.
 use super::{need, Answer, Refusal::*};
 use crate::faults::broken;
+use std::borrow::Cow;
 
 /// A stretch of changed bytes, and the unchanged bytes before it.
 struct Run {
@@ -8,31 +9,68 @@ struct Run {
     count: usize,
 }
 
-/// How many bytes changed, and how long the record is.
+/// Bytes before and after a step.
+pub type Change<'a> = [&'a [u8]; 2];
+
+/// The runs of a change, how many bytes they have, and the bytes before it.
+struct Changed<'a> {
+    runs: Vec<Run>,
+    bytes: usize,
+    old: &'a [u8],
+}
+
+impl<'a> Changed<'a> {
+    fn new([old, new]: Change<'a>) -> Changed<'a> {
+        let runs = runs(old, new);
+        let bytes = runs.iter().map(|run| run.count).sum();
+        Changed { runs, bytes, old }
+    }
+
+    /// How long the list of its runs is.
+    fn length(&self) -> usize {
+        let numbers: usize = self.runs.iter().map(|run| number_length(run.gap as u64) + number_length(run.count as u64)).sum();
+        number_length(self.runs.len() as u64) + numbers + self.bytes
+    }
+
+    /// Puts the list of its runs.
+    fn put(&self, out: &mut Cursor) {
+        out.number(self.runs.len() as u64);
+        let mut place = 0;
+        for run in &self.runs {
+            place += run.gap;
+            out.number(run.gap as u64);
+            out.number(run.count as u64);
+            out.bytes(&self.old[place..place + run.count]);
+            place += run.count;
+        }
+    }
+}
+
+/// How many bytes of the picture changed, and how long the record is.
 pub struct Written {
     pub changed: u64,
     pub length: u64,
 }
 
-/// Writes the record of a step, or refuses and leaves the buffer as it was.
-pub fn write(old: &[u8], new: &[u8], frame: u64, place: u64, out: &mut [u8]) -> Answer<Written> {
-    let runs = runs(old, new);
-    let changed: usize = runs.iter().map(|run| run.count).sum();
-    let numbers: usize = runs.iter().map(|run| number_length(run.gap as u64) + number_length(run.count as u64)).sum();
-    let head = [frame, place, runs.len() as u64];
-    let length = head.iter().map(|&n| number_length(n)).sum::<usize>() + numbers + changed;
+/// Writes the record of a step that changes a picture and a map, or refuses and leaves the buffer as it was.
+pub fn write(picture: Change, map: Change, frame: u64, place: u64, out: &mut [u8]) -> Answer<Written> {
+    let map = if broken("new-colours-recorded") { [map[1], map[0]] } else { map };
+    let (picture, map) = (Changed::new(picture), Changed::new(map));
+    let lists: &[&Changed] = match () {
+        _ if broken("record-without-map") => &[&picture],
+        _ if broken("no-list-of-no-colours") && map.runs.is_empty() => &[&picture],
+        _ if broken("map-before-picture") => &[&map, &picture],
+        _ => &[&picture, &map],
+    };
+    let head = [frame, place];
+    let length = head.iter().map(|&n| number_length(n)).sum::<usize>() + lists.iter().map(|list| list.length()).sum::<usize>();
     need(length <= out.len(), NoRoom)?;
 
     let mut out = Cursor { out, at: 0 };
     head.iter().for_each(|&n| out.number(n));
-    let mut place = 0;
-    for run in &runs {
-        place += run.gap;
-        out.number(run.gap as u64);
-        out.number(run.count as u64);
-        out.bytes(&old[place..place + run.count]);
-        place += run.count;
-    }
+    lists.iter().for_each(|list| list.put(&mut out));
+    let changed = picture.bytes + if broken("changed-counts-colours") { map.bytes } else { 0 };
+    let length = length - if broken("record-length-of-picture") { map.length() } else { 0 };
     Ok(Written { changed: changed as u64, length: length as u64 })
 }
 
@@ -115,56 +153,139 @@ impl Cursor<'_> {
     }
 }
 
-/// A record that reads well for a picture.
-pub struct Past<'a> {
-    pub frame: u64,
-    pub place: u64,
+/// A list of runs that reads well for the bytes that it is to be put back into.
+struct List<'a> {
     runs: u64,
-    list: &'a [u8],
+    bytes: &'a [u8],
 }
 
-/// Reads a whole record for the picture it is to be put back into.
-pub fn read<'a>(record: &'a [u8], shown: &[u8]) -> Answer<Past<'a>> {
-    read_well(record, shown).ok_or(BadRecord)
-}
-
-fn read_well<'a>(record: &'a [u8], shown: &[u8]) -> Option<Past<'a>> {
-    let mut rest = record;
-    let frame = take_number(&mut rest)?;
-    let place = take_number(&mut rest)?;
-    let runs = take_number(&mut rest)?;
-    let list = rest;
-    let mut left = shown;
-    for k in 0..runs {
-        let gap = take_number(&mut rest)? as usize;
-        let count = take_number(&mut rest)? as usize;
-        if (gap == 0 && k > 0 && !broken("zero-gap")) || count == 0 || gap + count > left.len() || count > rest.len() {
-            return None;
+impl<'a> List<'a> {
+    /// Takes a list for these bytes off the front; whether they are a map's is for faults alone.
+    fn take(rest: &mut &'a [u8], now: &[u8], map: bool) -> Option<List<'a>> {
+        let wrong = |fault: &str, map_fault: &str| broken(fault) || map && broken(map_fault);
+        let runs = take_number(rest)?;
+        let bytes = *rest;
+        let mut left = now;
+        for k in 0..runs {
+            let gap = take_number(rest)? as usize;
+            let count = take_number(rest)? as usize;
+            let touches = gap == 0 && k > 0 && !wrong("zero-gap", "zero-gap-of-colours");
+            let none = count == 0 && !wrong("zero-count", "zero-count-of-colours");
+            if touches || none || gap + count > left.len() || count > rest.len() {
+                return None;
+            }
+            let (now, below) = left[gap..].split_at(count);
+            let (old, behind) = rest.split_at(count);
+            if now.iter().zip(old).any(|(x, y)| x == y) && !wrong("equal-old-byte", "equal-old-colours") {
+                return None;
+            }
+            (left, *rest) = (below, behind);
         }
-        let (now, below) = left[gap..].split_at(count);
-        let (old, behind) = rest.split_at(count);
-        if now.iter().zip(old).any(|(x, y)| x == y) && !broken("equal-old-byte") {
-            return None;
-        }
-        (left, rest) = (below, behind);
+        Some(List { runs, bytes })
     }
-    rest.is_empty().then_some(Past { frame, place, runs, list })
-}
 
-impl Past<'_> {
     /// Puts the old bytes back.
-    pub fn put_back(&self, shown: &mut [u8]) {
-        let mut rest = self.list;
+    fn put_back(&self, now: &mut [u8]) {
+        let mut rest = self.bytes;
         let mut at = 0;
         for _ in 0..self.runs {
             at += take_number(&mut rest).expect("a gap") as usize;
             let count = take_number(&mut rest).expect("a count") as usize;
             let (old, behind) = rest.split_at(count);
-            shown[at..at + count].copy_from_slice(old);
+            now[at..at + count].copy_from_slice(old);
             at += count;
             rest = behind;
         }
     }
+}
+
+/// The front of a record, which reads well for a picture, and what stands behind it.
+pub struct Front<'a> {
+    pub frame: u64,
+    pub place: u64,
+    picture: List<'a>,
+    behind: &'a [u8],
+}
+
+impl<'a> Front<'a> {
+    pub fn read(record: &'a [u8], shown: &[u8]) -> Option<Front<'a>> {
+        let mut behind = record;
+        let frame = take_number(&mut behind)?;
+        let place = take_number(&mut behind)?;
+        let picture = List::take(&mut behind, shown, false)?;
+        Some(Front { frame, place, picture, behind })
+    }
+
+    /// Puts the picture's old bytes back.
+    pub fn put_back(&self, shown: &mut [u8]) {
+        self.picture.put_back(shown);
+    }
+}
+
+/// A record that reads well for a picture and a map.
+pub struct Past<'a> {
+    pub front: Front<'a>,
+    map: List<'a>,
+}
+
+/// Reads a whole record for the picture and the map that it is to be put back into.
+pub fn read<'a>(record: &'a [u8], shown: &[u8], map: &[u8]) -> Answer<Past<'a>> {
+    read_well(record, shown, map).ok_or(BadRecord)
+}
+
+fn read_well<'a>(record: &'a [u8], shown: &[u8], map: &[u8]) -> Option<Past<'a>> {
+    let front = Front::read(record, shown)?;
+    let mut rest = front.behind;
+    if rest.is_empty() && broken("map-list-free") {
+        rest = &[0];
+    }
+    let map = List::take(&mut rest, &read_for(map), true)?;
+    let whole = rest.is_empty() || broken("bytes-behind-map-list");
+    whole.then_some(Past { front, map })
+}
+
+/// The bytes that a map's list is read for: the map.
+fn read_for(map: &[u8]) -> Cow<'_, [u8]> {
+    match () {
+        _ if broken("map-ends-at-767") => Cow::Borrowed(&map[..map.len() - 1]),
+        _ if broken("map-ends-at-769") => Cow::Owned([map, &[0]].concat()),
+        _ => Cow::Borrowed(map),
+    }
+}
+
+impl Past<'_> {
+    /// Puts the old bytes back.
+    pub fn put_back(&self, shown: &mut [u8], map: &mut [u8]) {
+        self.front.put_back(shown);
+        match () {
+            _ if broken("map-not-restored") => (),
+            _ if broken("map-ends-at-769") => {
+                let mut longer = read_for(map).into_owned();
+                self.map.put_back(&mut longer);
+                map.copy_from_slice(&longer[..map.len()]);
+            }
+            _ => self.map.put_back(map),
+        }
+    }
+}
+
+/// How long the parts of a record are: frame number, place and the picture's list, and the map's list.
+pub fn parts(record: &[u8]) -> Option<[usize; 2]> {
+    let mut rest = record;
+    take_number(&mut rest)?;
+    take_number(&mut rest)?;
+    pass_list(&mut rest)?;
+    Some([record.len() - rest.len(), rest.len()])
+}
+
+/// Takes a list off the front, whatever it is for.
+fn pass_list(rest: &mut &[u8]) -> Option<()> {
+    for _ in 0..take_number(rest)? {
+        take_number(rest)?;
+        let count = take_number(rest)? as usize;
+        *rest = rest.get(count..)?;
+    }
+    Some(())
 }
 
 /// Takes a number off the front, if it is in its shortest form and below 2^32.

@@ -1,5 +1,5 @@
-//! The bench examples of document 01 that are about parts, ops of none, first pictures given as deltas, lists of words, ops counted, and the outside
-//! listings.
+//! The bench examples of document 01 that are about parts, ops of none, first pictures given as deltas, lists of words, ops counted, colours, and the
+//! outside listings.
 use super::delta::{check, draw, Items};
 use super::*;
 use crate::files;
@@ -26,17 +26,17 @@ fn unpacked(body: &[u8]) -> Answer<[u8; 2]> {
     let sizes = Sizes { width: 16, height: 1, planes: 1 };
     let file = files::form(b"ANIM", &[files::picture_form(sizes, 1, body)]);
     let (mut a, mut b) = ([1; 2], [2; 2]);
-    open(&file, &mut a, &mut b).map(|_| a)
+    open(&file, [&mut a, &mut b, &mut [3; MAP]]).map(|_| a)
 }
 
 #[test]
 fn numbers_of_a_record() {
-    let mut out = [0xee; 5];
-    assert_eq!(record::write(&[7; 4], &[7; 4], 300, 127, &mut out).unwrap().length, 4);
-    assert_eq!(out, [0xac, 2, 0x7f, 0, 0xee]);
-    let past = record::read(&out[..4], &[7; 4]).unwrap();
-    assert_eq!((past.frame, past.place), (300, 127));
-    assert_eq!(record::read(&[0x80, 0, 64, 0], &[7; 4]).err(), Some(BadRecord));
+    let mut out = [0xee; 6];
+    assert_eq!(record::write([&[7; 4]; 2], [&[]; 2], 300, 127, &mut out).unwrap().length, 5);
+    assert_eq!(out, [0xac, 2, 0x7f, 0, 0, 0xee]);
+    let past = record::read(&out[..5], &[7; 4], &[8; MAP]).unwrap();
+    assert_eq!((past.front.frame, past.front.place), (300, 127));
+    assert_eq!(record::read(&[0x80, 0, 64, 0, 0], &[7; 4], &[8; MAP]).err(), Some(BadRecord));
 }
 
 #[test]
@@ -83,14 +83,42 @@ fn data_of_method_7() {
 #[test]
 fn record_of_a_step() {
     let (old, new) = ([0; 4], [0xaa, 0, 0xbb, 0]);
-    let mut out = [0xee; 10];
-    let written = record::write(&old, &new, 2, 64, &mut out).unwrap();
-    assert_eq!((written.changed, written.length), (2, 9));
-    assert_eq!(out, [2, 0x40, 2, 0, 1, 0, 1, 1, 0, 0xee]);
-    let past = record::read(&out[..9], &new).unwrap();
-    let mut back = new;
-    past.put_back(&mut back);
-    assert_eq!(back, old);
+    let mut out = [0xee; 11];
+    let written = record::write([&old, &new], [&[]; 2], 2, 64, &mut out).unwrap();
+    assert_eq!((written.changed, written.length), (2, 10));
+    assert_eq!(out, [2, 0x40, 2, 0, 1, 0, 1, 1, 0, 0, 0xee]);
+    let (mut back, mut map) = (new, [8; MAP]);
+    record::read(&out[..10], &new, &map).unwrap().put_back(&mut back, &mut map);
+    assert_eq!((back, map), (old, [8; MAP]));
+    assert_eq!(record::read(&out[..9], &new, &map).err(), Some(BadRecord));
+}
+
+#[test]
+fn record_of_a_step_with_colours() {
+    let mut map = [8; MAP];
+    let mut out = [0xee; 14];
+    let written = record::write([&[0; 4], &[0, 1, 0, 0]], [&map[..6], &[9, 9, 8, 8, 8, 9]], 2, 64, &mut out).unwrap();
+    assert_eq!((written.changed, written.length), (1, 14));
+    assert_eq!(out, [2, 0x40, 1, 1, 1, 0, 2, 0, 2, 8, 8, 3, 1, 8]);
+    assert_eq!(parts(&out), Some([6, 8]));
+    colours::lay(&mut map, &[9, 9, 8, 8, 8, 9]);
+    let mut picture = [0, 1, 0, 0];
+    record::read(&out, &picture, &map).unwrap().put_back(&mut picture, &mut map);
+    assert_eq!((picture, map), ([0; 4], [8; MAP]));
+}
+
+/// Whether such a list of a map's runs reads well behind a picture's list of none, where each byte of the map is 8.
+fn map_list_reads(list: &[u8]) -> bool {
+    record::read(&[&[2, 0x40, 0], list].concat(), &[0; 4], &[8; MAP]).is_ok()
+}
+
+#[test]
+fn lists_of_a_map() {
+    assert!(map_list_reads(&[0]) && map_list_reads(&[1, 0, 1, 9]) && map_list_reads(&[2, 0, 1, 9, 1, 1, 9]));
+    assert!(map_list_reads(&[1, 0xff, 5, 1, 9]));
+    for bad in [&[][..], &[1], &[1, 0, 1], &[1, 0, 1, 8], &[1, 0, 0], &[1, 0x80, 6, 1, 9], &[2, 0, 1, 9, 0, 1, 9], &[0, 0]] {
+        assert!(!map_list_reads(bad), "{bad:?}");
+    }
 }
 
 #[test]
@@ -110,9 +138,9 @@ fn opened(chunks: &[Part]) -> Answer<[u8; 4]> {
     let mut parts = vec![files::chunk(b"BMHD", &files::bmhd(SMALL, 0))];
     parts.extend(chunks.iter().map(|(id, contents)| files::chunk(id, contents)));
     let file = files::form(b"ANIM", &[files::form(b"ILBM", &parts)]);
-    let (mut a, mut b) = ([1; 4], [2; 4]);
-    let answer = open(&file, &mut a, &mut b);
-    assert_eq!(b, if answer.is_ok() { a } else { [2; 4] });
+    let (mut a, mut b, mut map) = ([1; 4], [2; 4], [3; MAP]);
+    let answer = open(&file, [&mut a, &mut b, &mut map]);
+    assert_eq!((b, map), if answer.is_ok() { (a, [0; MAP]) } else { ([2; 4], [3; MAP]) });
     answer.map(|_| a)
 }
 
@@ -241,12 +269,54 @@ fn ops_of_planes() {
 fn ops_of_a_step() {
     let later = files::delta_form(files::BYTES, 0, 3, &delta_of(&[1, 0x82, 0xaa, 0xbb, 1, 0x80]));
     let file = files::form(b"ANIM", &[files::picture_form(SMALL, 0, &[0; 4]), later]);
-    let ([mut a, mut b, mut work], mut rec) = ([[0; 4]; 3], [0; 20]);
-    let mut state = open(&file, &mut a, &mut b).unwrap();
+    let ([mut a, mut b, mut work], mut map, mut rec) = ([[0; 4]; 3], [0; MAP], [0; 20]);
+    let mut state = open(&file, [&mut a, &mut b, &mut map]).unwrap();
     assert_eq!(most_ops(&file, &state), Ok(Some(510)));
-    let report = step_on(&file, &mut state, &mut a, &mut b, &mut work, &mut rec);
-    assert_eq!(report, Ok(Some(Report { method: 5, time: 3, changed: 2, record_length: 9, ops: 2 })));
+    let report = step_on(&file, &mut state, [&mut a, &mut b, &mut map], &mut work, &mut rec);
+    assert_eq!(report, Ok(Some(Report { method: 5, time: 3, changed: 2, record_length: 10, ops: 2 })));
     assert_eq!(most_ops(&file, &state), Ok(None));
+}
+
+/// The first bytes of the map that opening leaves where the first frame has these CMAPs; the others are 0.
+fn first_colours(cmaps: &[&[u8]]) -> Answer<[u8; 6]> {
+    let mut form = files::picture_form(SMALL, 0, &[0; 4]);
+    cmaps.iter().for_each(|cmap| form = files::coloured(&form, cmap));
+    let mut map = [9; MAP];
+    open(&files::form(b"ANIM", &[form]), [&mut [0; 4], &mut [0; 4], &mut map])?;
+    let (front, others) = map.split_at(6);
+    assert_eq!(others, [0; MAP - 6]);
+    Ok(front.try_into().expect("six bytes"))
+}
+
+#[test]
+fn colours_of_a_first_frame() {
+    assert_eq!(first_colours(&[]), Ok([0; 6]));
+    assert_eq!(first_colours(&[&[]]), Ok([0; 6]));
+    assert_eq!(first_colours(&[&[1, 2, 3]]), Ok([1, 2, 3, 0, 0, 0]));
+    assert_eq!(first_colours(&[&[1, 2, 3, 4, 5, 6], &[7, 8, 9], &[7]]), Ok([1, 2, 3, 4, 5, 6]));
+    assert_eq!(first_colours(&[&[0; 768]]), Ok([0; 6]));
+    for length in [1, 2, 4, 767, 769, 771] {
+        assert_eq!(first_colours(&[&vec![1; length], &[1, 2, 3]]), Err(BadColours));
+    }
+}
+
+#[test]
+fn colours_of_later_frames() {
+    let later = files::delta_form(files::BYTES, 0, 1, &[0; 64]);
+    let first = files::coloured(&files::picture_form(SMALL, 0, &[0; 4]), &[1, 2, 3, 4, 5, 6]);
+    let file = files::form(b"ANIM", &[first, files::coloured(&later, &[1, 9, 9]), later.clone(), files::coloured(&later, &[0; 4])]);
+    let ([mut a, mut b, mut work], mut map, mut rec) = ([[0; 4]; 3], [7; MAP], [0; 20]);
+    let mut state = open(&file, [&mut a, &mut b, &mut map]).unwrap();
+    assert_eq!(map[..7], [1, 2, 3, 4, 5, 6, 0]);
+    let report = step_on(&file, &mut state, [&mut a, &mut b, &mut map], &mut work, &mut rec).unwrap().unwrap();
+    assert_eq!((report.changed, report.record_length, &rec[2..8], &map[..7]), (0, 8, &[0, 1, 1, 2, 2, 3][..], &[1, 9, 9, 4, 5, 6, 0][..]));
+    let after = (state, map);
+    assert!(step_on(&file, &mut state, [&mut a, &mut b, &mut map], &mut work, &mut [0; 20]).is_ok());
+    assert_eq!(step_on(&file, &mut state, [&mut a, &mut b, &mut map], &mut work, &mut [0; 20]), Err(BadColours));
+    assert_eq!((state.frame, map), (3, after.1));
+    state = after.0;
+    assert_eq!(step_back(&mut state, [&mut a, &mut b, &mut map], &rec[..8]), Ok(()));
+    assert_eq!((state.frame, &map[..7]), (1, &[1, 2, 3, 4, 5, 6, 0][..]));
 }
 
 #[test]
@@ -255,5 +325,5 @@ fn outside_listings() {
     for vector in &vectors {
         assert_eq!(list(&vector.file), vector.listing, "{}", vector.name);
     }
-    assert_eq!(vectors.len(), 146);
+    assert_eq!(vectors.len(), 168);
 }
