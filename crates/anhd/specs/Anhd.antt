@@ -12,40 +12,40 @@ use Rattle.anhd.specs.declared.Anhd.{Anhd}
 use Rattle.anhd.specs.declared.Anhd.TheVariants.{Header, Refused}
 
 -- the methods that are read
-abbrev pub methodOk : ℕ → Bool
-methodOk method = eqb method 2 || eqb method 3 || eqb method 5 || eqb method 7
+abbrev pub method_ok : ℕ → Bool
+method_ok method = eqb method 2 || eqb method 3 || eqb method 5 || eqb method 7
 
 -- the interleaves that the first frame, or a later one, takes
-abbrev pub interleaveOk : Bool → ℕ → Bool
-interleaveOk first interleave = first || leb interleave 2
+abbrev pub interleave_ok : Bool → ℕ → Bool
+interleave_ok first interleave = first || leb interleave 2
 
 -- the option bits that a method takes
-abbrev pub bitsOk : ℕ → ℕ → Bool
-bitsOk method bits = pick (eqb method 7) (eqb (bits / 2) 0) (eqb bits 0)
+abbrev pub bits_ok : ℕ → ℕ → Bool
+bits_ok method bits = pick (eqb method 7) (eqb (bits / 2) 0) (eqb bits 0)
 
 -- what the items of a method are
-abbrev pub itemsOf : ℕ → ℕ → Items
-itemsOf method bits = pick (eqb method 2) LongWords (pick (eqb method 3) ShortWords (pick (eqb method 5) Bytes (pick (eqb (bits % 2) 1) Longs Shorts)))
+abbrev pub items_of : ℕ → ℕ → Items
+items_of method bits = pick (eqb method 2) LongWords (pick (eqb method 3) ShortWords (pick (eqb method 5) Bytes (pick (eqb (bits % 2) 1) Longs Shorts)))
 
 -- a row is made of whole columns, unless data is long and B is not a multiple of 4; lists of words have no columns
-abbrev pub columnsOk : Items → ℕ → Bool
-columnsOk Bytes B = true
-columnsOk Shorts B = true
-columnsOk Longs B = eqb (B % 4) 0
-columnsOk ShortWords B = true
-columnsOk LongWords B = true
+abbrev pub columns_ok : Items → ℕ → Bool
+columns_ok Bytes B = true
+columns_ok Shorts B = true
+columns_ok Longs B = eqb (B % 4) 0
+columns_ok ShortWords B = true
+columns_ok LongWords B = true
 
 -- the header of a frame, the first or a later one, whose rows have B bytes
-unfoldable pub frameHeader : Bool → ℕ → List ℕ → Res FrameHeader
-frameHeader first B s =
+unfoldable pub frame_header : Bool → ℕ → List ℕ → Res FrameHeader
+frame_header first B s =
     need (leb 40 (length s)) 32 >>= λ _.
-    need (methodOk (get_or s 0 0)) 33 >>= λ _.
-    need (interleaveOk first (get_or s 18 0)) 34 >>= λ _.
-    need (bitsOk (get_or s 0 0) (be32 s 20)) 35 >>= λ _.
-    need (columnsOk (itemsOf (get_or s 0 0) (be32 s 20)) B) 36 >>= λ _.
-    ok (record { method = get_or s 0 0; time = be32 s 14; interleave = get_or s 18 0; items = itemsOf (get_or s 0 0) (be32 s 20) })
+    need (method_ok (get_or s 0 0)) 33 >>= λ _.
+    need (interleave_ok first (get_or s 18 0)) 34 >>= λ _.
+    need (bits_ok (get_or s 0 0) (be32 s 20)) 35 >>= λ _.
+    need (columns_ok (items_of (get_or s 0 0) (be32 s 20)) B) 36 >>= λ _.
+    ok (record { method = get_or s 0 0; time = be32 s 14; interleave = get_or s 18 0; items = items_of (get_or s 0 0) (be32 s 20) })
 
 -- what an answer says in the paper's terms
-abbrev pub anhdOf : Anhd → Res FrameHeader
-anhdOf (Header h) = ok h
-anhdOf (Refused why) = fault (number_of why)
+abbrev pub anhd_of : Anhd → Res FrameHeader
+anhd_of (Header h) = ok h
+anhd_of (Refused why) = fault (number_of why)

@@ -1,6 +1,6 @@
 // The header of a frame, ANHD.
 ghost use Rattle.std.specs.Prelude.{◌≡◌};
-ghost use Rattle.anhd.specs.Anhd.{methodOk, interleaveOk, bitsOk, itemsOf, columnsOk, frameHeader, anhdOf};
+ghost use Rattle.anhd.specs.Anhd.{method_ok, interleave_ok, bits_ok, items_of, columns_ok, frame_header, anhd_of};
 
 use buffer::{byte, number32};
 use refusal::Refusal;
@@ -34,7 +34,7 @@ pub enum Anhd {
 
 // Whether a method is read.
 fn method_ok(method: usize) -> bool
-    ensures { result ≡ methodOk method }
+    ensures { result ≡ method_ok method }
 {
     match method {
         2 => true,
@@ -46,7 +46,7 @@ fn method_ok(method: usize) -> bool
 
 // Whether an interleave is taken, in the first frame or a later one.
 fn interleave_ok(first: bool, interleave: usize) -> bool
-    ensures { result ≡ interleaveOk first interleave }
+    ensures { result ≡ interleave_ok first interleave }
 {
     if first {
         return true;
@@ -55,7 +55,7 @@ fn interleave_ok(first: bool, interleave: usize) -> bool
 }
 
 fn bits_ok(method: usize, bits: usize) -> bool
-    ensures { result ≡ bitsOk method bits }
+    ensures { result ≡ bits_ok method bits }
 {
     if method == 7 {
         return bits / 2 == 0;
@@ -64,7 +64,7 @@ fn bits_ok(method: usize, bits: usize) -> bool
 }
 
 fn items_of(method: usize, bits: usize) -> Items
-    ensures { result ≡ itemsOf method bits }
+    ensures { result ≡ items_of method bits }
 {
     match method {
         2 => Items::LongWords,
@@ -81,7 +81,7 @@ fn items_of(method: usize, bits: usize) -> Items
 
 // Whether rows of so many bytes, an even number, are made of whole columns of such items; lists of words have no columns.
 pub fn columns_ok(items: Items, row: usize) -> bool
-    ensures { result ≡ columnsOk items row }
+    ensures { result ≡ columns_ok items row }
 {
     match items {
         Items::Bytes => true,
@@ -94,7 +94,7 @@ pub fn columns_ok(items: Items, row: usize) -> bool
 
 // Reads the contents of an ANHD, of the first frame or a later one, for a picture with row bytes per row.
 pub fn frame_header(first: bool, row: usize, s: &[u8]) -> Anhd
-    ensures { anhdOf result ≡ frameHeader first row s.now }
+    ensures { anhd_of result ≡ frame_header first row s.now }
 {
     if s.len() < 40 {
         return Anhd::Refused(Refusal::ShortAnhd);

@@ -2,7 +2,7 @@
 // the file, the state, A, B and the map, the work buffer, the record or the output, the report or the length.
 ghost use Rattle.std.specs.Prelude.{◌≡◌, ◌&&◌, eqb, length};
 ghost use Rattle.shown.specs.Row.{place_of};
-ghost use Rattle.anim.specs.Export.{OpensC, HandsOn, StepsOnC, StepsBackC, rowC, numberOr, placeOr, sizesIn, WritesC, SizesC};
+ghost use Rattle.anim.specs.Export.{OpensC, HandsOn, StepsOnC, StepsBackC, row_c, number_or, place_or, sizes_in, WritesC, SizesC};
 
 use opening::{Opening, Size};
 use refusal::Refusal;
@@ -149,7 +149,7 @@ pub extern "C" fn anim_step_back(
 
 // Where a row of a plane stands, by the state in its slice.
 fn row_in(plane: u64, row: u64, state: &[u8], a: &[u8], b: &[u8]) -> Place
-    ensures { place_of result ≡ rowC plane row state.now (length a.now) (length b.now) }
+    ensures { place_of result ≡ row_c plane row state.now (length a.now) (length b.now) }
 {
     if state.len() != 48 {
         return Place::Refused(Refusal::OutsideLimits);
@@ -160,7 +160,7 @@ fn row_in(plane: u64, row: u64, state: &[u8], a: &[u8], b: &[u8]) -> Place
 // The place of a row of a plane in A or B, 0 if it is refused.
 #[unsafe(no_mangle)]
 pub extern "C" fn anim_row_place(plane: u64, row: u64, state: &[u8], a: &[u8], b: &[u8]) -> u64
-    ensures { result ≡ placeOr (rowC plane row state.now (length a.now) (length b.now)) }
+    ensures { result ≡ place_or (row_c plane row state.now (length a.now) (length b.now)) }
 {
     let p = row_in(plane, row, state, a, b);
     match p {
@@ -172,7 +172,7 @@ pub extern "C" fn anim_row_place(plane: u64, row: u64, state: &[u8], a: &[u8], b
 // The number of the refusal of such a row, 0 if it isn't refused.
 #[unsafe(no_mangle)]
 pub extern "C" fn anim_row_refusal(plane: u64, row: u64, state: &[u8], a: &[u8], b: &[u8]) -> u64
-    ensures { result ≡ numberOr (rowC plane row state.now (length a.now) (length b.now)) }
+    ensures { result ≡ number_or (row_c plane row state.now (length a.now) (length b.now)) }
 {
     let p = row_in(plane, row, state, a, b);
     match p {
@@ -192,7 +192,7 @@ pub extern "C" fn anim_write_delta(
     out: &mut [u8],
     len: &mut [u8],
 ) -> u64
-    ensures { WritesC (sizesIn width height planes) old.now new.now (record { out = out.entry.now; len = len.old }) result
+    ensures { WritesC (sizes_in width height planes) old.now new.now (record { out = out.entry.now; len = len.old }) result
         (record { out = out.exit.now; len = len.new }) }
 {
     if len.len() != 8 {

@@ -4,16 +4,16 @@ use mathlib.Core.Bool.{true}
 use mathlib.Core.Path.{◌≡◌, ap, ◌∙◌}
 use lib.Dec.{eqb}
 use lib.ListN.{length}
-use Rattle.words.specs.Words.{readState}
-use Rattle.answers.specs.Answers.{Answers, isAnswer, Answers.sizes, Answers.opens, Answers.stepsOn, Answers.stepsBack, Answers.rows, Answers.writes}
+use Rattle.words.specs.Words.{read_state}
+use Rattle.answers.specs.Answers.{Answers, is_answer, Answers.sizes, Answers.opens, Answers.steps_on, Answers.steps_back, Answers.rows, Answers.writes}
 use Rattle.answers.proofs.InTable.{listed}
-use Rattle.answers.proofs.Table.{size-table, opening-table, place-table, written-table}
-use Rattle.answers.proofs.AnswerLaws.{sized-answered, on-answered, back-answered}
+use Rattle.answers.proofs.Table.{size_table, opening_table, place_table, written_table}
+use Rattle.answers.proofs.AnswerLaws.{sized_answered, on_answered, back_answered}
 
-pub answered : {r : ℕ} → Answers r → isAnswer r ≡ true
-answered (sizes file size _ _ c) = ap isAnswer c.answer ∙ sized-answered (eqb (length size) 8) (listed (size-table file))
-answered (opens file w _ _ c) = ap isAnswer c.answer ∙ sized-answered (eqb (length w.state) 48) (listed (opening-table file (length w.a) (length w.b) (length w.map)))
-answered (stepsOn file l _ _ c) = ap isAnswer c.answer ∙ on-answered file l
-answered (stepsBack w rec _ _ c) = ap isAnswer c.answer ∙ back-answered w rec
-answered (rows plane row state a b _ e) = ap isAnswer e ∙ sized-answered (eqb (length state) 48) (listed (place-table (readState state) a b plane row))
-answered (writes z old new l _ _ c) = ap isAnswer c.answer ∙ sized-answered (eqb (length l.len) 8) (written-table z old new (length l.out))
+pub answered : {r : ℕ} → Answers r → is_answer r ≡ true
+answered (sizes file size _ _ c) = ap is_answer c.answer ∙ sized_answered (eqb (length size) 8) (listed (size_table file))
+answered (opens file w _ _ c) = ap is_answer c.answer ∙ sized_answered (eqb (length w.state) 48) (listed (opening_table file (length w.a) (length w.b) (length w.map)))
+answered (steps_on file l _ _ c) = ap is_answer c.answer ∙ on_answered file l
+answered (steps_back w rec _ _ c) = ap is_answer c.answer ∙ back_answered w rec
+answered (rows plane row state a b _ e) = ap is_answer e ∙ sized_answered (eqb (length state) 48) (listed (place_table (read_state state) a b plane row))
+answered (writes z old new l _ _ c) = ap is_answer c.answer ∙ sized_answered (eqb (length l.len) 8) (written_table z old new (length l.out))

@@ -4,31 +4,31 @@ use Rattle.std.specs.Prelude.{ℕ, not, List, leb, eqb, length, get_or}
 use Rattle.laws.specs.Result.{Res, Res.ok, Res.fault, ◌>>=◌, need}
 use Rattle.laws.specs.Bytes.{be16}
 use Rattle.refusal.specs.Number.{number_of}
-use Rattle.state.specs.State.{frameLength}
+use Rattle.state.specs.State.{frame_length}
 use Rattle.state.specs.declared.Sizes.{Sizes}
 use Rattle.bmhd.specs.declared.Header.{Header}
 use Rattle.bmhd.specs.declared.Bmhd.{Bmhd}
 use Rattle.bmhd.specs.declared.Bmhd.TheVariants.{Picture, Refused}
 
 -- the sizes that a BMHD gives, within the limits or not
-abbrev pub sizesAt : List ℕ → Sizes
-sizesAt s = record { width = be16 s 0; height = be16 s 2; planes = get_or s 8 0 }
+abbrev pub sizes_at : List ℕ → Sizes
+sizes_at s = record { width = be16 s 0; height = be16 s 2; planes = get_or s 8 0 }
 
 -- any refusal becomes this one
-abbrev pub refusedAs : {A : Type 0} → ℕ → Res A → Res A
-refusedAs n (ok a) = ok a
-refusedAs n (fault m) = fault n
+abbrev pub refused_as : {A : Type 0} → ℕ → Res A → Res A
+refused_as n (ok a) = ok a
+refused_as n (fault m) = fault n
 
 -- the picture's sizes, the length of a frame, and whether BODY is packed; or 24
-unfoldable pub bitmapHeader : List ℕ → Res Header
-bitmapHeader s =
+unfoldable pub bitmap_header : List ℕ → Res Header
+bitmap_header s =
     need (eqb (length s) 20) 24 >>= λ _.
-    refusedAs 24 (frameLength (sizesAt s)) >>= λ n.
+    refused_as 24 (frame_length (sizes_at s)) >>= λ n.
     need (not (eqb (get_or s 9 0) 1)) 24 >>= λ _.
     need (leb (get_or s 10 0) 1) 24 >>= λ _.
-    ok (record { sizes = sizesAt s; length = n; packed = eqb (get_or s 10 0) 1 })
+    ok (record { sizes = sizes_at s; length = n; packed = eqb (get_or s 10 0) 1 })
 
 -- what an answer says in the paper's terms
-abbrev pub bmhdOf : Bmhd → Res Header
-bmhdOf (Picture h) = ok h
-bmhdOf (Refused why) = fault (number_of why)
+abbrev pub bmhd_of : Bmhd → Res Header
+bmhd_of (Picture h) = ok h
+bmhd_of (Refused why) = fault (number_of why)

@@ -1,6 +1,6 @@
 // The header of the first picture: the contents of its BMHD.
 ghost use Rattle.std.specs.Prelude.{◌≡◌};
-ghost use Rattle.bmhd.specs.Header.{sizesAt, bitmapHeader, bmhdOf};
+ghost use Rattle.bmhd.specs.Header.{sizes_at, bitmap_header, bmhd_of};
 
 use buffer::{byte, number16};
 use refusal::Refusal;
@@ -23,7 +23,7 @@ pub enum Bmhd {
 
 // The sizes that a BMHD gives, within the limits or not.
 fn sizes_at(s: &[u8]) -> Sizes
-    ensures { result ≡ sizesAt s.now }
+    ensures { result ≡ sizes_at s.now }
 {
     Sizes {
         width: number16(s, 0),
@@ -34,7 +34,7 @@ fn sizes_at(s: &[u8]) -> Sizes
 
 // Reads the contents of a BMHD.
 pub fn bitmap_header(s: &[u8]) -> Bmhd
-    ensures { bmhdOf result ≡ bitmapHeader s.now }
+    ensures { bmhd_of result ≡ bitmap_header s.now }
 {
     if s.len() != 20 {
         return Bmhd::Refused(Refusal::BadBmhd);

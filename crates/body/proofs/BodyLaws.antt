@@ -13,51 +13,51 @@ use lib.ListN.{length, get_or, take, drop, replicate, length-append, length-repl
 use lib.Seq.{sets, length-sets, ext_get_or}
 use borrow.Author.Tests.{le-leb, lt-leb, eq-eqb, ne_eqb, leb-true, leb-false}
 use Rattle.laws.specs.Result.{Res, Res.ok, Res.fault, answer, pick}
-use Rattle.laws.proofs.ResultLaws.{Each, Each.each, Each.no_value, each-bind, each-need, each-is, answer-refused}
+use Rattle.laws.proofs.ResultLaws.{Each, Each.each, Each.no_value, each_bind, each_need, each_is, answer_refused}
 use Rattle.laws.specs.Loop.{Step.done}
-use Rattle.laws.proofs.LoopLaws.{Comes, Comes.comes-next, Comes.comes-done, iterate-holds}
-use Rattle.laws.proofs.StoreLaws.{sets-agree, length_part}
+use Rattle.laws.proofs.LoopLaws.{Comes, Comes.comes_next, Comes.comes_done, iterate_holds}
+use Rattle.laws.proofs.StoreLaws.{sets_agree, length_part}
 use Rattle.state.specs.declared.Sizes.{Sizes}
-use Rattle.state.specs.State.{rowBytes, frameBytes, frameLength, Sound}
-use Rattle.body.specs.ByteRun.{Row, packetAt, withPacket, unpackOn, unpackRow}
-use Rattle.body.specs.Body.{row_at, rows_from, place, drawRows, body, unpack}
-use Rattle.body.proofs.ByteRunLaws.{Within, packet-within}
+use Rattle.state.specs.State.{row_bytes, frame_bytes, frame_length, Sound}
+use Rattle.body.specs.ByteRun.{Row, packet_at, with_packet, unpack_on, unpack_row}
+use Rattle.body.specs.Body.{row_at, rows_from, place, draw_rows, body, unpack}
+use Rattle.body.proofs.ByteRunLaws.{Within, packet_within}
 
 -- a row that is being unpacked has at most B bytes, and a finished one has B
-unpack-turn : (s : List ℕ) (B : ℕ) (w : Row) → length w.bytes ≤ B → Comes (λ (t : Row). length t.bytes ≤ B) (Each (λ (r : Row). length r.bytes ≡ B)) (unpackOn s B w)
-unpack-turn s B w h = go (leb B (length w.bytes)) refl (packetAt s w.next (B - length w.bytes)) (packet-within s w.next (B - length w.bytes))
+unpack_turn : (s : List ℕ) (B : ℕ) (w : Row) → length w.bytes ≤ B → Comes (λ (t : Row). length t.bytes ≤ B) (Each (λ (r : Row). length r.bytes ≡ B)) (unpack_on s B w)
+unpack_turn s B w h = go (leb B (length w.bytes)) refl (packet_at s w.next (B - length w.bytes)) (packet_within s w.next (B - length w.bytes))
   where
     go : (t : Bool) → leb B (length w.bytes) ≡ t → (r : Res Row) → Each (Within s w.next (B - length w.bytes)) r
-        → Comes (λ (t : Row). length t.bytes ≤ B) (Each (λ (r : Row). length r.bytes ≡ B)) (pick t (done (ok w)) (withPacket w r))
-    go true b r q = let l : length w.bytes ≡ B = omega (arith, leb-true B (length w.bytes) b) in comes-done (each l)
+        → Comes (λ (t : Row). length t.bytes ≤ B) (Each (λ (r : Row). length r.bytes ≡ B)) (pick t (done (ok w)) (with_packet w r))
+    go true b r q = let l : length w.bytes ≡ B = omega (arith, leb-true B (length w.bytes) b) in comes_done (each l)
     go false b (ok p) (each q) =
         let l : length (w.bytes ++ p.bytes) ≤ B = simp length-append (omega (arith, q.fits, leb-false B (length w.bytes) b)) in
-        comes-next l
-    go false b (fault n) q = comes-done no_value
+        comes_next l
+    go false b (fault n) q = comes_done no_value
 
-unpack-long : (s : List ℕ) (B at : ℕ) → Each (λ (r : Row). length r.bytes ≡ B) (unpackRow s at B)
-unfolding unpackRow
-unpack-long s B at =
-    iterate-holds (unpackOn s B) (λ (w : Row). length s - w.next) (fault 25) (λ (t : Row). length t.bytes ≤ B) (Each (λ (r : Row). length r.bytes ≡ B))
-    no_value (unpack-turn s B) (record { bytes = []; next = at }) (omega arith)
+unpack_long : (s : List ℕ) (B at : ℕ) → Each (λ (r : Row). length r.bytes ≡ B) (unpack_row s at B)
+unfolding unpack_row
+unpack_long s B at =
+    iterate_holds (unpack_on s B) (λ (w : Row). length s - w.next) (fault 25) (λ (t : Row). length t.bytes ≤ B) (Each (λ (r : Row). length r.bytes ≡ B))
+    no_value (unpack_turn s B) (record { bytes = []; next = at }) (omega arith)
 
 -- a row by the kind of BODY
-pub row-packed : {packed : Bool} (s : List ℕ) (B at : ℕ) → packed ≡ true → row_at s at B packed ≡ unpackRow s at B
+pub row_packed : {packed : Bool} (s : List ℕ) (B at : ℕ) → packed ≡ true → row_at s at B packed ≡ unpack_row s at B
 unfolding row_at
-row-packed s B at e = rw e
+row_packed s B at e = rw e
 
 pub row_plain : {packed : Bool} (s : List ℕ) (B at : ℕ) → packed ≡ false → at + B ≤ length s → row_at s at B packed ≡ ok (record { bytes = take B (drop at s); next = at + B })
 unfolding row_at
 row_plain s B at e h = rw (e, le-leb (at + B) (length s) h)
 
-pub row-short : {packed : Bool} (s : List ℕ) (B at : ℕ) → packed ≡ false → length s < at + B → row_at s at B packed ≡ fault 25
+pub row_short : {packed : Bool} (s : List ℕ) (B at : ℕ) → packed ≡ false → length s < at + B → row_at s at B packed ≡ fault 25
 unfolding row_at
-row-short s B at e h = rw (e, lt-leb (at + B) (length s) h)
+row_short s B at e h = rw (e, lt-leb (at + B) (length s) h)
 
-pub row-long : (packed : Bool) (s : List ℕ) (B at : ℕ) → Each (λ (r : Row). length r.bytes ≡ B) (row_at s at B packed)
+pub row_long : (packed : Bool) (s : List ℕ) (B at : ℕ) → Each (λ (r : Row). length r.bytes ≡ B) (row_at s at B packed)
 unfolding row_at
-row-long true s B at = unpack-long s B at
-row-long false s B at = each-need (leb (at + B) (length s)) 25 _ λ e. each (length_part s at B (omega (arith, leb-true (at + B) (length s) e)))
+row_long true s B at = unpack_long s B at
+row_long false s B at = each_need (leb (at + B) (length s)) 25 _ λ e. each (length_part s at B (omega (arith, leb-true (at + B) (length s) e)))
 
 -- k rows of B bytes
 pub data Rows (B : ℕ) : ℕ → List (List ℕ) → Type 0 where
@@ -67,30 +67,30 @@ pub data Rows (B : ℕ) : ℕ → List (List ℕ) → Type 0 where
 pub rows_long : (packed : Bool) (s : List ℕ) (B k at : ℕ) → Each (Rows B k) (rows_from s at B k packed)
 unfolding rows_from
 rows_long packed s B zero at = each no_rows
-rows_long packed s B (suc k) at = each-bind (row-long packed s B at) λ r l. each-bind (rows_long packed s B k r.next) λ rs ls. each (one_more l ls)
+rows_long packed s B (suc k) at = each_bind (row_long packed s B at) λ r l. each_bind (rows_long packed s B k r.next) λ rs ls. each (one_more l ls)
 
-pub length-draw : (z : Sizes) (i : ℕ) (rs : List (List ℕ)) (f : List ℕ) → length (drawRows z i rs f) ≡ length f
-unfolding drawRows
-length-draw z i [] f = refl
-length-draw z i (r ∷ rs) f = length-draw z (i + 1) rs (sets f (place z i) r) ∙ length-sets f (place z i) r
+pub length_draw : (z : Sizes) (i : ℕ) (rs : List (List ℕ)) (f : List ℕ) → length (draw_rows z i rs f) ≡ length f
+unfolding draw_rows
+length_draw z i [] f = refl
+length_draw z i (r ∷ rs) f = length_draw z (i + 1) rs (sets f (place z i) r) ∙ length-sets f (place z i) r
 
 -- a byte of the frame that row m of BODY holds
 record Holds (z : Sizes) (j m : ℕ) : Type 0 where
   from : place z m ≤ j
-  to : j < place z m + rowBytes z.width
+  to : j < place z m + row_bytes z.width
 
 -- two frames agree where they did before, and where a row is drawn
-draw-agree : (z : Sizes) {k : ℕ} {rs : List (List ℕ)} → Rows (rowBytes z.width) k rs → (i j m : ℕ) (f g : List ℕ) → length f ≡ length g → j < length f
-    → (get_or f j 0 ≡ get_or g j 0) ⊎ ((i ≤ m) × (m < i + k) × Holds z j m) → get_or (drawRows z i rs f) j 0 ≡ get_or (drawRows z i rs g) j 0
-unfolding drawRows
-draw-agree z no_rows i j m f g l h (inl e) = e
-draw-agree z no_rows i j m f g l h (inr w) = absurd (omega (arith, w.0, w.1))
-draw-agree z (one_more {k = k} {r = r} {rs = rs} q rows) i j m f g l h w =
-    draw-agree z rows (i + 1) j m (sets f (place z i) r) (sets g (place z i) r)
+draw_agree : (z : Sizes) {k : ℕ} {rs : List (List ℕ)} → Rows (row_bytes z.width) k rs → (i j m : ℕ) (f g : List ℕ) → length f ≡ length g → j < length f
+    → (get_or f j 0 ≡ get_or g j 0) ⊎ ((i ≤ m) × (m < i + k) × Holds z j m) → get_or (draw_rows z i rs f) j 0 ≡ get_or (draw_rows z i rs g) j 0
+unfolding draw_rows
+draw_agree z no_rows i j m f g l h (inl e) = e
+draw_agree z no_rows i j m f g l h (inr w) = absurd (omega (arith, w.0, w.1))
+draw_agree z (one_more {k = k} {r = r} {rs = rs} q rows) i j m f g l h w =
+    draw_agree z rows (i + 1) j m (sets f (place z i) r) (sets g (place z i) r)
     (length-sets f (place z i) r ∙ l ∙ sym (length-sets g (place z i) r)) (rw (length-sets f (place z i) r) h) (go (ℕ_discrete m i) w)
   where
     agree : (get_or f j 0 ≡ get_or g j 0) ⊎ ((place z i ≤ j) × (j < place z i + length r)) → get_or (sets f (place z i) r) j 0 ≡ get_or (sets g (place z i) r) j 0
-    agree x = sets-agree f g (place z i) r j l h x
+    agree x = sets_agree f g (place z i) r j l h x
 
     go : Dec (m ≡ i) → (get_or f j 0 ≡ get_or g j 0) ⊎ ((i ≤ m) × (m < i + suc k) × Holds z j m)
         → (get_or (sets f (place z i) r) j 0 ≡ get_or (sets g (place z i) r) j 0) ⊎ ((i + 1 ≤ m) × (m < i + 1 + k) × Holds z j m)
@@ -99,7 +99,7 @@ draw-agree z (one_more {k = k} {r = r} {rs = rs} q rows) i j m f g l h w =
     go (no n) (inr x) = inr (omega (arith, x.0, n), omega (arith, x.1), x.2)
 
 -- row p of line y
-pub place_at : (z : Sizes) (y p : ℕ) → p < z.planes → place z (y * z.planes + p) ≡ (p * z.height + y) * rowBytes z.width
+pub place_at : (z : Sizes) (y p : ℕ) → p < z.planes → place z (y * z.planes + p) ≡ (p * z.height + y) * row_bytes z.width
 unfolding place
 place_at z y p h =
     let e : (y * z.planes + p) % z.planes ≡ p = mul-add-mod_self_right y z.planes p ∙ mod-eq_of_lt h in
@@ -108,59 +108,59 @@ place_at z y p h =
 
 -- every byte of a frame is in a row
 row_of : (z : Sizes) (n j : ℕ) → Sound z n → j < n → (m : ℕ) × (m < z.height * z.planes) × Holds z j m
-unfolding frameBytes
+unfolding frame_bytes
 row_of z n j b h =
-    let B : ℕ = rowBytes z.width in
+    let B : ℕ = row_bytes z.width in
     let q : ℕ = j / B in
-    let B-pos : 0 < B = omega (arith, b.row-least) in
-    let H-pos : 0 < z.height = omega (arith, b.height-least) in
-    let q-most : q < z.planes * z.height = (div-lt_iff_lt-mul B-pos).1 (omega (arith, b.length)) in
-    let p-most : q / z.height < z.planes = (div-lt_iff_lt-mul H-pos).1 q-most in
-    let y-most : q % z.height < z.height = mod-lt q H-pos in
-    let e : place z (q % z.height * z.planes + q / z.height) ≡ q * B = place_at z (q % z.height) (q / z.height) p-most ∙ ap (λ (k : ℕ). k * B) (div-add-mod' q z.height) in (
+    let B-pos : 0 < B = omega (arith, b.row_least) in
+    let H-pos : 0 < z.height = omega (arith, b.height_least) in
+    let q_most : q < z.planes * z.height = (div-lt_iff_lt-mul B-pos).1 (omega (arith, b.length)) in
+    let p_most : q / z.height < z.planes = (div-lt_iff_lt-mul H-pos).1 q_most in
+    let y_most : q % z.height < z.height = mod-lt q H-pos in
+    let e : place z (q % z.height * z.planes + q / z.height) ≡ q * B = place_at z (q % z.height) (q / z.height) p_most ∙ ap (λ (k : ℕ). k * B) (div-add-mod' q z.height) in (
       q % z.height * z.planes + q / z.height,
-      omega (arith, mul-le-mul_right z.planes y-most),
+      omega (arith, mul-le-mul_right z.planes y_most),
       record { from = rw e (omega (arith, div-add-mod' j B)); to = rw e (omega (arith, div-add-mod' j B, mod-lt j B-pos)) },
     )
 
 -- so the rows of a whole BODY make one picture of any frame
-pub draw-any : (z : Sizes) (n : ℕ) → Sound z n → (rs : List (List ℕ)) → Rows (rowBytes z.width) (z.height * z.planes) rs → (f g : List ℕ) → length f ≡ n → length g ≡ n
-    → drawRows z 0 rs f ≡ drawRows z 0 rs g
-draw-any z n b rs rows f g l k =
-    ext_get_or 0 (drawRows z 0 rs f) (drawRows z 0 rs g) (length-draw z 0 rs f ∙ l ∙ sym k ∙ sym (length-draw z 0 rs g)) λ j h.
-    let i : j < length f = rw (length-draw z 0 rs f) at h in
+pub draw_any : (z : Sizes) (n : ℕ) → Sound z n → (rs : List (List ℕ)) → Rows (row_bytes z.width) (z.height * z.planes) rs → (f g : List ℕ) → length f ≡ n → length g ≡ n
+    → draw_rows z 0 rs f ≡ draw_rows z 0 rs g
+draw_any z n b rs rows f g l k =
+    ext_get_or 0 (draw_rows z 0 rs f) (draw_rows z 0 rs g) (length_draw z 0 rs f ∙ l ∙ sym k ∙ sym (length_draw z 0 rs g)) λ j h.
+    let i : j < length f = rw (length_draw z 0 rs f) at h in
     let w = row_of z n j b (rw l at i) in
-    draw-agree z rows 0 j w.0 f g (l ∙ sym k) i (inr (omega arith, omega (arith, w.1), w.2))
+    draw_agree z rows 0 j w.0 f g (l ∙ sym k) i (inr (omega arith, omega (arith, w.1), w.2))
 
 -- the picture, drawn into a frame that is there
-pub body-drawn : (packed : Bool) (z : Sizes) (n : ℕ) (s : List ℕ) (rs : List (List ℕ)) (f : List ℕ) → Sound z n → length f ≡ n
-    → rows_from s 0 (rowBytes z.width) (z.height * z.planes) packed ≡ ok rs → body s z packed ≡ ok (drawRows z 0 rs f)
+pub body_drawn : (packed : Bool) (z : Sizes) (n : ℕ) (s : List ℕ) (rs : List (List ℕ)) (f : List ℕ) → Sound z n → length f ≡ n
+    → rows_from s 0 (row_bytes z.width) (z.height * z.planes) packed ≡ ok rs → body s z packed ≡ ok (draw_rows z 0 rs f)
 unfolding body
-body-drawn packed z n s rs f b l e =
+body_drawn packed z n s rs f b l e =
     rw e (ap (λ (g : List ℕ). ok g)
-    (draw-any z n b rs (each-is e (rows_long packed s (rowBytes z.width) (z.height * z.planes) 0)) (replicate (frameBytes z) 0) f
-    (length-replicate (frameBytes z) 0 ∙ sym b.length) l))
+    (draw_any z n b rs (each_is e (rows_long packed s (row_bytes z.width) (z.height * z.planes) 0)) (replicate (frame_bytes z) 0) f
+    (length-replicate (frame_bytes z) 0 ∙ sym b.length) l))
 
 -- a picture has the length of a frame
-pub body-length : (packed : Bool) (z : Sizes) (s : List ℕ) → Each (λ f. length f ≡ frameBytes z) (body s z packed)
+pub body_length : (packed : Bool) (z : Sizes) (s : List ℕ) → Each (λ f. length f ≡ frame_bytes z) (body s z packed)
 unfolding body
-body-length packed z s =
-    each-bind (rows_long packed s (rowBytes z.width) (z.height * z.planes) 0) λ rs _.
-    each (length-draw z 0 rs (replicate (frameBytes z) 0) ∙ length-replicate (frameBytes z) 0)
+body_length packed z s =
+    each_bind (rows_long packed s (row_bytes z.width) (z.height * z.planes) 0) λ rs _.
+    each (length_draw z 0 rs (replicate (frame_bytes z) 0) ∙ length-replicate (frame_bytes z) 0)
 
 -- the picture in a frame buffer, refusal by refusal
-pub picture-sizes : (packed : Bool) (z : Sizes) (s : List ℕ) (n : ℕ) {m : ℕ} → frameLength z ≡ fault m → unpack n s z packed ≡ fault m
+pub picture_sizes : (packed : Bool) (z : Sizes) (s : List ℕ) (n : ℕ) {m : ℕ} → frame_length z ≡ fault m → unpack n s z packed ≡ fault m
 unfolding unpack
-picture-sizes packed z s n e = rw e
+picture_sizes packed z s n e = rw e
 
-pub picture-length : (packed : Bool) (z : Sizes) (s : List ℕ) (n : ℕ) {m : ℕ} → frameLength z ≡ ok m → (n ≡ m → ⊥) → unpack n s z packed ≡ fault 12
+pub picture_length : (packed : Bool) (z : Sizes) (s : List ℕ) (n : ℕ) {m : ℕ} → frame_length z ≡ ok m → (n ≡ m → ⊥) → unpack n s z packed ≡ fault 12
 unfolding unpack
-picture-length packed z s n {m} e h = rw (e, ne_eqb n m h)
+picture_length packed z s n {m} e h = rw (e, ne_eqb n m h)
 
-pub picture-body : (packed : Bool) (z : Sizes) (s : List ℕ) (n : ℕ) {m : ℕ} → frameLength z ≡ ok m → n ≡ m → unpack n s z packed ≡ body s z packed
+pub picture_body : (packed : Bool) (z : Sizes) (s : List ℕ) (n : ℕ) {m : ℕ} → frame_length z ≡ ok m → n ≡ m → unpack n s z packed ≡ body s z packed
 unfolding unpack
-picture-body packed z s n {m} e h = rw (e, eq-eqb n m h)
+picture_body packed z s n {m} e h = rw (e, eq-eqb n m h)
 
-pub body-short : (packed : Bool) (z : Sizes) (s : List ℕ) {n : ℕ} → answer (rows_from s 0 (rowBytes z.width) (z.height * z.planes) packed) ≡ fault n → body s z packed ≡ fault n
+pub body_short : (packed : Bool) (z : Sizes) (s : List ℕ) {n : ℕ} → answer (rows_from s 0 (row_bytes z.width) (z.height * z.planes) packed) ≡ fault n → body s z packed ≡ fault n
 unfolding body
-body-short packed z s e = rw (answer-refused (rows_from s 0 (rowBytes z.width) (z.height * z.planes) packed) e)
+body_short packed z s e = rw (answer_refused (rows_from s 0 (row_bytes z.width) (z.height * z.planes) packed) e)

@@ -11,9 +11,9 @@ use borrow.Author.Tests.{le-leb, leb-true, leb-false}
 use Rattle.laws.specs.Result.{Res.ok, Res.fault, answer}
 use Rattle.laws.proofs.ResultLaws.{answer_ok}
 use Rattle.state.specs.declared.Sizes.{Sizes}
-use Rattle.state.specs.State.{rowBytes, frameBytes, Sound}
+use Rattle.state.specs.State.{row_bytes, frame_bytes, Sound}
 use Rattle.body.specs.Body.{row_at, rows_from}
-use Rattle.body.specs.Walk.{checkOf}
+use Rattle.body.specs.Walk.{check_of}
 
 pub plain_fits : (s : List ℕ) (B k at : ℕ) → at + k * B ≤ length s → answer (rows_from s at B k false) ≡ ok tt
 unfolding rows_from row_at
@@ -22,23 +22,23 @@ plain_fits s B (suc k) at h =
     let m = suc-mul k B in
     rw (le-leb (at + B) (length s) (omega (arith, m))) (answer_ok (rows_from s (at + B) B k false) (λ rs. take B (drop at s) ∷ rs) ∙ plain_fits s B k (at + B) (omega (arith, m)))
 
-pub plain-short : (s : List ℕ) (B k at : ℕ) → at ≤ length s → length s < at + k * B → answer (rows_from s at B k false) ≡ fault 25
+pub plain_short : (s : List ℕ) (B k at : ℕ) → at ≤ length s → length s < at + k * B → answer (rows_from s at B k false) ≡ fault 25
 unfolding rows_from row_at
-plain-short s B zero at l h = absurd (omega arith)
-plain-short s B (suc k) at l h = go (leb (at + B) (length s)) refl (λ q. plain-short s B k (at + B) q (omega (arith, suc-mul k B)))
+plain_short s B zero at l h = absurd (omega arith)
+plain_short s B (suc k) at l h = go (leb (at + B) (length s)) refl (λ q. plain_short s B k (at + B) q (omega (arith, suc-mul k B)))
   where
     go : (t : Bool) → leb (at + B) (length s) ≡ t → (at + B ≤ length s → answer (rows_from s (at + B) B k false) ≡ fault 25) → answer (rows_from s at B (suc k) false) ≡ fault 25
     go false e ih = rw e
     go true e ih = rw e (answer_ok (rows_from s (at + B) B k false) (λ rs. take B (drop at s) ∷ rs) ∙ ih (leb-true (at + B) (length s) e))
 
 -- the length answers the check
-pub plain-checked : (s : List ℕ) (B k : ℕ) (r p : Bool) → p ≡ false → r ≡ leb (k * B) (length s) → checkOf r ≡ answer (rows_from s 0 B k p)
-plain-checked s B k true p q e = rw q (sym (plain_fits s B k 0 (omega (arith, leb-true (k * B) (length s) (sym e)))))
-plain-checked s B k false p q e = rw q (sym (plain-short s B k 0 (omega arith) (omega (arith, leb-false (k * B) (length s) (sym e)))))
+pub plain_checked : (s : List ℕ) (B k : ℕ) (r p : Bool) → p ≡ false → r ≡ leb (k * B) (length s) → check_of r ≡ answer (rows_from s 0 B k p)
+plain_checked s B k true p q e = rw q (sym (plain_fits s B k 0 (omega (arith, leb-true (k * B) (length s) (sym e)))))
+plain_checked s B k false p q e = rw q (sym (plain_short s B k 0 (omega arith) (omega (arith, leb-false (k * B) (length s) (sym e)))))
 
 -- within the limits it doesn't overflow
-pub rows-most : {z : Sizes} {n B : ℕ} → Sound z n → B ≡ rowBytes z.width → z.height * z.planes * B ≤ 1048576
-unfolding frameBytes
-rows-most {z} {n} {B} k e =
+pub rows_most : {z : Sizes} {n B : ℕ} → Sound z n → B ≡ row_bytes z.width → z.height * z.planes * B ≤ 1048576
+unfolding frame_bytes
+rows_most {z} {n} {B} k e =
     let c : z.height * z.planes * B ≡ z.planes * (z.height * B) = ap (λ (m : ℕ). m * B) (mul_comm z.height z.planes) ∙ mul_assoc z.planes z.height B in
     rw c (rw e (omega (arith, k.length, k.length_most)))

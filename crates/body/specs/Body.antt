@@ -4,15 +4,15 @@ use Rattle.std.specs.Prelude.{ℕ, zero, suc, ◌+◌, ◌*◌, ◌/◌, ◌%◌
 use Rattle.std.proofs.lemmas.List.Edits.{sets}
 use Rattle.laws.specs.Result.{Res, Res.ok, Res.fault, ◌>>=◌, need}
 use Rattle.refusal.specs.Number.{number_of}
-use Rattle.state.specs.State.{rowBytes, frameBytes, frameLength}
+use Rattle.state.specs.State.{row_bytes, frame_bytes, frame_length}
 use Rattle.state.specs.declared.Sizes.{Sizes}
-use Rattle.body.specs.ByteRun.{Row, unpackRow}
+use Rattle.body.specs.ByteRun.{Row, unpack_row}
 use Rattle.body.specs.declared.Unpacked.{Unpacked}
 use Rattle.body.specs.declared.Unpacked.TheVariants.{Done, Refused}
 
 -- the row of B bytes at a place of BODY, packed or not
 unfoldable pub row_at : List ℕ → ℕ → ℕ → Bool → Res Row
-row_at s at B true = unpackRow s at B
+row_at s at B true = unpack_row s at B
 row_at s at B false = need (leb (at + B) (length s)) 25 >>= λ _. ok (record { bytes = take B (drop at s); next = at + B })
 
 -- k rows from a place on
@@ -25,27 +25,27 @@ rows_from s at B (suc k) packed =
 
 -- where row i of BODY stands in a frame: it is row i / planes of plane i % planes
 unfoldable pub place : Sizes → ℕ → ℕ
-place z i = (i % z.planes * z.height + i / z.planes) * rowBytes z.width
+place z i = (i % z.planes * z.height + i / z.planes) * row_bytes z.width
 
 -- the rows, from row i on, put into a frame
-unfoldable pub drawRows : Sizes → ℕ → List (List ℕ) → List ℕ → List ℕ
-drawRows z i [] f = f
-drawRows z i (r ∷ rs) f = drawRows z (i + 1) rs (sets f (place z i) r)
+unfoldable pub draw_rows : Sizes → ℕ → List (List ℕ) → List ℕ → List ℕ
+draw_rows z i [] f = f
+draw_rows z i (r ∷ rs) f = draw_rows z (i + 1) rs (sets f (place z i) r)
 
 -- the picture in a BODY, or 25
 unfoldable pub body : List ℕ → Sizes → Bool → Res (List ℕ)
 body s z packed =
-    rows_from s 0 (rowBytes z.width) (z.height * z.planes) packed >>= λ rs.
-    ok (drawRows z 0 rs (replicate (frameBytes z) 0))
+    rows_from s 0 (row_bytes z.width) (z.height * z.planes) packed >>= λ rs.
+    ok (draw_rows z 0 rs (replicate (frame_bytes z) 0))
 
 -- the same for a frame buffer of n bytes: 11 for the sizes and 12 for the buffer come first
 unfoldable pub unpack : ℕ → List ℕ → Sizes → Bool → Res (List ℕ)
 unpack n s z packed =
-    frameLength z >>= λ m.
+    frame_length z >>= λ m.
     need (eqb n m) 12 >>= λ _.
     body s z packed
 
 -- what an answer says in the paper's terms
-abbrev pub unpackedOf : Unpacked → Res (Unit {0})
-unpackedOf Done = ok tt
-unpackedOf (Refused why) = fault (number_of why)
+abbrev pub unpacked_of : Unpacked → Res (Unit {0})
+unpacked_of Done = ok tt
+unpacked_of (Refused why) = fault (number_of why)

@@ -16,37 +16,37 @@ pub data PacketKind : Type 0 where
   nothing : PacketKind
   repeats : ℕ → PacketKind
 
-abbrev pub packetKindOf : ℕ → PacketKind
-packetKindOf n = pick (leb n 127) (copies (n + 1)) (pick (eqb n 128) nothing (repeats (257 - n)))
+abbrev pub packet_kind_of : ℕ → PacketKind
+packet_kind_of n = pick (leb n 127) (copies (n + 1)) (pick (eqb n 128) nothing (repeats (257 - n)))
 
 -- the packet of a kind at a place, with room bytes left of its row
-abbrev pub packetAs : List ℕ → ℕ → ℕ → PacketKind → Res Row
-packetAs s at room (copies n) =
+abbrev pub packet_as : List ℕ → ℕ → ℕ → PacketKind → Res Row
+packet_as s at room (copies n) =
     need (leb n room) 25 >>= λ _.
     need (leb (at + 1 + n) (length s)) 25 >>= λ _.
     ok (record { bytes = take n (drop (at + 1) s); next = at + 1 + n })
-packetAs s at room nothing = ok (record { bytes = []; next = at + 1 })
-packetAs s at room (repeats n) =
+packet_as s at room nothing = ok (record { bytes = []; next = at + 1 })
+packet_as s at room (repeats n) =
     need (leb n room) 25 >>= λ _.
     need (leb (at + 2) (length s)) 25 >>= λ _.
     ok (record { bytes = replicate n (get_or s (at + 1) 0); next = at + 2 })
 
 -- the packet at a place, with room bytes left of its row
-unfoldable pub packetAt : List ℕ → ℕ → ℕ → Res Row
-packetAt s at room = need (ltb at (length s)) 25 >>= λ _. packetAs s at room (packetKindOf (get_or s at 0))
+unfoldable pub packet_at : List ℕ → ℕ → ℕ → Res Row
+packet_at s at room = need (ltb at (length s)) 25 >>= λ _. packet_as s at room (packet_kind_of (get_or s at 0))
 
 -- a row with one packet more, or the packet's refusal
-abbrev pub withPacket : Row → Res Row → Step Row (Res Row)
-withPacket w (ok p) = next (record { bytes = w.bytes ++ p.bytes; next = p.next })
-withPacket w (fault n) = done (fault n)
+abbrev pub with_packet : Row → Res Row → Step Row (Res Row)
+with_packet w (ok p) = next (record { bytes = w.bytes ++ p.bytes; next = p.next })
+with_packet w (fault n) = done (fault n)
 
 -- packets until B bytes are there
-abbrev pub unpackOn : List ℕ → ℕ → Row → Step Row (Res Row)
-unpackOn s B w =
+abbrev pub unpack_on : List ℕ → ℕ → Row → Step Row (Res Row)
+unpack_on s B w =
     pick (leb B (length w.bytes)) (done (ok w))
-    (withPacket w (packetAt s w.next (B - length w.bytes)))
+    (with_packet w (packet_at s w.next (B - length w.bytes)))
 
 -- the row of B bytes that is packed at a place
-unfoldable pub unpackRow : List ℕ → ℕ → ℕ → Res Row
+unfoldable pub unpack_row : List ℕ → ℕ → ℕ → Res Row
 unfolding iterate
-unpackRow s at B = iterate (unpackOn s B) (λ (w : Row). length s - w.next) (fault 25) (record { bytes = []; next = at })
+unpack_row s at B = iterate (unpack_on s B) (λ (w : Row). length s - w.next) (fault 25) (record { bytes = []; next = at })

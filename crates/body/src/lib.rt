@@ -1,10 +1,10 @@
 // The picture in a BODY, plain or packed by ByteRun1.
 ghost use Rattle.std.specs.Prelude.{◌≡◌, ◌+◌, ◌*◌, ◌≤◌, length, take, drop, replicate};
 ghost use Rattle.std.proofs.lemmas.List.Edits.{sets};
-ghost use Rattle.laws.specs.Result.{pick, orKeep, answer};
-ghost use Rattle.body.specs.ByteRun.{packetAt, unpackRow};
-ghost use Rattle.body.specs.Body.{row_at, rows_from, unpack, unpackedOf};
-ghost use Rattle.body.specs.Walk.{packetOf, Fits, took, tookOf, puts, Drawn, checkOf, DrawnRows};
+ghost use Rattle.laws.specs.Result.{pick, or_keep, answer};
+ghost use Rattle.body.specs.ByteRun.{packet_at, unpack_row};
+ghost use Rattle.body.specs.Body.{row_at, rows_from, unpack, unpacked_of};
+ghost use Rattle.body.specs.Walk.{packet_of, Fits, took, took_of, puts, Drawn, check_of, DrawnRows};
 ghost use Rattle.state.specs.State.{Sound};
 
 use buffer::fill;
@@ -47,7 +47,7 @@ enum Took {
 
 // The packet at a place, with room bytes left of its row.
 fn packet_at(s: &[u8], at: usize, room: usize) -> Packet
-    ensures { (packetOf s.now result ≡ packetAt s.now at room) × Fits s.now result }
+    ensures { (packet_of s.now result ≡ packet_at s.now at room) × Fits s.now result }
 {
     if s.len() <= at {
         return Packet::Faulty;
@@ -121,8 +121,8 @@ fn take_packet(
     drawing: bool,
 ) -> Took
     requires { place + room ≤ length frame.old }
-    ensures { (tookOf result ≡ took (packetAt s.now at room))
-        × (frame.new ≡ puts frame.old place (packetAt s.now at room) drawing) }
+    ensures { (took_of result ≡ took (packet_at s.now at room))
+        × (frame.new ≡ puts frame.old place (packet_at s.now at room) drawing) }
 {
     let p = packet_at(s, at, room);
     match p {
@@ -149,8 +149,8 @@ fn unpack_row(
     drawing: bool,
 ) -> Took
     requires { place + row ≤ length frame.old }
-    ensures { (tookOf result ≡ took (unpackRow s.now from row))
-        × Drawn frame.old place (unpackRow s.now from row) drawing frame.new }
+    ensures { (took_of result ≡ took (unpack_row s.now from row))
+        × Drawn frame.old place (unpack_row s.now from row) drawing frame.new }
 {
     let mut at = from;
     let mut filled = 0;
@@ -181,7 +181,7 @@ fn take_row(
     drawing: bool,
 ) -> Took
     requires { place + row ≤ length frame.old }
-    ensures { (tookOf result ≡ took (row_at s.now at row packed))
+    ensures { (took_of result ≡ took (row_at s.now at row packed))
         × Drawn frame.old place (row_at s.now at row packed) drawing frame.new }
 {
     if packed {
@@ -203,7 +203,7 @@ fn take_row(
 // Whether count rows of BODY are all there. The frame stays as it is.
 fn check_rows(frame: &mut [u8], s: &[u8], row: usize, count: usize, packed: bool) -> bool
     requires { (row ≤ length frame.old) × (count * row ≤ 8 * 1024 * 128) }
-    ensures { (checkOf result ≡ answer (rows_from s.now 0 row count packed)) × (frame.new ≡ frame.old) }
+    ensures { (check_of result ≡ answer (rows_from s.now 0 row count packed)) × (frame.new ≡ frame.old) }
 {
     if !packed {
         return count * row <= s.len();
@@ -251,8 +251,8 @@ fn draw_rows(frame: &mut [u8], s: &[u8], sizes: Sizes, packed: bool)
 
 // Unpacks a BODY into the frame, all or nothing.
 pub fn unpack(frame: &mut [u8], s: &[u8], sizes: Sizes, packed: bool) -> Unpacked
-    ensures { (unpackedOf result ≡ answer (unpack (length frame.old) s.now sizes packed))
-        × (frame.new ≡ orKeep frame.old (unpack (length frame.old) s.now sizes packed)) }
+    ensures { (unpacked_of result ≡ answer (unpack (length frame.old) s.now sizes packed))
+        × (frame.new ≡ or_keep frame.old (unpack (length frame.old) s.now sizes packed)) }
 {
     let l = sizes.frame_length();
     match l {

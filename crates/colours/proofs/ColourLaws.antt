@@ -6,15 +6,15 @@ use mathlib.Core.Path.{◌≡◌}
 use lib.ListN.{length}
 use Rattle.laws.specs.Result.{Res.ok, Res.fault}
 use Rattle.laws.proofs.StoreLaws.{length_over}
-use Rattle.colours.specs.Colours.{goodLength, colours, coloured}
+use Rattle.colours.specs.Colours.{good_length, colours, coloured}
 
-pub coloured-length : (map cmap : List ℕ) → length (coloured map cmap) ≡ length map
-coloured-length map cmap = length_over cmap map
+pub coloured_length : (map cmap : List ℕ) → length (coloured map cmap) ≡ length map
+coloured_length map cmap = length_over cmap map
 
-pub colours-bad : (cmap : List ℕ) → goodLength (length cmap) ≡ false → colours cmap ≡ fault 37
+pub colours_bad : (cmap : List ℕ) → good_length (length cmap) ≡ false → colours cmap ≡ fault 37
 unfolding colours
-colours-bad cmap e = rw e
+colours_bad cmap e = rw e
 
-pub colours-good : (cmap : List ℕ) → goodLength (length cmap) ≡ true → colours cmap ≡ ok cmap
+pub colours_good : (cmap : List ℕ) → good_length (length cmap) ≡ true → colours cmap ≡ ok cmap
 unfolding colours
-colours-good cmap e = rw e
+colours_good cmap e = rw e

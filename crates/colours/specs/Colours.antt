@@ -13,14 +13,14 @@ abbrev pub unset : List ℕ
 unset = replicate MAP 0
 
 -- whether a CMAP may have so many bytes: whole colours, and no more than a map has
-unfoldable pub goodLength : ℕ → Bool
-goodLength n = eqb (n % 3) 0 && leb n MAP
+unfoldable pub good_length : ℕ → Bool
+good_length n = eqb (n % 3) 0 && leb n MAP
 
 -- the colours of a frame, by the contents of its CMAP, which are empty where it has none: 37 for a length that isn't a multiple of 3 or is
 -- above 768
 unfoldable pub colours : List ℕ → Res (List ℕ)
 colours cmap =
-    need (goodLength (length cmap)) 37 >>= λ _.
+    need (good_length (length cmap)) 37 >>= λ _.
     ok cmap
 
 -- a map with the colours of a CMAP in the place of its first ones

@@ -16,5 +16,5 @@ module _ {whole left : List ℕ} {sum : ℕ} (w : Counting whole sum left) where
   pub counting_more : {xs rest : List ℕ} {n : ℕ} → Parts left xs rest → n ≡ length xs → Counting whole (sum + n) rest
   counting_more {xs} {rest} p e = record { is = omega (arith, w.is, ap length p.is ∙ length-append xs rest) }
 
-  pub counting-last : left ≡ [] → sum ≡ length whole
-  counting-last e = omega (arith, w.is, ap length e)
+  pub counting_last : left ≡ [] → sum ≡ length whole
+  counting_last e = omega (arith, w.is, ap length e)

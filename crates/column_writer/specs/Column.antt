@@ -4,7 +4,7 @@
 -- Uniqs of 127 and the rest. A rest of 0 writes no op. A column that would need more than 255 ops is written as Uniqs of 127
 -- and the rest over all rows.
 use Rattle.std.specs.Prelude.{ℕ, zero, suc, ◌+◌, ◌/◌, ◌%◌, ◌<◌, true, false, List, [], ◌∷◌, ◌++◌, leb, eqb, length, take, drop, replicate}
-use Rattle.runs.specs.Runs.{Run, runsOf}
+use Rattle.runs.specs.Runs.{Run, runs_of}
 
 -- an op: a Skip over so many rows, a Uniq with a value for each row, or a Same over so many rows with one value
 pub data WrittenOp : Type 0 where
@@ -28,16 +28,16 @@ groups_of [] = []
 groups_of (v ∷ vs) = join v (groups_of vs)
 
 -- rows that become a Uniq, with the ops that come after them; they are joined to a Uniq that comes first
-unfoldable pub joinUniq : List ℕ → List WrittenOp → List WrittenOp
-joinUniq vs [] = uniq vs ∷ []
-joinUniq vs (skip n ∷ os) = uniq vs ∷ skip n ∷ os
-joinUniq vs (uniq ws ∷ os) = uniq (vs ++ ws) ∷ os
-joinUniq vs (same c v ∷ os) = uniq vs ∷ same c v ∷ os
+unfoldable pub join_uniq : List ℕ → List WrittenOp → List WrittenOp
+join_uniq vs [] = uniq vs ∷ []
+join_uniq vs (skip n ∷ os) = uniq vs ∷ skip n ∷ os
+join_uniq vs (uniq ws ∷ os) = uniq (vs ++ ws) ∷ os
+join_uniq vs (same c v ∷ os) = uniq vs ∷ same c v ∷ os
 
 -- a stretch of changed rows, before its ops are cut
-unfoldable pub stretchOps : List Group → List WrittenOp
-stretchOps [] = []
-stretchOps (g ∷ gs) = elim (leb 4 g.rows) [ true ↦ same g.rows g.value ∷ stretchOps gs | false ↦ joinUniq (replicate g.rows g.value) (stretchOps gs) ]
+unfoldable pub stretch_ops : List Group → List WrittenOp
+stretch_ops [] = []
+stretch_ops (g ∷ gs) = elim (leb 4 g.rows) [ true ↦ same g.rows g.value ∷ stretch_ops gs | false ↦ join_uniq (replicate g.rows g.value) (stretch_ops gs) ]
 
 -- a rest of 0 writes no op
 unfoldable pub rest_of : ℕ → WrittenOp → List WrittenOp
@@ -57,32 +57,32 @@ cut (uniq vs) = uniqs (length vs) vs
 cut (same n v) = replicate (n / 255) (same 255 v) ++ rest_of (n % 255) (same (n % 255) v)
 
 -- the same for several ops
-unfoldable pub cutAll : List WrittenOp → List WrittenOp
-cutAll [] = []
-cutAll (o ∷ os) = cut o ++ cutAll os
+unfoldable pub cut_all : List WrittenOp → List WrittenOp
+cut_all [] = []
+cut_all (o ∷ os) = cut o ++ cut_all os
 
 -- each stretch of changed rows, with the unchanged rows before it; a run's bytes are here the new values of its rows
 unfoldable pub ops_of : List Run → List WrittenOp
 ops_of [] = []
-ops_of (r ∷ rs) = cutAll (skip r.gap ∷ stretchOps (groups_of r.bytes)) ++ ops_of rs
+ops_of (r ∷ rs) = cut_all (skip r.gap ∷ stretch_ops (groups_of r.bytes)) ++ ops_of rs
 
 -- the ops that turn the old rows of a column into the new ones, or Uniqs over all rows if those are more than 255
-unfoldable pub columnOps : List ℕ → List ℕ → List WrittenOp
-columnOps old new = elim (leb (length (ops_of (runsOf new old))) 255) [ true ↦ ops_of (runsOf new old) | false ↦ uniqs (length new) new ]
+unfoldable pub column_ops : List ℕ → List ℕ → List WrittenOp
+column_ops old new = elim (leb (length (ops_of (runs_of new old))) 255) [ true ↦ ops_of (runs_of new old) | false ↦ uniqs (length new) new ]
 
 -- the bytes of an op, and of several
-unfoldable pub opBytes : WrittenOp → List ℕ
-opBytes (skip n) = n ∷ []
-opBytes (uniq vs) = (128 + length vs) ∷ vs
-opBytes (same n v) = 0 ∷ n ∷ v ∷ []
+unfoldable pub op_bytes : WrittenOp → List ℕ
+op_bytes (skip n) = n ∷ []
+op_bytes (uniq vs) = (128 + length vs) ∷ vs
+op_bytes (same n v) = 0 ∷ n ∷ v ∷ []
 
-unfoldable pub opsBytes : List WrittenOp → List ℕ
-opsBytes [] = []
-opsBytes (o ∷ os) = opBytes o ++ opsBytes os
+unfoldable pub ops_bytes : List WrittenOp → List ℕ
+ops_bytes [] = []
+ops_bytes (o ∷ os) = op_bytes o ++ ops_bytes os
 
 -- the op count byte and the ops
-unfoldable pub columnBytes : List ℕ → List ℕ → List ℕ
-columnBytes old new = length (columnOps old new) ∷ opsBytes (columnOps old new)
+unfoldable pub column_bytes : List ℕ → List ℕ → List ℕ
+column_bytes old new = length (column_ops old new) ∷ ops_bytes (column_ops old new)
 
 -- an op has 1 to 127 rows, a Same 1 to 255
 unfoldable pub Valid : WrittenOp → Type 0

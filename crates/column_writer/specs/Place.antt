@@ -4,35 +4,35 @@ use Rattle.std.specs.Prelude.{ℕ, ◌+◌, List, ◌≡◌, leb, eqb, length}
 use Rattle.std.proofs.lemmas.List.Edits.{sets}
 use Rattle.laws.specs.Result.{Res, Res.ok, Res.fault, ◌>>=◌, need, leaves}
 use Rattle.refusal.specs.Number.{number_of}
-use Rattle.column_writer.specs.Column.{columnBytes}
+use Rattle.column_writer.specs.Column.{column_bytes}
 use Rattle.column_writer.specs.declared.ColumnSize.{ColumnSize}
 use Rattle.column_writer.specs.declared.ColumnSize.TheVariants.{Bytes, Refused}
 use Rattle.column_writer.specs.declared.Placed.{Placed}
 use Rattle.column_writer.specs.declared.Placed.TheVariants.{Next, Refused as NotPlaced}
 
 -- how many bytes a column is written in
-unfoldable pub columnLength : List ℕ → List ℕ → Res ℕ
-columnLength old new =
+unfoldable pub column_length : List ℕ → List ℕ → Res ℕ
+column_length old new =
     need (eqb (length old) (length new)) 12 >>= λ _.
     need (leb (length new) 1024) 12 >>= λ _.
-    ok (length (columnBytes old new))
+    ok (length (column_bytes old new))
 
 -- the place after a column that is written at a place of a buffer of so many bytes
 unfoldable pub placed : ℕ → ℕ → List ℕ → List ℕ → Res ℕ
 placed room at old new =
-    columnLength old new >>= λ n.
+    column_length old new >>= λ n.
     need (leb (at + n) room) 51 >>= λ _.
     ok (at + n)
 
 -- what writing answers, and what it leaves in the buffer: all other bytes stay
 pub record Places (out : List ℕ) (at : ℕ) (old new : List ℕ) (r : Res ℕ) (out' : List ℕ) : Type 0 where
   pub answer : r ≡ placed (length out) at old new
-  pub buffer : out' ≡ leaves out (λ n. sets out at (columnBytes old new)) r
+  pub buffer : out' ≡ leaves out (λ n. sets out at (column_bytes old new)) r
 
 -- what the answers say in the paper's terms
-abbrev pub columnSizeOf : ColumnSize → Res ℕ
-columnSizeOf (Bytes n) = ok n
-columnSizeOf (Refused why) = fault (number_of why)
+abbrev pub column_size_of : ColumnSize → Res ℕ
+column_size_of (Bytes n) = ok n
+column_size_of (Refused why) = fault (number_of why)
 
 abbrev pub placed_of : Placed → Res ℕ
 placed_of (Next at) = ok at

@@ -3,10 +3,10 @@ mod piece;
 
 ghost use Rattle.std.specs.Prelude.{◌≡◌, ◌+◌, ◌<◌, ◌≤◌, length, drop};
 ghost use Rattle.laws.specs.Put.{Put};
-ghost use Rattle.runs.specs.Runs.{runsOf};
-ghost use Rattle.column_writer.specs.Column.{WrittenOp, cut, ops_of, opBytes, opsBytes};
-ghost use Rattle.column_writer.specs.Piece.{pieceOps, Measured, Prepared};
-ghost use Rattle.column_writer.specs.Place.{columnLength, columnSizeOf, Places, placed_of};
+ghost use Rattle.runs.specs.Runs.{runs_of};
+ghost use Rattle.column_writer.specs.Column.{WrittenOp, cut, ops_of, op_bytes, ops_bytes};
+ghost use Rattle.column_writer.specs.Piece.{piece_ops, Measured, Prepared};
+ghost use Rattle.column_writer.specs.Place.{column_length, column_size_of, Places, placed_of};
 
 use crate::piece::{Piece, PieceKind, Totals, measure, next_piece, piece_totals};
 use copies::copy;
@@ -28,8 +28,8 @@ pub enum Placed {
 
 // Writes Skips over rows at a place of out where they fit, and answers the place after them.
 fn write_skips(out: &mut [u8], at: usize, rows: usize) -> usize
-    requires { at + length (opsBytes (cut (WrittenOp.skip rows))) ≤ length out.old }
-    ensures { Put out.old at (opsBytes (cut (WrittenOp.skip rows))) out.new result }
+    requires { at + length (ops_bytes (cut (WrittenOp.skip rows))) ≤ length out.old }
+    ensures { Put out.old at (ops_bytes (cut (WrittenOp.skip rows))) out.new result }
 {
     let mut place = at;
     let mut left = rows;
@@ -47,8 +47,8 @@ fn write_skips(out: &mut [u8], at: usize, rows: usize) -> usize
 
 // Writes one Same.
 fn write_same(out: &mut [u8], at: usize, rows: usize, value: u8) -> usize
-    requires { (rows ≤ 255) × (at + length (opBytes (WrittenOp.same rows value)) ≤ length out.old) }
-    ensures { Put out.old at (opBytes (WrittenOp.same rows value)) out.new result }
+    requires { (rows ≤ 255) × (at + length (op_bytes (WrittenOp.same rows value)) ≤ length out.old) }
+    ensures { Put out.old at (op_bytes (WrittenOp.same rows value)) out.new result }
 {
     out[at] = 0;
     out[at + 1] = rows as u8;
@@ -58,8 +58,8 @@ fn write_same(out: &mut [u8], at: usize, rows: usize, value: u8) -> usize
 
 // Writes Sames over rows, all of one value.
 fn write_sames(out: &mut [u8], at: usize, rows: usize, value: u8) -> usize
-    requires { at + length (opsBytes (cut (WrittenOp.same rows value))) ≤ length out.old }
-    ensures { Put out.old at (opsBytes (cut (WrittenOp.same rows value))) out.new result }
+    requires { at + length (ops_bytes (cut (WrittenOp.same rows value))) ≤ length out.old }
+    ensures { Put out.old at (ops_bytes (cut (WrittenOp.same rows value))) out.new result }
 {
     let mut place = at;
     let mut left = rows;
@@ -75,8 +75,8 @@ fn write_sames(out: &mut [u8], at: usize, rows: usize, value: u8) -> usize
 
 // Writes one Uniq of the given rows.
 fn write_uniq(out: &mut [u8], at: usize, rows: &[u8]) -> usize
-    requires { (length rows.now ≤ 127) × (at + length (opBytes (WrittenOp.uniq rows.now)) ≤ length out.old) }
-    ensures { Put out.old at (opBytes (WrittenOp.uniq rows.now)) out.new result }
+    requires { (length rows.now ≤ 127) × (at + length (op_bytes (WrittenOp.uniq rows.now)) ≤ length out.old) }
+    ensures { Put out.old at (op_bytes (WrittenOp.uniq rows.now)) out.new result }
 {
     out[at] = (128 + rows.len()) as u8;
     let start = at + 1;
@@ -87,8 +87,8 @@ fn write_uniq(out: &mut [u8], at: usize, rows: &[u8]) -> usize
 
 // Writes Uniqs of the given rows.
 fn write_uniqs(out: &mut [u8], at: usize, rows: &[u8]) -> usize
-    requires { at + length (opsBytes (cut (WrittenOp.uniq rows.now))) ≤ length out.old }
-    ensures { Put out.old at (opsBytes (cut (WrittenOp.uniq rows.now))) out.new result }
+    requires { at + length (ops_bytes (cut (WrittenOp.uniq rows.now))) ≤ length out.old }
+    ensures { Put out.old at (ops_bytes (cut (WrittenOp.uniq rows.now))) out.new result }
 {
     let mut place = at;
     let mut from = 0;
@@ -106,8 +106,8 @@ fn write_uniqs(out: &mut [u8], at: usize, rows: &[u8]) -> usize
 // Writes a piece of a column that begins at a row.
 fn write_piece(out: &mut [u8], at: usize, new: &[u8], row: usize, piece: Piece) -> usize
     requires { (0 < piece.rows) × (row + piece.rows ≤ length new.now)
-        × (at + length (opsBytes (pieceOps piece.kind piece.rows (drop row new.now))) ≤ length out.old) }
-    ensures { Put out.old at (opsBytes (pieceOps piece.kind piece.rows (drop row new.now))) out.new result }
+        × (at + length (ops_bytes (piece_ops piece.kind piece.rows (drop row new.now))) ≤ length out.old) }
+    ensures { Put out.old at (ops_bytes (piece_ops piece.kind piece.rows (drop row new.now))) out.new result }
 {
     let kind = piece.kind;
     let rows = piece.rows;
@@ -126,7 +126,7 @@ fn write_piece(out: &mut [u8], at: usize, new: &[u8], row: usize, piece: Piece) 
 fn write_ops(room: &mut [u8], old: &[u8], new: &[u8]) -> Totals
     requires { (length old.now ≡ length new.now) × (length new.now ≤ 1024) × (1536 ≤ length room.old) }
     ensures { Measured old.now new.now result.ops result.bytes
-        × Put room.old 0 (opsBytes (ops_of (runsOf new.now old.now))) room.new result.bytes }
+        × Put room.old 0 (ops_bytes (ops_of (runs_of new.now old.now))) room.new result.bytes }
 {
     let mut ops = 0;
     let mut place = 0;
@@ -179,7 +179,7 @@ fn write_in(out: &mut [u8], at: usize, old: &[u8], new: &[u8], room: &mut [u8]) 
 
 // How many bytes a column is written in: 12 for rows of two lengths and for more than 1,024 rows.
 pub fn column_length(old: &[u8], new: &[u8]) -> ColumnSize
-    ensures { columnSizeOf result ≡ columnLength old.now new.now }
+    ensures { column_size_of result ≡ column_length old.now new.now }
 {
     if old.len() != new.len() {
         return ColumnSize::Refused(Refusal::BufferLength);

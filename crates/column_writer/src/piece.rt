@@ -1,7 +1,7 @@
 // The walk down a column: the pieces of rows that become ops of one kind, and the ops measured.
 ghost use Rattle.std.specs.Prelude.{◌≡◌, ◌+◌, ◌-◌, ◌*◌, ◌<◌, ◌≤◌, length, get_or};
-ghost use Rattle.column_writer.specs.Column.{columnBytes};
-ghost use Rattle.column_writer.specs.Piece.{Unchanged, GroupRows, UniqRows, NextPiece, opsIn, bytesIn};
+ghost use Rattle.column_writer.specs.Column.{column_bytes};
+ghost use Rattle.column_writer.specs.Piece.{Unchanged, GroupRows, UniqRows, NextPiece, ops_in, bytes_in};
 
 // The ops that rows of a column become. Rest is the unchanged rows after the last changed one, which write nothing.
 #[derive(Drop)]
@@ -114,7 +114,7 @@ pub(crate) fn next_piece(old: &[u8], new: &[u8], from: usize) -> Piece
 // How many ops a piece is cut into, and the bytes of those.
 pub(crate) fn piece_totals(piece: Piece) -> Totals
     requires { piece.rows ≤ 1024 }
-    ensures { (result.ops ≡ opsIn piece.kind piece.rows) × (result.bytes ≡ bytesIn piece.kind piece.rows) }
+    ensures { (result.ops ≡ ops_in piece.kind piece.rows) × (result.bytes ≡ bytes_in piece.kind piece.rows) }
 {
     let kind = piece.kind;
     let rows = piece.rows;
@@ -144,7 +144,7 @@ pub(crate) fn piece_totals(piece: Piece) -> Totals
 // How many bytes follow a column's op count byte: its ops, or the Uniqs over all rows where the ops would be too many.
 pub(crate) fn measure(old: &[u8], new: &[u8]) -> usize
     requires { (length old.now ≡ length new.now) × (length new.now ≤ 1024) }
-    ensures { (length (columnBytes old.now new.now) ≡ 1 + result) × (result ≤ 3 * 1024) }
+    ensures { (length (column_bytes old.now new.now) ≡ 1 + result) × (result ≤ 3 * 1024) }
 {
     let mut row = 0;
     let mut ops = 0;

@@ -6,7 +6,7 @@ use mathlib.Core.Path.{◌≡◌, refl, ◌∙◌}
 use mathlib.Core.List.{List, [], ◌++◌, append-nil, append_assoc}
 use lib.ListN.{length, length-append}
 use Rattle.laws.specs.Result.{Res, Res.ok, Res.fault, ◌>>=◌, pick}
-use Rattle.laws.proofs.ResultLaws.{never, pick-both}
+use Rattle.laws.proofs.ResultLaws.{never, pick_both}
 use Rattle.refusal.specs.declared.Refusal.{Refusal}
 use Rattle.refusal.specs.Number.{number_of}
 use Rattle.delta.specs.declared.Shape.{Shape}
@@ -16,22 +16,22 @@ use Rattle.delta.specs.declared.Step.TheVariants.{Next, Refused as StepRefused}
 use Rattle.delta.specs.Reading.{Op, Reading}
 use Rattle.delta.specs.Delta.{draw}
 use Rattle.delta.specs.Walk.{reading, Walked, Refused, Took, Took.took, Took.refused}
-use Rattle.delta.proofs.DeltaLaws.{draw-append}
+use Rattle.delta.proofs.DeltaLaws.{draw_append}
 
 pub pick_same : (t : Bool) (f : List ℕ) → f ≡ pick t f f
-pick_same t f = pick-both (λ (g : List ℕ). f ≡ g) t refl refl
+pick_same t f = pick_both (λ (g : List ℕ). f ≡ g) t refl refl
 
 -- how many ops there are
-pub in-none : (t : Bool) → pick t 0 (length {A = Op} []) ≡ 0
-in-none t = pick-both (λ (n : ℕ). n ≡ 0) t refl refl
+pub in_none : (t : Bool) → pick t 0 (length {A = Op} []) ≡ 0
+in_none t = pick_both (λ (n : ℕ). n ≡ 0) t refl refl
 
-pub in-more : (t : Bool) (xs ys : List Op) → pick t 0 (length (xs ++ ys)) ≡ pick t 0 (length xs) + pick t 0 (length ys)
-in-more true xs ys = refl
-in-more false xs ys = length-append xs ys
+pub in_more : (t : Bool) (xs ys : List Op) → pick t 0 (length (xs ++ ys)) ≡ pick t 0 (length xs) + pick t 0 (length ys)
+in_more true xs ys = refl
+in_more false xs ys = length-append xs ys
 
 -- what is drawn after what was drawn
 pick_more : (S : Shape) (d : List ℕ) (t : Bool) (xs ys : List Op) (f g h : List ℕ) → g ≡ pick t (draw S d xs f) f → h ≡ pick t (draw S d ys g) g → h ≡ pick t (draw S d (xs ++ ys) f) f
-pick_more S d true xs ys f g h p q = q ∙ rw (p, draw-append S d xs ys f)
+pick_more S d true xs ys f g h p q = q ∙ rw (p, draw_append S d xs ys f)
 pick_more S d false xs ys f g h p q = q ∙ p
 
 module _ {S : Shape} {d : List ℕ} {drawing : Bool} {f : List ℕ} {whole : Reading → Res Reading} {c₀ : Cursor} where
@@ -43,8 +43,8 @@ module _ {S : Shape} {d : List ℕ} {drawing : Bool} {f : List ℕ} {whole : Rea
     new = [];
     same = λ ops. e ops ∙ rw (append-nil ops);
     drawn = pick_same drawing f;
-    counted = omega (arith, o, in-none S.words);
-    few = omega (arith, in-none S.words);
+    counted = omega (arith, o, in_none S.words);
+    few = omega (arith, in_none S.words);
     line = l;
     item = i;
   }
@@ -57,25 +57,25 @@ module _ {S : Shape} {d : List ℕ} {drawing : Bool} {f : List ℕ} {whole : Rea
     new = w.new ++ t.new;
     same = λ ops. w.same ops ∙ e (ops ++ w.new) ∙ rw (t.same (ops ++ w.new), append_assoc ops w.new t.new);
     drawn = pick_more S d drawing w.new t.new f g h w.drawn t.drawn;
-    counted = omega (arith, w.counted, t.counted, in-more S.words w.new t.new);
-    few = omega (arith, w.few, t.few, in-more S.words w.new t.new);
+    counted = omega (arith, w.counted, t.counted, in_more S.words w.new t.new);
+    few = omega (arith, w.few, t.few, in_more S.words w.new t.new);
     line = t.line;
     item = t.item;
   }
 
   -- a step that is refused
-  pub walked-refused : {rest : Reading → Res Reading} {g : List ℕ} {m : ℕ} {c : Cursor} → Walked f S d whole c₀ drawing rest g m c
+  pub walked_refused : {rest : Reading → Res Reading} {g : List ℕ} {m : ℕ} {c : Cursor} → Walked f S d whole c₀ drawing rest g m c
       → {step : Reading → Res Reading} {h : List ℕ} {n : ℕ} → Refused g step c drawing h n
       → (rest' : Reading → Res Reading) → ((ops : List Op) → rest (reading c ops) ≡ step (reading c ops) >>= rest') → Refused f whole c₀ drawing h n
-  walked-refused {rest} {g} {m} {c} w {step} {h} {n} t rest' e = record {
+  walked_refused {rest} {g} {m} {c} w {step} {h} {n} t rest' e = record {
     same = λ ops. w.same ops ∙ e (ops ++ w.new) ∙ rw (t.same (ops ++ w.new));
     kept = λ b. t.kept b ∙ w.drawn ∙ rw b;
   }
 
   -- what is left is refused
-  pub walked-fault : {rest : Reading → Res Reading} {g : List ℕ} {m : ℕ} {c : Cursor} → Walked f S d whole c₀ drawing rest g m c → {n : ℕ} → ((ops : List Op) → rest (reading c ops) ≡ fault n)
+  pub walked_fault : {rest : Reading → Res Reading} {g : List ℕ} {m : ℕ} {c : Cursor} → Walked f S d whole c₀ drawing rest g m c → {n : ℕ} → ((ops : List Op) → rest (reading c ops) ≡ fault n)
       → Refused f whole c₀ drawing g n
-  walked-fault w e = record { same = λ ops. w.same ops ∙ e (ops ++ w.new); kept = λ b. w.drawn ∙ rw b }
+  walked_fault w e = record { same = λ ops. w.same ops ∙ e (ops ++ w.new); kept = λ b. w.drawn ∙ rw b }
 
   -- nothing is left
   pub walked_all : {rest : Reading → Res Reading} {g : List ℕ} {m : ℕ} {c : Cursor} → Walked f S d whole c₀ drawing rest g m c → ((ops : List Op) → rest (reading c ops) ≡ ok (reading c ops)) → {m' : ℕ} → m ≤ m'
@@ -83,26 +83,26 @@ module _ {S : Shape} {d : List ℕ} {drawing : Bool} {f : List ℕ} {whole : Rea
   walked_all {c = c} w e b = record { new = w.new; same = λ ops. w.same ops ∙ e (ops ++ w.new); drawn = w.drawn; counted = w.counted; few = omega (arith, w.few); line = w.line; item = w.item }
 
   -- what an answer says, by its case
-  pub took-next : {g : List ℕ} {m : ℕ} {r : Step} {c : Cursor} → Took f S d whole c₀ drawing g m r → r ≡ Next c → Walked f S d whole c₀ drawing ok g m c
-  took-next {c = c} (took {c = b} w) e = let z : b ≡ c = cc in rw (← z) w
-  took-next (refused w) e = never (cc)
+  pub took_next : {g : List ℕ} {m : ℕ} {r : Step} {c : Cursor} → Took f S d whole c₀ drawing g m r → r ≡ Next c → Walked f S d whole c₀ drawing ok g m c
+  took_next {c = c} (took {c = b} w) e = let z : b ≡ c = cc in rw (← z) w
+  took_next (refused w) e = never (cc)
 
-  pub took-faulty : {g : List ℕ} {m : ℕ} {r : Step} {why : Refusal} → Took f S d whole c₀ drawing g m r → r ≡ StepRefused why → Refused f whole c₀ drawing g (number_of why)
-  took-faulty (took w) e = never (cc)
-  took-faulty {why = why} (refused {why = b} w) e = let z : b ≡ why = cc in rw (← z) w
+  pub took_faulty : {g : List ℕ} {m : ℕ} {r : Step} {why : Refusal} → Took f S d whole c₀ drawing g m r → r ≡ StepRefused why → Refused f whole c₀ drawing g (number_of why)
+  took_faulty (took w) e = never (cc)
+  took_faulty {why = why} (refused {why = b} w) e = let z : b ≡ why = cc in rw (← z) w
 
   pub next_here : {g : List ℕ} {m : ℕ} {c : Cursor} → Walked f S d whole c₀ drawing ok g m c → Took f S d whole c₀ drawing g m (Next c)
   next_here {c = c} w = took {c = c} w
 
-  pub faulty-here : {g : List ℕ} {m : ℕ} (why : Refusal) → Refused f whole c₀ drawing g (number_of why) → Took f S d whole c₀ drawing g m (StepRefused why)
-  faulty-here why w = refused {why = why} w
+  pub faulty_here : {g : List ℕ} {m : ℕ} (why : Refusal) → Refused f whole c₀ drawing g (number_of why) → Took f S d whole c₀ drawing g m (StepRefused why)
+  faulty_here why w = refused {why = why} w
 
   -- a refusal before anything is drawn
-  pub refused-here : {m : ℕ} (why : Refusal) → ((ops : List Op) → whole (reading c₀ ops) ≡ fault (number_of why)) → Took f S d whole c₀ drawing f m (StepRefused why)
-  refused-here why e = refused (record { same = e; kept = λ _. refl })
+  pub refused_here : {m : ℕ} (why : Refusal) → ((ops : List Op) → whole (reading c₀ ops) ≡ fault (number_of why)) → Took f S d whole c₀ drawing f m (StepRefused why)
+  refused_here why e = refused (record { same = e; kept = λ _. refl })
 
 -- the same step by another name of its definition
-pub took-as : {S : Shape} {d : List ℕ} {drawing : Bool} {f : List ℕ} {whole whole' : Reading → Res Reading} {c₀ c₁ : Cursor} {g : List ℕ} {m m' : ℕ} {r : Step} → Took f S d whole' c₁ drawing g m' r
+pub took_as : {S : Shape} {d : List ℕ} {drawing : Bool} {f : List ℕ} {whole whole' : Reading → Res Reading} {c₀ c₁ : Cursor} {g : List ℕ} {m m' : ℕ} {r : Step} → Took f S d whole' c₁ drawing g m' r
     → ((ops : List Op) → whole (reading c₀ ops) ≡ whole' (reading c₁ ops)) → c₁.ops ≡ c₀.ops → m' ≤ m → Took f S d whole c₀ drawing g m r
-took-as (took {c = c} w) e o b = took {c = c} (record { new = w.new; same = λ ops. e ops ∙ w.same ops; drawn = w.drawn; counted = omega (arith, w.counted, o); few = omega (arith, w.few); line = w.line; item = w.item })
-took-as (refused {why = why} w) e o b = refused {why = why} (record { same = λ ops. e ops ∙ w.same ops; kept = w.kept })
+took_as (took {c = c} w) e o b = took {c = c} (record { new = w.new; same = λ ops. e ops ∙ w.same ops; drawn = w.drawn; counted = omega (arith, w.counted, o); few = omega (arith, w.few); line = w.line; item = w.item })
+took_as (refused {why = why} w) e o b = refused {why = why} (record { same = λ ops. e ops ∙ w.same ops; kept = w.kept })

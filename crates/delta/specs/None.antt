@@ -9,7 +9,7 @@ use Rattle.delta.specs.declared.Shape.{Shape}
 -- an op with size bytes of items for n rows was read; its own bytes end at p
 pub record Fills (S : Shape) (c : Reading) (p n size : ℕ) (next : Reading) : Type 0 where
   pub line : next.line ≡ c.line + n
-  pub opAt : next.opAt ≡ pick S.inline (p + size) p
+  pub op_at : next.op_at ≡ pick S.inline (p + size) p
   pub item_at : next.item_at ≡ pick S.inline c.item_at (c.item_at + size)
   pub op : Op
   pub counted : next.ops ≡ c.ops ++ (op ∷ [])

@@ -3,53 +3,53 @@
 use Rattle.std.specs.Prelude.{ℕ, ◌+◌, ◌*◌, ◌/◌, Bool, true, false, List, leb, ltb, length, get_or}
 use Rattle.laws.specs.Result.{Res, Res.ok, ◌>>=◌, need, pick}
 use Rattle.laws.specs.Bytes.{be16}
-use Rattle.state.specs.State.{rowBytes}
+use Rattle.state.specs.State.{row_bytes}
 use Rattle.state.specs.declared.Sizes.{Sizes}
 use Rattle.anhd.specs.declared.Items.{Items}
 use Rattle.anhd.specs.declared.Items.TheVariants.{Bytes, Shorts, Longs, ShortWords, LongWords}
 use Rattle.delta.specs.declared.Shape.{Shape}
 
 -- the bytes of a plane
-abbrev pub bytesInPlane : Sizes → ℕ
-bytesInPlane z = z.height * rowBytes z.width
+abbrev pub bytes_in_plane : Sizes → ℕ
+bytes_in_plane z = z.height * row_bytes z.width
 
 -- methods 5 and 7: columns of items of w bytes, which stand in the op list or not; 16 pointers of four bytes
-abbrev pub columnShape : Sizes → ℕ → Bool → Shape
-columnShape z w inline = record {
+abbrev pub column_shape : Sizes → ℕ → Bool → Shape
+column_shape z w inline = record {
   item = w;
   inline = inline;
   words = false;
-  row = rowBytes z.width;
+  row = row_bytes z.width;
   height = z.height;
   planes = z.planes;
-  plane = bytesInPlane z;
+  plane = bytes_in_plane z;
   pointers = 64;
 }
 
 -- methods 2 and 3: a plane is one column whose rows are its words of w bytes, as many as fit whole; 8 pointers
-abbrev pub wordShape : Sizes → ℕ → Shape
-wordShape z w = record {
+abbrev pub word_shape : Sizes → ℕ → Shape
+word_shape z w = record {
   item = w;
   inline = true;
   words = true;
   row = w;
-  height = bytesInPlane z / w;
+  height = bytes_in_plane z / w;
   planes = z.planes;
-  plane = bytesInPlane z;
+  plane = bytes_in_plane z;
   pointers = 32;
 }
 
 -- what a delta is read by
 abbrev pub shape_of : Sizes → Items → Shape
-shape_of z Bytes = columnShape z 1 true
-shape_of z Shorts = columnShape z 2 false
-shape_of z Longs = columnShape z 4 false
-shape_of z ShortWords = wordShape z 2
-shape_of z LongWords = wordShape z 4
+shape_of z Bytes = column_shape z 1 true
+shape_of z Shorts = column_shape z 2 false
+shape_of z Longs = column_shape z 4 false
+shape_of z ShortWords = word_shape z 2
+shape_of z LongWords = word_shape z 4
 
 -- the columns of a plane
-abbrev pub columnsIn : Shape → ℕ
-columnsIn S = S.row / S.item
+abbrev pub columns_in : Shape → ℕ
+columns_in S = S.row / S.item
 
 -- an op: count rows, the first at a place of the frame, get the items from a place of DLTA on, each step bytes after the one
 -- before; a Same has a step of 0; a Uniq, a Same or a run of none has a count of 0, and a place for items all the same
@@ -60,12 +60,12 @@ pub record Op : Type 0 where
   pub step : ℕ
 
 -- the number of ops, where they are those of columns; those of words aren't counted
-abbrev pub opsIn : Shape → List Op → ℕ
-opsIn S ops = pick S.words 0 (length ops)
+abbrev pub ops_in : Shape → List Op → ℕ
+ops_in S ops = pick S.words 0 (length ops)
 
 -- where reading stands: the place in the list, the place in the data list, the row, and the ops so far
 pub record Reading : Type 0 where
-  pub opAt : ℕ
+  pub op_at : ℕ
   pub item_at : ℕ
   pub line : ℕ
   pub ops : List Op

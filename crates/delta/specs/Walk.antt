@@ -6,9 +6,9 @@ use Rattle.refusal.specs.declared.Refusal.{Refusal}
 use Rattle.refusal.specs.declared.Refusal.TheVariants.{OpPastLastRow}
 use Rattle.state.specs.declared.Sizes.{Sizes}
 use Rattle.anhd.specs.declared.Items.{Items}
-use Rattle.delta.specs.Reading.{shape_of, Op, opsIn, Reading}
+use Rattle.delta.specs.Reading.{shape_of, Op, ops_in, Reading}
 use Rattle.delta.specs.Column.{no_rows}
-use Rattle.delta.specs.Delta.{readDelta, put, draw, readFrame}
+use Rattle.delta.specs.Delta.{read_delta, put, draw, read_frame}
 use Rattle.delta.specs.declared.Shape.{Shape}
 use Rattle.delta.specs.declared.Cursor.{Cursor}
 use Rattle.delta.specs.declared.Step.{Step}
@@ -19,9 +19,9 @@ use Rattle.delta.specs.declared.Pointer.{Pointer}
 use Rattle.delta.specs.declared.Pointer.TheVariants.{At, Bad}
 
 -- what an answer says in the paper's terms
-abbrev pub pointerOf : Pointer → Res ℕ
-pointerOf (At n) = ok n
-pointerOf Bad = fault 41
+abbrev pub pointer_of : Pointer → Res ℕ
+pointer_of (At n) = ok n
+pointer_of Bad = fault 41
 
 -- an item or word has one, two or four bytes
 pub record Width (w : ℕ) : Type 0 where
@@ -41,7 +41,7 @@ pub record Inside (n start step w count : ℕ) : Type 0 where
 -- so do items of w bytes that are no more than w apart
 pub record ItemsIn (n from step w count : ℕ) : Type 0 where
   pub inside : Inside n from step w count
-  pub step-most : step ≤ w
+  pub step_most : step ≤ w
 
 -- count rows of a column, the first at a place, lie within a frame of n bytes, and the place below the last of them fits into a usize
 pub record Down (S : Shape) (n place count : ℕ) : Type 0 where
@@ -59,12 +59,12 @@ pub record Columns (S : Shape) (n base k : ℕ) : Type 0 where
 -- the planes of a picture of n bytes
 pub record Planes (S : Shape) (n : ℕ) : Type 0 where
   pub width : Width S.item
-  pub row-most : S.row ≤ 128
-  pub height-least : S.words ≡ false → 1 ≤ S.height
+  pub row_most : S.row ≤ 128
+  pub height_least : S.words ≡ false → 1 ≤ S.height
   pub beside : S.words ≡ true → S.row ≡ S.item
   pub fits : S.height * S.row ≤ S.plane
-  pub plane-most : S.plane ≤ 1024 * 128
-  pub planes-most : S.planes ≤ 8
+  pub plane_most : S.plane ≤ 1024 * 128
+  pub planes_most : S.planes ≤ 8
   pub length : n ≡ S.planes * S.plane
 
 -- a cursor within the column and the delta, with room for so many ops
@@ -74,8 +74,8 @@ pub record Stands (S : Shape) (d : List ℕ) (c : Cursor) (room : ℕ) : Type 0 
   pub ops : c.ops + room < 4294967296
 
 -- where reading stands after n rows got items of size bytes in all; p is the place after the op's own bytes
-abbrev pub afterFill : Shape → Cursor → ℕ → ℕ → ℕ → Cursor
-afterFill S c p n size = record { op = pick S.inline (p + size) p; item = pick S.inline c.item (c.item + size); line = c.line + n; ops = c.ops + 1 }
+abbrev pub after_fill : Shape → Cursor → ℕ → ℕ → ℕ → Cursor
+after_fill S c p n size = record { op = pick S.inline (p + size) p; item = pick S.inline c.item (c.item + size); line = c.line + n; ops = c.ops + 1 }
 
 -- the numbers that it comes to fit
 pub record Fits (S : Shape) (c : Cursor) (p n size : ℕ) : Type 0 where
@@ -86,7 +86,7 @@ pub record Fits (S : Shape) (c : Cursor) (p n size : ℕ) : Type 0 where
 -- what a Skip of n rows answers
 pub data Skipped (S : Shape) (c : Cursor) (n : ℕ) : Taken → Type 0 where
   skipped : c.line + n ≤ S.height → Skipped S c n (Passed (record { op = c.op + 1; item = c.item; line = c.line + n; ops = c.ops + 1 }))
-  past-last : S.height < c.line + n → Skipped S c n (NotTaken OpPastLastRow)
+  past_last : S.height < c.line + n → Skipped S c n (NotTaken OpPastLastRow)
 
 -- where the whole delta is read from
 abbrev pub top : Cursor
@@ -94,7 +94,7 @@ top = record { op = 0; item = 0; line = 0; ops = 0 }
 
 -- the definition's place of reading, where the ops so far are given
 abbrev pub reading : Cursor → List Op → Reading
-reading c ops = record { opAt = c.op; item_at = c.item; line = c.line; ops = ops }
+reading c ops = record { op_at = c.op; item_at = c.item; line = c.line; ops = ops }
 
 -- a cursor one op further on, which counts as k
 pub record Moved (S : Shape) (d : List ℕ) (k : ℕ) (c next : Cursor) : Type 0 where
@@ -127,12 +127,12 @@ Lies S d (Passed next) = Unit {0}
 Lies S d (NotTaken why) = Unit {0}
 
 -- the frame f, with n rows from a place on drawn into it if drawing is set
-abbrev pub drawnRows : List ℕ → ℕ → List ℕ → ℕ → ℕ → ℕ → Shape → Bool → List ℕ
-drawnRows f place d from step n S drawing = pick drawing (put S.item S.row step d n from place f) f
+abbrev pub drawn_rows : List ℕ → ℕ → List ℕ → ℕ → ℕ → ℕ → Shape → Bool → List ℕ
+drawn_rows f place d from step n S drawing = pick drawing (put S.item S.row step d n from place f) f
 
 -- what drawing an op in the column that starts at base answers, and leaves in the frame
 abbrev pub Drawn : List ℕ → Shape → List ℕ → ℕ → Taken → Bool → List ℕ → Step → Type 0
-Drawn f S d base (Rows line from step n next) drawing g r = (r ≡ Next next) × (g ≡ drawnRows f (base + line * S.row) d from step n S drawing)
+Drawn f S d base (Rows line from step n next) drawing g r = (r ≡ Next next) × (g ≡ drawn_rows f (base + line * S.row) d from step n S drawing)
 Drawn f S d base (Passed next) drawing g r = (r ≡ Next next) × (g ≡ f)
 Drawn f S d base (NotTaken why) drawing g r = (r ≡ StepRefused why) × (g ≡ f)
 
@@ -141,8 +141,8 @@ pub record Walked (f : List ℕ) (S : Shape) (d : List ℕ) (whole : Reading →
   pub new : List Op
   pub same : (ops : List Op) → whole (reading c₀ ops) ≡ rest (reading c (ops ++ new))
   pub drawn : g ≡ pick drawing (draw S d new f) f
-  pub counted : c.ops ≡ c₀.ops + opsIn S new
-  pub few : opsIn S new ≤ most
+  pub counted : c.ops ≡ c₀.ops + ops_in S new
+  pub few : ops_in S new ≤ most
   pub line : c.line ≤ S.height
   pub item : c.item ≤ length d
 
@@ -159,9 +159,9 @@ pub data Took (f : List ℕ) (S : Shape) (d : List ℕ) (whole : Reading → Res
 -- a delta that passes the check for a picture of m bytes: its ops, and that the work buffer w, which has become g, is fit for them
 pub record Passes (w : List ℕ) (m : ℕ) (d : List ℕ) (z : Sizes) (i : Items) (g : List ℕ) (c : Cursor) : Type 0 where
   pub ops : List Op
-  pub read : readDelta (shape_of z i) d ≡ ok ops
-  pub frame : readFrame (length w) m d z i ≡ ok ops
-  pub counted : c.ops ≡ opsIn (shape_of z i) ops
+  pub read : read_delta (shape_of z i) d ≡ ok ops
+  pub frame : read_frame (length w) m d z i ≡ ok ops
+  pub counted : c.ops ≡ ops_in (shape_of z i) ops
   pub same : m ≡ length w
   pub planes : Planes (shape_of z i) (length w)
   pub kept : g ≡ w
@@ -169,4 +169,4 @@ pub record Passes (w : List ℕ) (m : ℕ) (d : List ℕ) (z : Sizes) (i : Items
 -- what the check of a whole delta answers and leaves in the work buffer
 pub data Checked (w : List ℕ) (m : ℕ) (d : List ℕ) (z : Sizes) (i : Items) (g : List ℕ) : Step → Type 0 where
   passes : {c : Cursor} → Passes w m d z i g c → Checked w m d z i g (Next c)
-  stops : {why : Refusal} → readFrame (length w) m d z i ≡ fault (number_of why) → g ≡ w → Checked w m d z i g (StepRefused why)
+  stops : {why : Refusal} → read_frame (length w) m d z i ≡ fault (number_of why) → g ≡ w → Checked w m d z i g (StepRefused why)

@@ -11,12 +11,12 @@ use Rattle.delta.specs.declared.Shape.{Shape}
 
 -- n words that stand at a place of DLTA go to the word `line` of the plane that starts at base and to those after it; the place is then on
 -- the last of them, or on `line` if there are none
-unfoldable pub wordRun : Shape → List ℕ → ℕ → Reading → ℕ → ℕ → ℕ → Res Reading
-wordRun S d base c line from n =
+unfoldable pub word_run : Shape → List ℕ → ℕ → Reading → ℕ → ℕ → ℕ → Res Reading
+word_run S d base c line from n =
     need (leb (line + n) S.height) 45 >>= λ _.
     need (leb (from + n * S.item) (length d)) 42 >>= λ _.
     ok (record {
-      opAt = from + n * S.item;
+      op_at = from + n * S.item;
       item_at = c.item_at;
       line = line + (n - 1);
       ops = c.ops ++ (record { place = base + line * S.row; count = n; from = from; step = S.item } ∷ []);
@@ -31,22 +31,22 @@ unfoldable pub word_op : Shape → List ℕ → ℕ → Reading → ℕ → Res 
 word_op S d base c x =
     need (ltb (c.line + move_of x) S.height) 45 >>= λ _.
     pick (ltb x 32768)
-    (wordRun S d base c (c.line + move_of x) (c.opAt + 2) 1)
-    (pair_at d (c.opAt + 2) >>= λ n. wordRun S d base c (c.line + move_of x) (c.opAt + 4) n)
+    (word_run S d base c (c.line + move_of x) (c.op_at + 2) 1)
+    (pair_at d (c.op_at + 2) >>= λ n. word_run S d base c (c.line + move_of x) (c.op_at + 4) n)
 
 -- one turn: past an op, or to the answer where the offset is −1 or something is refused
-abbrev pub pastOp : Res Reading → Step Reading (Res Reading)
-pastOp (ok c) = next c
-pastOp (fault n) = done (fault n)
+abbrev pub past_op : Res Reading → Step Reading (Res Reading)
+past_op (ok c) = next c
+past_op (fault n) = done (fault n)
 
-abbrev pub offsetOn : Shape → List ℕ → ℕ → Reading → Res ℕ → Step Reading (Res Reading)
-offsetOn S d base c (ok x) = pick (eqb x 65535) (done (ok c)) (pastOp (word_op S d base c x))
-offsetOn S d base c (fault n) = done (fault n)
+abbrev pub offset_on : Shape → List ℕ → ℕ → Reading → Res ℕ → Step Reading (Res Reading)
+offset_on S d base c (ok x) = pick (eqb x 65535) (done (ok c)) (past_op (word_op S d base c x))
+offset_on S d base c (fault n) = done (fault n)
 
-abbrev pub wordStep : Shape → List ℕ → ℕ → Reading → Step Reading (Res Reading)
-wordStep S d base c = offsetOn S d base c (pair_at d c.opAt)
+abbrev pub word_step : Shape → List ℕ → ℕ → Reading → Step Reading (Res Reading)
+word_step S d base c = offset_on S d base c (pair_at d c.op_at)
 
 -- the list of words of the plane that starts at base, to its offset of −1; each op takes four bytes or more of the list, so that the answer
 -- for too few turns is never given (`words-none`, `words-end` and `Words-more` of `WordLaws`)
-unfoldable pub readWords : Shape → List ℕ → ℕ → Reading → Res Reading
-readWords S d base c = iterate (wordStep S d base) (λ x. length d - x.opAt) (fault 42) c
+unfoldable pub read_words : Shape → List ℕ → ℕ → Reading → Res Reading
+read_words S d base c = iterate (word_step S d base) (λ x. length d - x.op_at) (fault 42) c

@@ -1,8 +1,8 @@
 // One column of a delta: an op count byte and that many ops, read and, if drawing is set, drawn.
 ghost use Rattle.std.specs.Prelude.{◌≡◌, ◌+◌, ◌<◌, ◌≤◌, length};
 ghost use Rattle.laws.specs.Result.{pick};
-ghost use Rattle.delta.specs.Column.{fill, OpKind.same, OpKind.uniq, opAs, readOp, readOps, readColumn};
-ghost use Rattle.delta.specs.Walk.{Vertical, Width, Column, Stands, Fits, afterFill, ItemsIn, Skipped, OpRead, Took};
+ghost use Rattle.delta.specs.Column.{fill, OpKind.same, OpKind.uniq, op_as, read_op, read_ops, read_column};
+ghost use Rattle.delta.specs.Walk.{Vertical, Width, Column, Stands, Fits, after_fill, ItemsIn, Skipped, OpRead, Took};
 
 use crate::rows::draw_taken;
 use crate::{Cursor, Shape, Step, Taken};
@@ -17,7 +17,7 @@ fn either(test: bool, a: usize, b: usize) -> usize
 // Where reading stands after count rows got items of size bytes in all; the op's own bytes end at next.
 fn after_fill(shape: Shape, c: Cursor, next: usize, count: usize, size: usize) -> Cursor
     requires { Fits shape c next count size }
-    ensures { result ≡ afterFill shape c next count size }
+    ensures { result ≡ after_fill shape c next count size }
 {
     let line = c.line + count;
     let ops = c.ops + 1;
@@ -86,7 +86,7 @@ fn take_skip(shape: Shape, c: Cursor, rows: usize) -> Taken
 // Reads the Same at the cursor: a count byte, then one item.
 fn take_same(shape: Shape, d: &[u8], c: Cursor) -> Taken
     requires { Stands shape d.now c 1 × (c.op < length d.now) }
-    ensures { OpRead shape d.now 1 (λ base x. opAs shape d.now base x same) c result }
+    ensures { OpRead shape d.now 1 (λ base x. op_as shape d.now base x same) c result }
 {
     let op = c.op;
     if d.len() - op < 2 {
@@ -99,7 +99,7 @@ fn take_same(shape: Shape, d: &[u8], c: Cursor) -> Taken
 // Reads the Uniq of count rows at the cursor.
 fn take_uniq(shape: Shape, d: &[u8], c: Cursor, count: usize) -> Taken
     requires { Width shape.item × Stands shape d.now c 1 × (c.op < length d.now) × (count ≤ 127) }
-    ensures { OpRead shape d.now 1 (λ base x. opAs shape d.now base x (uniq count)) c result }
+    ensures { OpRead shape d.now 1 (λ base x. op_as shape d.now base x (uniq count)) c result }
 {
     let item = shape.item;
     take_fill(shape, d, c, c.op + 1, count, count * item, item)
@@ -108,7 +108,7 @@ fn take_uniq(shape: Shape, d: &[u8], c: Cursor, count: usize) -> Taken
 // Reads the op at the cursor.
 fn take_op(shape: Shape, d: &[u8], c: Cursor) -> Taken
     requires { Width shape.item × Stands shape d.now c 1 }
-    ensures { OpRead shape d.now 1 (readOp shape d.now) c result }
+    ensures { OpRead shape d.now 1 (read_op shape d.now) c result }
 {
     let op = c.op;
     if d.len() <= op {
@@ -133,7 +133,7 @@ fn take_ops(
     drawing: bool,
 ) -> Step
     requires { Vertical shape × Column shape (length frame.old) base × Stands shape d.now c count }
-    ensures { Took frame.old shape d.now (readOps shape d.now base count) c drawing frame.new count result }
+    ensures { Took frame.old shape d.now (read_ops shape d.now base count) c drawing frame.new count result }
 {
     let mut at = c;
     let mut left = count;
@@ -159,7 +159,7 @@ pub(crate) fn take_column(
     drawing: bool,
 ) -> Step
     requires { Vertical shape × Column shape (length frame.old) base × Stands shape d.now c 255 }
-    ensures { Took frame.old shape d.now (readColumn shape d.now base) c drawing frame.new 255 result }
+    ensures { Took frame.old shape d.now (read_column shape d.now base) c drawing frame.new 255 result }
 {
     let op = c.op;
     if d.len() <= op {

@@ -1,9 +1,9 @@
 // The delta of a frame, DLTA of method 2, 3, 5 or 7: checked whole, then drawn.
 ghost use Rattle.std.specs.Prelude.{◌≡◌, ◌*◌, ◌<◌, ◌≤◌, length, replicate};
-ghost use Rattle.delta.specs.Reading.{bytesInPlane, columnShape, wordShape, shape_of};
-ghost use Rattle.delta.specs.Column.{readColumns};
-ghost use Rattle.delta.specs.Delta.{listPointer, dataPointer, readPlane, readPicture, Applies, appliedOf};
-ghost use Rattle.delta.specs.Walk.{pointerOf, Vertical, Columns, Planes, Stands, top, Took, Checked};
+ghost use Rattle.delta.specs.Reading.{bytes_in_plane, column_shape, word_shape, shape_of};
+ghost use Rattle.delta.specs.Column.{read_columns};
+ghost use Rattle.delta.specs.Delta.{list_pointer, data_pointer, read_plane, read_picture, Applies, applied_of};
+ghost use Rattle.delta.specs.Walk.{pointer_of, Vertical, Columns, Planes, Stands, top, Took, Checked};
 
 mod column;
 mod rows;
@@ -77,8 +77,8 @@ enum Pointer {
 
 // The shape of columns of items.
 fn column_shape(sizes: Sizes, item: usize, inline: bool) -> Shape
-    requires { bytesInPlane sizes ≤ 1024 * 128 }
-    ensures { result ≡ columnShape sizes item inline }
+    requires { bytes_in_plane sizes ≤ 1024 * 128 }
+    ensures { result ≡ column_shape sizes item inline }
 {
     let row = sizes.row_bytes();
     let height = sizes.height;
@@ -96,8 +96,8 @@ fn column_shape(sizes: Sizes, item: usize, inline: bool) -> Shape
 
 // The shape of lists of words.
 fn word_shape(sizes: Sizes, word: usize) -> Shape
-    requires { (bytesInPlane sizes ≤ 1024 * 128) × (0 < word) }
-    ensures { result ≡ wordShape sizes word }
+    requires { (bytes_in_plane sizes ≤ 1024 * 128) × (0 < word) }
+    ensures { result ≡ word_shape sizes word }
 {
     let plane = sizes.height * sizes.row_bytes();
     let height = plane / word;
@@ -114,7 +114,7 @@ fn word_shape(sizes: Sizes, word: usize) -> Shape
 }
 
 fn shape_of(sizes: Sizes, items: Items) -> Shape
-    requires { bytesInPlane sizes ≤ 1024 * 128 }
+    requires { bytes_in_plane sizes ≤ 1024 * 128 }
     ensures { result ≡ shape_of sizes items }
 {
     match items {
@@ -137,7 +137,7 @@ fn take_columns(
     drawing: bool,
 ) -> Step
     requires { Vertical shape × (1 ≤ shape.height) × Columns shape (length frame.old) base count × Stands shape d.now c (255 * count) }
-    ensures { Took frame.old shape d.now (readColumns shape d.now count base) c drawing frame.new (255 * count) result }
+    ensures { Took frame.old shape d.now (read_columns shape d.now count base) c drawing frame.new (255 * count) result }
 {
     let item = shape.item;
     let mut at = c;
@@ -158,7 +158,7 @@ fn take_columns(
 // The place that pointer i leads to, after so many bytes of pointers.
 fn list_pointer(d: &[u8], pointers: usize, i: usize) -> Pointer
     requires { i < 16 }
-    ensures { pointerOf result ≡ listPointer d.now pointers i }
+    ensures { pointer_of result ≡ list_pointer d.now pointers i }
 {
     let at = number32(d, 4 * i);
     if at < pointers {
@@ -173,7 +173,7 @@ fn list_pointer(d: &[u8], pointers: usize, i: usize) -> Pointer
 // The place where the items of a plane start.
 fn data_pointer(shape: Shape, d: &[u8], plane: usize) -> Pointer
     requires { plane < 8 }
-    ensures { pointerOf result ≡ dataPointer shape d.now plane }
+    ensures { pointer_of result ≡ data_pointer shape d.now plane }
 {
     if shape.inline {
         return Pointer::At(0);
@@ -191,7 +191,7 @@ fn take_plane(
     drawing: bool,
 ) -> Step
     requires { Planes shape (length frame.old) × (plane < shape.planes) × Stands shape d.now c (255 * 128) }
-    ensures { Took frame.old shape d.now (readPlane shape d.now plane) c drawing frame.new (255 * 128) result }
+    ensures { Took frame.old shape d.now (read_plane shape d.now plane) c drawing frame.new (255 * 128) result }
 {
     if number32(d, 4 * plane) == 0 {
         return Step::Next(c);
@@ -224,7 +224,7 @@ fn take_plane(
 // Takes the whole delta.
 fn take_delta(frame: &mut [u8], shape: Shape, d: &[u8], drawing: bool) -> Step
     requires { Planes shape (length frame.old) }
-    ensures { Took frame.old shape d.now (readPicture shape d.now) top drawing frame.new (255 * 128 * 8) result }
+    ensures { Took frame.old shape d.now (read_picture shape d.now) top drawing frame.new (255 * 128 * 8) result }
 {
     let mut at = Cursor {
         op: 0,
@@ -271,7 +271,7 @@ fn check(work: &mut [u8], bytes: usize, dlta: &[u8], sizes: Sizes, items: Items)
 
 // Builds the frame that a delta makes of a picture, all or nothing.
 pub fn apply(work: &mut [u8], picture: &[u8], dlta: &[u8], sizes: Sizes, items: Items) -> Applied
-    ensures { Applies work.old picture.now dlta.now sizes items (appliedOf result) work.new }
+    ensures { Applies work.old picture.now dlta.now sizes items (applied_of result) work.new }
 {
     let checked = check(work, picture.len(), dlta, sizes, items);
     match checked {
@@ -286,7 +286,7 @@ pub fn apply(work: &mut [u8], picture: &[u8], dlta: &[u8], sizes: Sizes, items: 
 
 // Builds the frame that a delta makes of zeros, all or nothing.
 pub fn apply_first(work: &mut [u8], dlta: &[u8], sizes: Sizes, items: Items) -> Applied
-    ensures { Applies work.old (replicate (length work.old) 0) dlta.now sizes items (appliedOf result) work.new }
+    ensures { Applies work.old (replicate (length work.old) 0) dlta.now sizes items (applied_of result) work.new }
 {
     let checked = check(work, work.len(), dlta, sizes, items);
     match checked {

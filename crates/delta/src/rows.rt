@@ -1,7 +1,7 @@
 // The rows of an op, columns' or words': drawn if drawing is set.
 ghost use Rattle.std.specs.Prelude.{◌≡◌, ◌+◌, ◌≤◌, length, take, drop};
 ghost use Rattle.std.proofs.lemmas.List.Edits.{sets};
-ghost use Rattle.delta.specs.Walk.{Width, Column, Down, ItemsIn, Lies, drawnRows, Drawn};
+ghost use Rattle.delta.specs.Walk.{Width, Column, Down, ItemsIn, Lies, drawn_rows, Drawn};
 
 use crate::{Shape, Step, Taken};
 use copies::copy;
@@ -46,7 +46,7 @@ fn draw_rows(
     drawing: bool,
 )
     requires { Width shape.item × Down shape (length frame.old) place count × ItemsIn (length d.now) from step shape.item count }
-    ensures { frame.new ≡ drawnRows frame.old place d.now from step count shape drawing }
+    ensures { frame.new ≡ drawn_rows frame.old place d.now from step count shape drawing }
 {
     if !drawing {
         return;

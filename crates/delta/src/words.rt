@@ -1,6 +1,6 @@
 // The list of words of one plane, methods 2 and 3: read and, if drawing is set, drawn.
 ghost use Rattle.std.specs.Prelude.{true, ◌≡◌, ◌+◌, ◌<◌, ◌≤◌, length};
-ghost use Rattle.delta.specs.Words.{wordRun, move_of, word_op, readWords};
+ghost use Rattle.delta.specs.Words.{word_run, move_of, word_op, read_words};
 ghost use Rattle.delta.specs.Walk.{Width, Column, Stands, OpRead, Took};
 
 use crate::rows::draw_taken;
@@ -11,7 +11,7 @@ use refusal::Refusal;
 // Reads count words that stand at a place of the delta and go to the plane's word number line and to those after it.
 fn take_run(shape: Shape, d: &[u8], c: Cursor, line: usize, from: usize, count: usize) -> Taken
     requires { Width shape.item × (c.item ≤ length d.now) × (line < shape.height) × (from ≤ length d.now) × (count < 65536) }
-    ensures { OpRead shape d.now 0 (λ base x. wordRun shape d.now base x line from count) c result }
+    ensures { OpRead shape d.now 0 (λ base x. word_run shape d.now base x line from count) c result }
 {
     if shape.height - line < count {
         return Taken::Refused(Refusal::WordPastPlane);
@@ -82,7 +82,7 @@ pub(crate) fn take_words(
     drawing: bool,
 ) -> Step
     requires { Width shape.item × Column shape (length frame.old) base × Stands shape d.now c 0 × (c.op ≤ length d.now) × (shape.words ≡ true) }
-    ensures { Took frame.old shape d.now (readWords shape d.now base) c drawing frame.new 0 result }
+    ensures { Took frame.old shape d.now (read_words shape d.now base) c drawing frame.new 0 result }
 {
     let mut at = c;
     loop {

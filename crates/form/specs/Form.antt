@@ -7,15 +7,15 @@ use Rattle.laws.specs.Loop.{Step, Step.next, Step.done, iterate}
 use Rattle.laws.specs.Bytes.{be32}
 use Rattle.refusal.specs.Number.{number_of}
 use Rattle.iff.specs.Ids.{FORM, ANIM, ILBM}
-use Rattle.iff.specs.Chunk.{Chunk, chunkAt}
+use Rattle.iff.specs.Chunk.{Chunk, chunk_at}
 use Rattle.form.specs.declared.Outer.{Outer}
 use Rattle.form.specs.declared.Outer.TheVariants.{Ends, Refused}
 use Rattle.form.specs.declared.Form.{Form}
 use Rattle.form.specs.declared.Form.TheVariants.{Ilbm, End, Refused as FormRefused}
 
 -- the end place of FORM ANIM: 21 for fewer than 12 bytes, 22, and 21 for its length, in opening's order
-unfoldable pub animEnd : List ℕ → Res ℕ
-animEnd s =
+unfoldable pub anim_end : List ℕ → Res ℕ
+anim_end s =
     need (leb 12 (length s)) 21 >>= λ _.
     need (eqb (be32 s 0) FORM && eqb (be32 s 8) ANIM) 22 >>= λ _.
     need (leb 4 (be32 s 4)) 21 >>= λ _.
@@ -33,8 +33,8 @@ abbrev pub chunks_of : List ℕ → FormIlbm → List ℕ
 chunks_of s f = take f.size (drop f.start s)
 
 -- a FORM is the next frame if it is an ILBM; one shorter than its type is 21
-abbrev pub formOn : List ℕ → Chunk → Step ℕ (Res (Option FormIlbm))
-formOn s c =
+abbrev pub form_on : List ℕ → Chunk → Step ℕ (Res (Option FormIlbm))
+form_on s c =
     pick (leb 4 c.size)
     (pick (eqb (be32 s c.start) ILBM)
     (done (ok (some (record { start = c.start + 4; size = c.size - 4; next = c.next }))))
@@ -42,22 +42,22 @@ formOn s c =
     (done (fault 21))
 
 -- one turn: past a chunk that is no frame, or to the answer
-abbrev pub passOn : List ℕ → Res (Option Chunk) → Step ℕ (Res (Option FormIlbm))
-passOn s (ok (some c)) = pick (eqb c.id FORM) (formOn s c) (next c.next)
-passOn s (ok none) = done (ok none)
-passOn s (fault n) = done (fault n)
+abbrev pub pass_on : List ℕ → Res (Option Chunk) → Step ℕ (Res (Option FormIlbm))
+pass_on s (ok (some c)) = pick (eqb c.id FORM) (form_on s c) (next c.next)
+pass_on s (ok none) = done (ok none)
+pass_on s (fault n) = done (fault n)
 
-abbrev pub formStep : List ℕ → ℕ → Step ℕ (Res (Option FormIlbm))
-formStep s at = passOn s (chunkAt s at)
+abbrev pub form_step : List ℕ → ℕ → Step ℕ (Res (Option FormIlbm))
+form_step s at = pass_on s (chunk_at s at)
 
 -- the next frame from a place of FORM ANIM on, if there is one, or 21
-unfoldable pub nextForm : List ℕ → ℕ → Res (Option FormIlbm)
-nextForm s from = iterate (formStep s) (λ at. length s - at) (fault 21) from
+unfoldable pub next_form : List ℕ → ℕ → Res (Option FormIlbm)
+next_form s from = iterate (form_step s) (λ at. length s - at) (fault 21) from
 
 -- what the answers say in the paper's terms
-abbrev pub outerOf : Outer → Res ℕ
-outerOf (Ends at) = ok at
-outerOf (Refused why) = fault (number_of why)
+abbrev pub outer_of : Outer → Res ℕ
+outer_of (Ends at) = ok at
+outer_of (Refused why) = fault (number_of why)
 
 abbrev pub form_of : Form → Res (Option FormIlbm)
 form_of (Ilbm start len nx) = ok (some (record { start = start; size = len; next = nx }))

@@ -1,6 +1,6 @@
 // FORM ANIM: where it ends, and the frames in it.
 ghost use Rattle.std.specs.Prelude.{◌≡◌};
-ghost use Rattle.form.specs.Form.{animEnd, outerOf, nextForm, form_of};
+ghost use Rattle.form.specs.Form.{anim_end, outer_of, next_form, form_of};
 
 use buffer::number32;
 use iff::ids::{ANIM, FORM, ILBM};
@@ -29,7 +29,7 @@ pub enum Form {
 
 // The end place of FORM ANIM.
 pub fn anim_end(file: &[u8]) -> Outer
-    ensures { outerOf result ≡ animEnd file.now }
+    ensures { outer_of result ≡ anim_end file.now }
 {
     if file.len() < 12 {
         return Outer::Refused(Refusal::ChunkPastParent);
@@ -52,7 +52,7 @@ pub fn anim_end(file: &[u8]) -> Outer
 
 // The next FORM ILBM from a place on; other chunks are passed over.
 pub fn next_form(s: &[u8], from: usize) -> Form
-    ensures { form_of result ≡ nextForm s.now from }
+    ensures { form_of result ≡ next_form s.now from }
 {
     let mut at = from;
     loop {

@@ -7,27 +7,27 @@ use mathlib.Core.Option.{Option, none, some}
 use mathlib.Core.Path.{◌≡◌, refl, sym, ap, ◌∙◌}
 use lib.ListN.{take, drop, length-take, length}
 use lib.Seq.{drop-drop}
-use Rattle.laws.specs.Result.{Res, Res.ok, Res.fault, ◌>>=◌, need, orRefuse}
-use Rattle.laws.proofs.ResultLaws.{Each, Each.each, Each.no_value, All, All.all-some, All.all_none, all-value, each-any, each-bind, each-some}
+use Rattle.laws.specs.Result.{Res, Res.ok, Res.fault, ◌>>=◌, need, or_refuse}
+use Rattle.laws.proofs.ResultLaws.{Each, Each.each, Each.no_value, All, All.all_some, All.all_none, all_value, each_any, each_bind, each_some}
 use Rattle.laws.specs.Bytes.{be32, Bytes}
 use Rattle.laws.proofs.BytesLaws.{bytes_take, bytes_drop}
-use Rattle.laws.proofs.StoreLaws.{part-of-part, length_part}
+use Rattle.laws.proofs.StoreLaws.{part_of_part, length_part}
 use Rattle.iff.specs.Ids.{CMAP, ANHD, DLTA}
-use Rattle.iff.specs.Chunk.{Part, find, bytes_of, foundIn, contents}
-use Rattle.iff.proofs.ChunkLaws.{Lies, find-lies}
+use Rattle.iff.specs.Chunk.{Part, find, bytes_of, found_in, contents}
+use Rattle.iff.proofs.ChunkLaws.{Lies, find_lies}
 use Rattle.form.specs.Form.{FormIlbm, chunks_of}
-use Rattle.form.proofs.FormLaws.{Follows, form-follows}
-use Rattle.anhd.specs.Anhd.{itemsOf, columnsOk, frameHeader}
+use Rattle.form.proofs.FormLaws.{Follows, form_follows}
+use Rattle.anhd.specs.Anhd.{items_of, columns_ok, frame_header}
 use Rattle.anhd.proofs.AnhdLaws.{Read, header_read}
 use Rattle.anhd.specs.declared.FrameHeader.{FrameHeader}
-use Rattle.colours.specs.Colours.{goodLength, colours}
-use Rattle.frame.specs.Frame.{Frame, frameIn, frameOr, frameAt, frameWith, orEmpty}
+use Rattle.colours.specs.Colours.{good_length, colours}
+use Rattle.frame.specs.Frame.{Frame, frame_in, frame_or, frame_at, frame_with, or_empty}
 
 -- the contents of a chunk of a FORM are a part of FORM ANIM
 part_in : (s : List ℕ) (x : FormIlbm) (d : Part) → Lies (chunks_of s x) d → take d.size (drop (x.start + d.start) s) ≡ bytes_of (chunks_of s x) d
 part_in s x d l =
     rw (← drop-drop d.start x.start s)
-    (sym (part-of-part d.start d.size x.size (drop x.start s) (omega (arith, l.ends, length-take x.size (drop x.start s)))))
+    (sym (part_of_part d.start d.size x.size (drop x.start s) (omega (arith, l.ends, length-take x.size (drop x.start s)))))
 
 -- a frame that follows a place
 pub record Rises (s : List ℕ) (at : ℕ) (x : Frame) : Type 0 where
@@ -42,65 +42,65 @@ record Framed (s : List ℕ) (B at : ℕ) (f : Frame) : Type 0 where
   header : (anhd : List ℕ) × Read B anhd f.header
   dlta : (d : Part) × (f.dlta ≡ bytes_of (chunks_of s form) d)
 
-in-framed : (s : List ℕ) (B at : ℕ) (x : FormIlbm) → Follows s at x → Each (Framed s B at) (frameIn s B x)
-unfolding frameIn
-in-framed s B at x k =
+in_framed : (s : List ℕ) (B at : ℕ) (x : FormIlbm) → Follows s at x → Each (Framed s B at) (frame_in s B x)
+unfolding frame_in
+in_framed s B at x k =
     let chunks = chunks_of s x in
-    each-any (find chunks ANHD >>= orRefuse 31) λ h. each-any (find chunks DLTA >>= orRefuse 31) λ d.
-    each-bind (header_read false B (bytes_of chunks h)) λ y e. each-any (colours (contents chunks CMAP)) λ c.
+    each_any (find chunks ANHD >>= or_refuse 31) λ h. each_any (find chunks DLTA >>= or_refuse 31) λ d.
+    each_bind (header_read false B (bytes_of chunks h)) λ y e. each_any (colours (contents chunks CMAP)) λ c.
     each (record { form = x; follows = k; next = refl; header = (bytes_of chunks h, e); dlta = (d, refl) })
 
-framed : (s : List ℕ) (B at : ℕ) (x : Frame) → frameAt s at B ≡ ok (some x) → Framed s B at x
-unfolding frameAt
-framed s B at x e = each-some e (each-bind (form-follows s at) go)
+framed : (s : List ℕ) (B at : ℕ) (x : Frame) → frame_at s at B ≡ ok (some x) → Framed s B at x
+unfolding frame_at
+framed s B at x e = each_some e (each_bind (form_follows s at) go)
   where
-    go : (o : Option FormIlbm) → All (Follows s at) o → Each (All (Framed s B at)) (frameOr s B o)
+    go : (o : Option FormIlbm) → All (Follows s at) o → Each (All (Framed s B at)) (frame_or s B o)
     go none h = each all_none
-    go (some y) h = each-bind (in-framed s B at y (all-value h)) λ f k. each (all-some k)
+    go (some y) h = each_bind (in_framed s B at y (all_value h)) λ f k. each (all_some k)
 
-pub frame-rises : (s : List ℕ) (B at : ℕ) (x : Frame) → frameAt s at B ≡ ok (some x) → Rises s at x
-frame-rises s B at x e = let k = framed s B at x e in record { rises = rw k.next k.follows.rises; ends = rw k.next k.follows.ends }
+pub frame_rises : (s : List ℕ) (B at : ℕ) (x : Frame) → frame_at s at B ≡ ok (some x) → Rises s at x
+frame_rises s B at x e = let k = framed s B at x e in record { rises = rw k.next k.follows.rises; ends = rw k.next k.follows.ends }
 
 -- in a file of bytes its DLTA is of bytes
-pub frame-bytes : (s : List ℕ) (B at : ℕ) (x : Frame) → Bytes s → frameAt s at B ≡ ok (some x) → Bytes x.dlta
-frame-bytes s B at x h e =
+pub frame_bytes_lem : (s : List ℕ) (B at : ℕ) (x : Frame) → Bytes s → frame_at s at B ≡ ok (some x) → Bytes x.dlta
+frame_bytes_lem s B at x h e =
     let k = framed s B at x e in
     let f = k.form in
     let d = k.dlta.0 in
     rw k.dlta.1 (bytes_take d.size (drop d.start (chunks_of s f)) (bytes_drop d.start (chunks_of s f) (bytes_take f.size (drop f.start s) (bytes_drop f.start s h))))
 
 -- it has whole columns, and its items are those of its method
-pub frame-columns : (s : List ℕ) (B at : ℕ) (x : Frame) → frameAt s at B ≡ ok (some x) → columnsOk x.header.items B ≡ true
-frame-columns s B at x e = (framed s B at x e).header.1.columns
+pub frame_columns : (s : List ℕ) (B at : ℕ) (x : Frame) → frame_at s at B ≡ ok (some x) → columns_ok x.header.items B ≡ true
+frame_columns s B at x e = (framed s B at x e).header.1.columns
 
-pub frame-items : (s : List ℕ) (B at : ℕ) (x : Frame) → frameAt s at B ≡ ok (some x) → (bits : ℕ) × (x.header.items ≡ itemsOf x.header.method bits)
-frame-items s B at x e = let r = (framed s B at x e).header in (be32 r.0 20, r.1.items)
+pub frame_items : (s : List ℕ) (B at : ℕ) (x : Frame) → frame_at s at B ≡ ok (some x) → (bits : ℕ) × (x.header.items ≡ items_of x.header.method bits)
+frame_items s B at x e = let r = (framed s B at x e).header in (be32 r.0 20, r.1.items)
 
 -- the contents of a chunk are those of the part where they stand
-empty-is : (s : List ℕ) (r : Res (Option Part)) → foundIn s r ≡ bytes_of s (orEmpty r)
-empty-is s (ok (some p)) = refl
-empty-is s (ok none) = refl
-empty-is s (fault n) = refl
+empty_is : (s : List ℕ) (r : Res (Option Part)) → found_in s r ≡ bytes_of s (or_empty r)
+empty_is s (ok (some p)) = refl
+empty_is s (ok none) = refl
+empty_is s (fault n) = refl
 
-pub empty-lies : (id : ℕ) (s : List ℕ) {c : Part} → orEmpty (find s id) ≡ c → Lies s c
-empty-lies id s e = rw e at (go (find-lies id s))
+pub empty_lies : (id : ℕ) (s : List ℕ) {c : Part} → or_empty (find s id) ≡ c → Lies s c
+empty_lies id s e = rw e at (go (find_lies id s))
   where
-    go : {r : Res (Option Part)} → Each (All (Lies s)) r → Lies s (orEmpty r)
-    go (each (all-some l)) = l
+    go : {r : Res (Option Part)} → Each (All (Lies s)) r → Lies s (or_empty r)
+    go (each (all_some l)) = l
     go (each all_none) = record { ends = omega arith }
     go no_value = record { ends = omega arith }
 
 -- the frame whose ANHD and DLTA were found
-pub in-with : (s : List ℕ) (B : ℕ) (x : FormIlbm) {h d c : Part} {q : Res (Option Frame)} → find (chunks_of s x) ANHD ≡ ok (some h) → find (chunks_of s x) DLTA ≡ ok (some d)
-    → orEmpty (find (chunks_of s x) CMAP) ≡ c → q ≡ frameWith s (bytes_of (chunks_of s x) h) B x.next (x.start + d.start) d.size (x.start + c.start) c.size → q ≡ frameOr s B (some x)
-unfolding frameIn contents colours
-in-with s B x {h} {d} {c} e f g k =
+pub in_with : (s : List ℕ) (B : ℕ) (x : FormIlbm) {h d c : Part} {q : Res (Option Frame)} → find (chunks_of s x) ANHD ≡ ok (some h) → find (chunks_of s x) DLTA ≡ ok (some d)
+    → or_empty (find (chunks_of s x) CMAP) ≡ c → q ≡ frame_with s (bytes_of (chunks_of s x) h) B x.next (x.start + d.start) d.size (x.start + c.start) c.size → q ≡ frame_or s B (some x)
+unfolding frame_in contents colours
+in_with s B x {h} {d} {c} e f g k =
     let chunks = chunks_of s x in
-    let l = empty-lies CMAP chunks g in
-    let m : foundIn chunks (find chunks CMAP) ≡ bytes_of chunks c = empty-is chunks (find chunks CMAP) ∙ ap (bytes_of chunks) g in
+    let l = empty_lies CMAP chunks g in
+    let m : found_in chunks (find chunks CMAP) ≡ bytes_of chunks c = empty_is chunks (find chunks CMAP) ∙ ap (bytes_of chunks) g in
     k ∙ rw (e, f, m)
-    (rw (part_in s x d (each-some f (find-lies DLTA chunks)), part_in s x c l, length_part chunks c.start c.size l.ends)
-    (go (frameHeader false B (bytes_of chunks h)) (goodLength c.size) (bytes_of chunks c)))
+    (rw (part_in s x d (each_some f (find_lies DLTA chunks)), part_in s x c l, length_part chunks c.start c.size l.ends)
+    (go (frame_header false B (bytes_of chunks h)) (good_length c.size) (bytes_of chunks c)))
   where
     made : FrameHeader → List ℕ → Frame
     made y cmap = record { next = x.next; header = y; dlta = bytes_of (chunks_of s x) d; cmap = cmap }

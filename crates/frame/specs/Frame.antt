@@ -2,14 +2,14 @@
 -- chunks are walked, the frame walked whole, then 31 to 37 in table order.
 use Rattle.std.specs.Prelude.{ℕ, false, List, take, drop}
 use Rattle.std.proofs.Math.Option.{Option, none, some}
-use Rattle.laws.specs.Result.{Res, Res.ok, Res.fault, ◌>>=◌, need, orRefuse}
+use Rattle.laws.specs.Result.{Res, Res.ok, Res.fault, ◌>>=◌, need, or_refuse}
 use Rattle.refusal.specs.Number.{number_of}
 use Rattle.iff.specs.Ids.{CMAP, ANHD, DLTA}
 use Rattle.iff.specs.Chunk.{Part, find, bytes_of, contents}
-use Rattle.form.specs.Form.{FormIlbm, chunks_of, nextForm}
-use Rattle.anhd.specs.Anhd.{frameHeader}
+use Rattle.form.specs.Form.{FormIlbm, chunks_of, next_form}
+use Rattle.anhd.specs.Anhd.{frame_header}
 use Rattle.anhd.specs.declared.FrameHeader.{FrameHeader}
-use Rattle.colours.specs.Colours.{goodLength, colours}
+use Rattle.colours.specs.Colours.{good_length, colours}
 use Rattle.frame.specs.declared.Next.{Next}
 use Rattle.frame.specs.declared.Next.TheVariants.{Later, End, Refused}
 
@@ -21,21 +21,21 @@ pub record Frame : Type 0 where
   pub cmap : List ℕ
 
 -- the frame in a FORM ILBM, for rows of B bytes
-unfoldable pub frameIn : List ℕ → ℕ → FormIlbm → Res Frame
-frameIn s B x =
-    find (chunks_of s x) ANHD >>= orRefuse 31 >>= λ h.
-    find (chunks_of s x) DLTA >>= orRefuse 31 >>= λ d.
-    frameHeader false B (bytes_of (chunks_of s x) h) >>= λ y.
+unfoldable pub frame_in : List ℕ → ℕ → FormIlbm → Res Frame
+frame_in s B x =
+    find (chunks_of s x) ANHD >>= or_refuse 31 >>= λ h.
+    find (chunks_of s x) DLTA >>= or_refuse 31 >>= λ d.
+    frame_header false B (bytes_of (chunks_of s x) h) >>= λ y.
     colours (contents (chunks_of s x) CMAP) >>= λ c.
     ok (record { next = x.next; header = y; dlta = bytes_of (chunks_of s x) d; cmap = c })
 
-abbrev pub frameOr : List ℕ → ℕ → Option FormIlbm → Res (Option Frame)
-frameOr s B none = ok none
-frameOr s B (some x) = frameIn s B x >>= λ f. ok (some f)
+abbrev pub frame_or : List ℕ → ℕ → Option FormIlbm → Res (Option Frame)
+frame_or s B none = ok none
+frame_or s B (some x) = frame_in s B x >>= λ f. ok (some f)
 
 -- the next frame from a place of FORM ANIM on, if there is one
-unfoldable pub frameAt : List ℕ → ℕ → ℕ → Res (Option Frame)
-frameAt s at B = nextForm s at >>= frameOr s B
+unfoldable pub frame_at : List ℕ → ℕ → ℕ → Res (Option Frame)
+frame_at s at B = next_form s at >>= frame_or s B
 
 -- what an answer says in the paper's terms: the contents of DLTA and CMAP are parts of FORM ANIM
 abbrev pub next_of : List ℕ → Next → Res (Option Frame)
@@ -44,14 +44,14 @@ next_of s End = ok none
 next_of s (Refused why) = fault (number_of why)
 
 -- the frame with this ANHD, where the contents of its DLTA are n bytes of FORM ANIM from a on, and those of its CMAP k bytes from c on
-abbrev pub frameWith : List ℕ → List ℕ → ℕ → ℕ → ℕ → ℕ → ℕ → ℕ → Res (Option Frame)
-frameWith s anhd B nx a n c k =
-    frameHeader false B anhd >>= λ y.
-    need (goodLength k) 37 >>= λ _.
+abbrev pub frame_with : List ℕ → List ℕ → ℕ → ℕ → ℕ → ℕ → ℕ → ℕ → Res (Option Frame)
+frame_with s anhd B nx a n c k =
+    frame_header false B anhd >>= λ y.
+    need (good_length k) 37 >>= λ _.
     ok (some (record { next = nx; header = y; dlta = take n (drop a s); cmap = take k (drop c s) }))
 
 -- where the contents of a chunk that was looked for stand; an empty part where there is none
-abbrev pub orEmpty : Res (Option Part) → Part
-orEmpty (ok (some p)) = p
-orEmpty (ok none) = record { start = 0; size = 0 }
-orEmpty (fault n) = record { start = 0; size = 0 }
+abbrev pub or_empty : Res (Option Part) → Part
+or_empty (ok (some p)) = p
+or_empty (ok none) = record { start = 0; size = 0 }
+or_empty (fault n) = record { start = 0; size = 0 }

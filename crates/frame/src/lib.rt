@@ -1,8 +1,8 @@
 // The next frame of an animation: its header, and where its delta and its colours stand.
 ghost use Rattle.std.specs.Prelude.{◌≡◌, ℕ, ◌+◌, ◌≤◌, length, List};
 ghost use Rattle.std.proofs.Math.Option.{some};
-ghost use Rattle.iff.specs.Chunk.{foundOf};
-ghost use Rattle.frame.specs.Frame.{frameWith, frameOr, frameAt, next_of, orEmpty};
+ghost use Rattle.iff.specs.Chunk.{found_of};
+ghost use Rattle.frame.specs.Frame.{frame_with, frame_or, frame_at, next_of, or_empty};
 
 use anhd::{Anhd, FrameHeader};
 use form::Form;
@@ -34,7 +34,7 @@ struct Place {
 
 // Where the contents of a chunk that was looked for stand; an empty part where there is none.
 fn or_empty(found: Found) -> Place
-    ensures { orEmpty (foundOf found) ≡ record { start = result.start; size = result.len } }
+    ensures { or_empty (found_of found) ≡ record { start = result.start; size = result.len } }
 {
     match found {
         Found::At { start, len } => Place { start, len },
@@ -53,7 +53,7 @@ fn frame_with(
     place: usize,
     count: usize,
 ) -> Next
-    ensures { (s : List ℕ) → next_of s result ≡ frameWith s anhd.now row next start len place count }
+    ensures { (s : List ℕ) → next_of s result ≡ frame_with s anhd.now row next start len place count }
 {
     let h = anhd::frame_header(false, row, anhd);
     match h {
@@ -77,7 +77,7 @@ fn frame_with(
 // The frame in a FORM ILBM whose chunks are len bytes from start on.
 fn frame_in(anim: &[u8], start: usize, len: usize, next: usize, row: usize) -> Next
     requires { start + len ≤ length anim.now }
-    ensures { next_of anim.now result ≡ frameOr anim.now row (some (record { start = start; size = len; next = next })) }
+    ensures { next_of anim.now result ≡ frame_or anim.now row (some (record { start = start; size = len; next = next })) }
 {
     let end = start + len;
     let chunks = &anim[start..end];
@@ -113,7 +113,7 @@ fn frame_in(anim: &[u8], start: usize, len: usize, next: usize, row: usize) -> N
 
 // The next frame from a place of FORM ANIM on, for a picture with row bytes per row.
 pub fn frame_at(anim: &[u8], at: usize, row: usize) -> Next
-    ensures { next_of anim.now result ≡ frameAt anim.now at row }
+    ensures { next_of anim.now result ≡ frame_at anim.now at row }
 {
     let f = form::next_form(anim, at);
     match f {

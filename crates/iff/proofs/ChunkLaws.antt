@@ -8,18 +8,18 @@ use mathlib.Core.Option.{Option, none, some}
 use lib.Dec.{leb, eqb}
 use lib.ListN.{length}
 use borrow.Author.Tests.{leb-true, eqb-true}
-use Rattle.laws.specs.Result.{Res, Res.ok, Res.fault, ◌>>=◌, orRefuse, pick}
-use Rattle.laws.specs.Every.{Every, Every.every-none, Every.every-cons}
+use Rattle.laws.specs.Result.{Res, Res.ok, Res.fault, ◌>>=◌, or_refuse, pick}
+use Rattle.laws.specs.Every.{Every, Every.every_none, Every.every_cons}
 use Rattle.laws.proofs.EveryLaws.{every_more}
-use Rattle.laws.proofs.ResultLaws.{Each, Each.each, Each.no_value, All, All.all-some, All.all_none, each-need, each-ok, each-pick, each-bind, each-self, pick-both, all-value, each-some, made_of, ok_same, each-is}
-use Rattle.laws.proofs.LoopLaws.{Going, starts, turns, stops, Comes, Comes.comes-next, Comes.comes-done, iterate-holds}
+use Rattle.laws.proofs.ResultLaws.{Each, Each.each, Each.no_value, All, All.all_some, All.all_none, each_need, each_ok, each_pick, each_bind, each_self, pick_both, all_value, each_some, made_of, ok_same, each_is}
+use Rattle.laws.proofs.LoopLaws.{Going, starts, turns, stops, Comes, Comes.comes_next, Comes.comes_done, iterate_holds}
 use Rattle.laws.specs.Bytes.{be32}
 use Rattle.refusal.specs.Number.{number_of}
 use Rattle.refusal.specs.declared.Refusal.{Refusal}
 use Rattle.iff.specs.declared.Found.{Found}
 use Rattle.iff.specs.declared.Found.TheVariants.{Missing, Refused}
 use Rattle.iff.specs.declared.Three.{Three}
-use Rattle.iff.specs.Chunk.{Chunk, padded, chunkAt, Walk, walkOn, walkStep, chunks, Part, part_of, first, find, foundOf, FindsThree, orPart}
+use Rattle.iff.specs.Chunk.{Chunk, padded, chunk_at, Walk, walk_on, walk_step, chunks, Part, part_of, first, find, found_of, FindsThree, or_part}
 
 -- a chunk at a place lies within the parent, and the next place is past it
 pub record Within (s : List ℕ) (at : ℕ) (c : Chunk) : Type 0 where
@@ -32,12 +32,12 @@ pub record Within (s : List ℕ) (at : ℕ) (c : Chunk) : Type 0 where
 pub record Lies (s : List ℕ) (p : Part) : Type 0 where
   pub ends : p.start + p.size ≤ length s
 
-pub chunk-within : (s : List ℕ) (at : ℕ) → Each (All (Within s at)) (chunkAt s at)
-unfolding chunkAt
-chunk-within s at =
-    each-pick (leb (length s) at) (λ _. each all_none)
-    (λ _. each-need (leb (at + 8) (length s)) 21 _ λ _. each-need (leb (at + 8 + padded (be32 s (at + 4))) (length s)) 21 _ λ h.
-    each (all-some (record { starts = omega arith; holds = omega arith; rises = omega arith; ends = leb-true (at + 8 + padded (be32 s (at + 4))) (length s) h })))
+pub chunk_within : (s : List ℕ) (at : ℕ) → Each (All (Within s at)) (chunk_at s at)
+unfolding chunk_at
+chunk_within s at =
+    each_pick (leb (length s) at) (λ _. each all_none)
+    (λ _. each_need (leb (at + 8) (length s)) 21 _ λ _. each_need (leb (at + 8 + padded (be32 s (at + 4))) (length s)) 21 _ λ h.
+    each (all_some (record { starts = omega arith; holds = omega arith; rises = omega arith; ends = leb-true (at + 8 + padded (be32 s (at + 4))) (length s) h })))
 
 -- the bytes that chunks take in their parent, without their pads
 abbrev taken : List Chunk → ℕ
@@ -55,31 +55,31 @@ record Before (s : List ℕ) (at : ℕ) (cs : List Chunk) : Type 0 where
   room : taken cs ≤ at
 
 walk_before : (s : List ℕ) (w : Walk) → Before s w.at w.passed → (r : Res (Option Chunk)) → Each (All (Within s w.at)) r
-    → Comes (λ (v : Walk). Before s v.at v.passed) (Each (Before s (length s))) (walkOn w r)
-walk_before s w b (ok none) h = comes-done (each (record { inside = omega arith; lie = b.lie; room = omega arith }))
+    → Comes (λ (v : Walk). Before s v.at v.passed) (Each (Before s (length s))) (walk_on w r)
+walk_before s w b (ok none) h = comes_done (each (record { inside = omega arith; lie = b.lie; room = omega arith }))
 walk_before s w b (ok (some c)) h =
-    let k : Within s w.at c = all-value (each-ok h) in
-    comes-next (record { inside = k.ends; lie = every_more {x = c} b.lie (record { ends = omega arith }); room = rw (taken_more w.passed c) (omega arith) })
-walk_before s w b (fault n) h = comes-done no_value
+    let k : Within s w.at c = all_value (each_ok h) in
+    comes_next (record { inside = k.ends; lie = every_more {x = c} b.lie (record { ends = omega arith }); room = rw (taken_more w.passed c) (omega arith) })
+walk_before s w b (fault n) h = comes_done no_value
 
-chunks-before : (s : List ℕ) → Each (Before s (length s)) (chunks s)
+chunks_before : (s : List ℕ) → Each (Before s (length s)) (chunks s)
 unfolding chunks
-chunks-before s =
-    iterate-holds (walkStep s) (λ w. length s - w.at) (fault 21) (λ (w : Walk). Before s w.at w.passed) (Each (Before s (length s))) no_value
-    (λ w b. walk_before s w b (chunkAt s w.at) (chunk-within s w.at)) (record { at = 0; passed = [] }) (record { inside = omega arith; lie = every-none; room = omega arith })
+chunks_before s =
+    iterate_holds (walk_step s) (λ w. length s - w.at) (fault 21) (λ (w : Walk). Before s w.at w.passed) (Each (Before s (length s))) no_value
+    (λ w b. walk_before s w b (chunk_at s w.at) (chunk_within s w.at)) (record { at = 0; passed = [] }) (record { inside = omega arith; lie = every_none; room = omega arith })
 
-first-lies : (id : ℕ) {s : List ℕ} {cs : List Chunk} → Every (λ (c : Chunk). Lies s (part_of c)) cs → All (Lies s) (first cs id)
-first-lies id every-none = all_none
-first-lies id {s} (every-cons {x = c} p ps) = pick-both (All (Lies s)) (eqb c.id id) (all-some p) (first-lies id ps)
+first_lies : (id : ℕ) {s : List ℕ} {cs : List Chunk} → Every (λ (c : Chunk). Lies s (part_of c)) cs → All (Lies s) (first cs id)
+first_lies id every_none = all_none
+first_lies id {s} (every_cons {x = c} p ps) = pick_both (All (Lies s)) (eqb c.id id) (all_some p) (first_lies id ps)
 
-pub find-lies : (id : ℕ) (s : List ℕ) → Each (All (Lies s)) (find s id)
+pub find_lies : (id : ℕ) (s : List ℕ) → Each (All (Lies s)) (find s id)
 unfolding find
-find-lies id s = each-bind (chunks-before s) λ cs b. each (first-lies id b.lie)
+find_lies id s = each_bind (chunks_before s) λ cs b. each (first_lies id b.lie)
 
-pub found : (n id : ℕ) (s : List ℕ) → Each (λ (p : Part). find s id ≡ ok (some p)) (find s id >>= orRefuse n)
-found n id s = each-bind (each-self (find s id)) go
+pub found : (n id : ℕ) (s : List ℕ) → Each (λ (p : Part). find s id ≡ ok (some p)) (find s id >>= or_refuse n)
+found n id s = each_bind (each_self (find s id)) go
   where
-    go : (o : Option Part) → find s id ≡ ok o → Each (λ (p : Part). find s id ≡ ok (some p)) (orRefuse n o)
+    go : (o : Option Part) → find s id ≡ ok o → Each (λ (p : Part). find s id ≡ ok (some p)) (or_refuse n o)
     go (some p) e = each e
     go none e = no_value
 
@@ -88,32 +88,32 @@ abbrev bytes : Option Part → ℕ
 bytes (some p) = p.size + 8
 bytes none = 0
 
-one-fits : (id : ℕ) (cs : List Chunk) → bytes (first cs id) ≤ taken cs
-one-fits id [] = omega arith
-one-fits id (c ∷ cs) = pick-both (λ o. bytes o ≤ c.size + 8 + taken cs) (eqb c.id id) (omega arith) (omega (arith, one-fits id cs))
+one_fits : (id : ℕ) (cs : List Chunk) → bytes (first cs id) ≤ taken cs
+one_fits id [] = omega arith
+one_fits id (c ∷ cs) = pick_both (λ o. bytes o ≤ c.size + 8 + taken cs) (eqb c.id id) (omega arith) (omega (arith, one_fits id cs))
 
 module _ (x y : ℕ) (differ : x ≡ y → ⊥) where
-  both-fit : (cs : List Chunk) → bytes (first cs x) + bytes (first cs y) ≤ taken cs
-  both-fit [] = omega arith
-  both-fit (c ∷ cs) = go (eqb c.id x) refl (eqb c.id y) refl (both-fit cs)
+  both_fit : (cs : List Chunk) → bytes (first cs x) + bytes (first cs y) ≤ taken cs
+  both_fit [] = omega arith
+  both_fit (c ∷ cs) = go (eqb c.id x) refl (eqb c.id y) refl (both_fit cs)
     where
       go : (t : Bool) → eqb c.id x ≡ t → (u : Bool) → eqb c.id y ≡ u → bytes (first cs x) + bytes (first cs y) ≤ taken cs
           → bytes (pick t (some (part_of c)) (first cs x)) + bytes (pick u (some (part_of c)) (first cs y)) ≤ c.size + 8 + taken cs
       go true p true q h = absurd (differ (sym (eqb-true c.id x p) ∙ eqb-true c.id y q))
-      go true p false q h = omega (arith, one-fits y cs)
-      go false p true q h = omega (arith, one-fits x cs)
+      go true p false q h = omega (arith, one_fits y cs)
+      go false p true q h = omega (arith, one_fits x cs)
       go false p false q h = omega arith
 
   -- so two chunks that a parent has leave room for their headers
-  pub parts-room : (s : List ℕ) (p q : Part) → find s x ≡ ok (some p) → find s y ≡ ok (some q) → p.size + 8 + (q.size + 8) ≤ length s
+  pub parts_room : (s : List ℕ) (p q : Part) → find s x ≡ ok (some p) → find s y ≡ ok (some q) → p.size + 8 + (q.size + 8) ≤ length s
   unfolding find
-  parts-room s p q e f =
+  parts_room s p q e f =
       let k = made_of (chunks s) e in
       let g = ok_same (rw k.1 at f) in
-      omega (arith, (each-is k.1 (chunks-before s)).room, rw (k.2, g) at (both-fit k.0))
+      omega (arith, (each_is k.1 (chunks_before s)).room, rw (k.2, g) at (both_fit k.0))
 
 -- the first chunk of an id in a list with one chunk more
-first_more : (id : ℕ) (cs : List Chunk) (c : Chunk) → ok (first (cs ++ (c ∷ [])) id) ≡ pick (eqb c.id id) (orPart (ok (first cs id)) (part_of c)) (ok (first cs id))
+first_more : (id : ℕ) (cs : List Chunk) (c : Chunk) → ok (first (cs ++ (c ∷ [])) id) ≡ pick (eqb c.id id) (or_part (ok (first cs id)) (part_of c)) (ok (first cs id))
 first_more id [] c = go (eqb c.id id)
   where
     go : (t : Bool) → ok (pick t (some (part_of c)) none) ≡ pick t (ok (some (part_of c))) (ok none)
@@ -121,8 +121,8 @@ first_more id [] c = go (eqb c.id id)
     go false = refl
 first_more id (d ∷ cs) c = go (eqb d.id id) (eqb c.id id) (first_more id cs c)
   where
-    go : (u t : Bool) → ok (first (cs ++ (c ∷ [])) id) ≡ pick t (orPart (ok (first cs id)) (part_of c)) (ok (first cs id))
-        → ok (pick u (some (part_of d)) (first (cs ++ (c ∷ [])) id)) ≡ pick t (orPart (ok (pick u (some (part_of d)) (first cs id))) (part_of c)) (ok (pick u (some (part_of d)) (first cs id)))
+    go : (u t : Bool) → ok (first (cs ++ (c ∷ [])) id) ≡ pick t (or_part (ok (first cs id)) (part_of c)) (ok (first cs id))
+        → ok (pick u (some (part_of d)) (first (cs ++ (c ∷ [])) id)) ≡ pick t (or_part (ok (pick u (some (part_of d)) (first cs id))) (part_of c)) (ok (pick u (some (part_of d)) (first cs id)))
     go true true h = refl
     go true false h = refl
     go false t h = h
@@ -130,41 +130,41 @@ first_more id (d ∷ cs) c = go (eqb d.id id) (eqb c.id id) (first_more id cs c)
 -- a walk at a place, and what the searches for three ids have found up to it
 pub record Searches (s : List ℕ) (x y z at : ℕ) (t : Three) : Type 0 where
   pub before : List Chunk
-  pub going : Going (walkStep s) (λ w. length s - w.at) (fault 21) (chunks s) (record { at = at; passed = before })
-  pub one : foundOf t.first ≡ ok (first before x)
-  pub two : foundOf t.second ≡ ok (first before y)
-  pub three : foundOf t.third ≡ ok (first before z)
+  pub going : Going (walk_step s) (λ w. length s - w.at) (fault 21) (chunks s) (record { at = at; passed = before })
+  pub one : found_of t.first ≡ ok (first before x)
+  pub two : found_of t.second ≡ ok (first before y)
+  pub three : found_of t.third ≡ ok (first before z)
 
-pub search-starts : (s : List ℕ) (x y z : ℕ) → Searches s x y z 0 (record { first = Missing; second = Missing; third = Missing })
+pub search_starts : (s : List ℕ) (x y z : ℕ) → Searches s x y z 0 (record { first = Missing; second = Missing; third = Missing })
 unfolding chunks
-search-starts s x y z = record { before = []; going = starts refl; one = refl; two = refl; three = refl }
+search_starts s x y z = record { before = []; going = starts refl; one = refl; two = refl; three = refl }
 
 -- what a search has found past a chunk, by what it had found before it
 abbrev Past : ℕ → Chunk → Found → Found → Type 0
-Past id c f g = foundOf g ≡ pick (eqb c.id id) (orPart (foundOf f) (part_of c)) (foundOf f)
+Past id c f g = found_of g ≡ pick (eqb c.id id) (or_part (found_of f) (part_of c)) (found_of f)
 
 module _ {s : List ℕ} {x y z at : ℕ} {t : Three} (h : Searches s x y z at t) where
-  pub search-past : {c : Chunk} {u : Three} → chunkAt s at ≡ ok (some c) → Past x c t.first u.first → Past y c t.second u.second → Past z c t.third u.third
+  pub search_past : {c : Chunk} {u : Three} → chunk_at s at ≡ ok (some c) → Past x c t.first u.first → Past y c t.second u.second → Past z c t.third u.third
       → Searches s x y z c.next u
-  search-past {c} e p q r =
-      let k : Within s at c = each-some e (chunk-within s at) in
+  search_past {c} e p q r =
+      let k : Within s at c = each_some e (chunk_within s at) in
       record {
         before = h.before ++ (c ∷ []);
-        going = turns h.going (ap (walkOn _) e) (omega (arith, k.rises, k.ends));
+        going = turns h.going (ap (walk_on _) e) (omega (arith, k.rises, k.ends));
         one = p ∙ rw h.one (sym (first_more x h.before c));
         two = q ∙ rw h.two (sym (first_more y h.before c));
         three = r ∙ rw h.three (sym (first_more z h.before c));
       }
 
-  pub search-ends : chunkAt s at ≡ ok none → FindsThree s x y z t
+  pub search_ends : chunk_at s at ≡ ok none → FindsThree s x y z t
   unfolding find
-  search-ends e =
-      let d : ok h.before ≡ chunks s = stops h.going (ap (walkOn _) e) in
+  search_ends e =
+      let d : ok h.before ≡ chunks s = stops h.going (ap (walk_on _) e) in
       record { first = rw (← d) h.one; second = rw (← d) h.two; third = rw (← d) h.three }
 
-  pub search-breaks : {why : Refusal} → chunkAt s at ≡ fault (number_of why)
+  pub search_breaks : {why : Refusal} → chunk_at s at ≡ fault (number_of why)
       → FindsThree s x y z (record { first = Refused why; second = Refused why; third = Refused why })
   unfolding find
-  search-breaks {why} e =
-      let d : fault (number_of why) ≡ chunks s = stops h.going (ap (walkOn _) e) in
+  search_breaks {why} e =
+      let d : fault (number_of why) ≡ chunks s = stops h.going (ap (walk_on _) e) in
       record { first = rw (← d) refl; second = rw (← d) refl; third = rw (← d) refl }

@@ -24,8 +24,8 @@ abbrev pub padded : ℕ → ℕ
 padded size = size + size % 2
 
 -- what stands at a place of a parent: a chunk, nothing at its end, or 21 for a chunk that passes it
-unfoldable pub chunkAt : List ℕ → ℕ → Res (Option Chunk)
-chunkAt s at =
+unfoldable pub chunk_at : List ℕ → ℕ → Res (Option Chunk)
+chunk_at s at =
     pick (leb (length s) at) (ok none)
     (need (leb (at + 8) (length s)) 21 >>= λ _.
     need (leb (at + 8 + padded (be32 s (at + 4))) (length s)) 21 >>= λ _.
@@ -37,17 +37,17 @@ pub record Walk : Type 0 where
   pub passed : List Chunk
 
 -- one turn: past a chunk, or to the answer where the parent ends or a chunk passes it
-abbrev pub walkOn : Walk → Res (Option Chunk) → Step Walk (Res (List Chunk))
-walkOn w (ok (some c)) = next (record { at = c.next; passed = w.passed ++ (c ∷ []) })
-walkOn w (ok none) = done (ok w.passed)
-walkOn w (fault n) = done (fault n)
+abbrev pub walk_on : Walk → Res (Option Chunk) → Step Walk (Res (List Chunk))
+walk_on w (ok (some c)) = next (record { at = c.next; passed = w.passed ++ (c ∷ []) })
+walk_on w (ok none) = done (ok w.passed)
+walk_on w (fault n) = done (fault n)
 
-abbrev pub walkStep : List ℕ → Walk → Step Walk (Res (List Chunk))
-walkStep s w = walkOn w (chunkAt s w.at)
+abbrev pub walk_step : List ℕ → Walk → Step Walk (Res (List Chunk))
+walk_step s w = walk_on w (chunk_at s w.at)
 
 -- the chunks of a parent in order, or 21: it is walked to its end
 unfoldable pub chunks : List ℕ → Res (List Chunk)
-chunks s = iterate (walkStep s) (λ w. length s - w.at) (fault 21) (record { at = 0; passed = [] })
+chunks s = iterate (walk_step s) (λ w. length s - w.at) (fault 21) (record { at = 0; passed = [] })
 
 -- where the contents of a chunk stand in its parent
 pub record Part : Type 0 where
@@ -67,45 +67,45 @@ unfoldable pub find : List ℕ → ℕ → Res (Option Part)
 find s id = chunks s >>= λ cs. ok (first cs id)
 
 -- whether a parent has a chunk of an id
-abbrev pub isThere : Option Part → Bool
-isThere (some p) = true
-isThere none = false
+abbrev pub is_there : Option Part → Bool
+is_there (some p) = true
+is_there none = false
 
 abbrev pub has : List ℕ → ℕ → Res Bool
-has s id = find s id >>= λ o. ok (isThere o)
+has s id = find s id >>= λ o. ok (is_there o)
 
 -- the bytes of a part
 abbrev pub bytes_of : List ℕ → Part → List ℕ
 bytes_of s p = take p.size (drop p.start s)
 
 -- the contents of the first chunk of an id, as a part of the parent; an empty part where there is none
-abbrev pub foundIn : List ℕ → Res (Option Part) → List ℕ
-foundIn s (ok (some p)) = bytes_of s p
-foundIn s (ok none) = []
-foundIn s (fault n) = []
+abbrev pub found_in : List ℕ → Res (Option Part) → List ℕ
+found_in s (ok (some p)) = bytes_of s p
+found_in s (ok none) = []
+found_in s (fault n) = []
 
 unfoldable pub contents : List ℕ → ℕ → List ℕ
-contents s id = foundIn s (find s id)
+contents s id = found_in s (find s id)
 
 -- what the answers say in the paper's terms
-abbrev pub standingOf : Standing → Res (Option Chunk)
-standingOf (Whole id start len nx) = ok (some (record { id = id; start = start; size = len; next = nx }))
-standingOf End = ok none
-standingOf (Refused why) = fault (number_of why)
+abbrev pub standing_of : Standing → Res (Option Chunk)
+standing_of (Whole id start len nx) = ok (some (record { id = id; start = start; size = len; next = nx }))
+standing_of End = ok none
+standing_of (Refused why) = fault (number_of why)
 
-abbrev pub foundOf : Found → Res (Option Part)
-foundOf (At start len) = ok (some (record { start = start; size = len }))
-foundOf Missing = ok none
-foundOf (FoundRefused why) = fault (number_of why)
+abbrev pub found_of : Found → Res (Option Part)
+found_of (At start len) = ok (some (record { start = start; size = len }))
+found_of Missing = ok none
+found_of (FoundRefused why) = fault (number_of why)
 
 -- the first chunks of three ids, found in one walk
 pub record FindsThree (s : List ℕ) (x y z : ℕ) (r : Three) : Type 0 where
-  pub first : foundOf r.first ≡ find s x
-  pub second : foundOf r.second ≡ find s y
-  pub third : foundOf r.third ≡ find s z
+  pub first : found_of r.first ≡ find s x
+  pub second : found_of r.second ≡ find s y
+  pub third : found_of r.third ≡ find s z
 
 -- the part found already, or this one if there is none
-abbrev pub orPart : Res (Option Part) → Part → Res (Option Part)
-orPart (ok none) p = ok (some p)
-orPart (ok (some q)) p = ok (some q)
-orPart (fault n) p = fault n
+abbrev pub or_part : Res (Option Part) → Part → Res (Option Part)
+or_part (ok none) p = ok (some p)
+or_part (ok (some q)) p = ok (some q)
+or_part (fault n) p = fault n

@@ -1,7 +1,7 @@
 // Chunks of an IFF file: what stands at a place, and the first chunk of an id, whose contents are a part of the lent slice.
 ghost use Rattle.std.specs.Prelude.{◌≡◌, eqb};
 ghost use Rattle.laws.specs.Result.{pick};
-ghost use Rattle.iff.specs.Chunk.{chunkAt, standingOf, find, foundOf, FindsThree, orPart, contents};
+ghost use Rattle.iff.specs.Chunk.{chunk_at, standing_of, find, found_of, FindsThree, or_part, contents};
 
 pub mod ids;
 
@@ -40,7 +40,7 @@ pub struct Three {
 
 // What stands at a place of a parent.
 pub fn chunk_at(s: &[u8], at: usize) -> Standing
-    ensures { standingOf result ≡ chunkAt s.now at }
+    ensures { standing_of result ≡ chunk_at s.now at }
 {
     if s.len() <= at {
         return Standing::End;
@@ -63,7 +63,7 @@ pub fn chunk_at(s: &[u8], at: usize) -> Standing
 
 // The part found so far, or else this chunk's, if it has the id.
 fn or_part(found: Found, wanted: usize, id: usize, start: usize, len: usize) -> Found
-    ensures { foundOf result ≡ pick (eqb id wanted) (orPart (foundOf found) (record { start = start; size = len })) (foundOf found) }
+    ensures { found_of result ≡ pick (eqb id wanted) (or_part (found_of found) (record { start = start; size = len })) (found_of found) }
 {
     if id != wanted {
         return found;
@@ -117,7 +117,7 @@ pub fn find_three(s: &[u8], first: usize, second: usize, third: usize) -> Three
 
 // The first chunk of an id.
 pub fn find(s: &[u8], wanted: usize) -> Found
-    ensures { foundOf result ≡ find s.now wanted }
+    ensures { found_of result ≡ find s.now wanted }
 {
     let p = find_three(s, wanted, wanted, wanted);
     p.first

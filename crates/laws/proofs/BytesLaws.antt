@@ -8,21 +8,21 @@ use mathlib.Core.List.{List, [], ◌∷◌, ◌++◌}
 use lib.Dec.{lit<}
 use lib.ListN.{length, get_or, take, drop, length-take, get_or-eq_default}
 use lib.Seq.{get_or-drop, get_or-take, take-add, drop-drop, get_or-append-add, get_or-append_seam}
-use Rattle.laws.specs.Bytes.{be16, be32, be32Bytes, word_of, Bytes}
-use Rattle.laws.proofs.StoreLaws.{four-at, length_part}
+use Rattle.laws.specs.Bytes.{be16, be32, be32_bytes, word_of, Bytes}
+use Rattle.laws.proofs.StoreLaws.{four_at, length_part}
 
-pub be32-bound : (s : List ℕ) (at : ℕ) → Bytes s → be32 s at < 4294967296
+pub be32_bound : (s : List ℕ) (at : ℕ) → Bytes s → be32 s at < 4294967296
 unfolding be32
-be32-bound s at h = omega (arith, h at, h (at + 1), h (at + 2), h (at + 3))
+be32_bound s at h = omega (arith, h at, h (at + 1), h (at + 2), h (at + 3))
 
 -- past the end there are only zeros
-pub be16-past : (s : List ℕ) (at : ℕ) → length s ≤ at → be16 s at ≡ 0
+pub be16_past : (s : List ℕ) (at : ℕ) → length s ≤ at → be16 s at ≡ 0
 unfolding be16
-be16-past s at h = simp (get_or-eq_default s 0 {n = at} h, get_or-eq_default s 0 {n = at + 1} (omega arith))
+be16_past s at h = simp (get_or-eq_default s 0 {n = at} h, get_or-eq_default s 0 {n = at + 1} (omega arith))
 
-pub be32-past : (s : List ℕ) (at : ℕ) → length s ≤ at → be32 s at ≡ 0
+pub be32_past : (s : List ℕ) (at : ℕ) → length s ≤ at → be32 s at ≡ 0
 unfolding be32
-be32-past s at h =
+be32_past s at h =
     simp (get_or-eq_default s 0 {n = at} h, get_or-eq_default s 0 {n = at + 1} (omega arith), get_or-eq_default s 0 {n = at + 2} (omega arith), get_or-eq_default s 0 {n = at + 3} (omega arith))
 
 -- what is left of bytes is bytes
@@ -49,27 +49,27 @@ four_bytes n h =
     let e' : n / 16777216 ≡ n / 256 / 256 / 256 = sym (div-div-eq-div-mul n 256 65536) ∙ sym (div-div-eq-div-mul (n / 256) 256 256) in
     rw (e', e) (digits n (n / 256) (n / 256 / 256) (n / 256 / 256 / 256) (n % 256) (n / 256 % 256) (n / 256 / 256 % 256) (n / 256 / 256 / 256 % 256) (div-add-mod' n 256) (div-add-mod' (n / 256) 256) (div-add-mod' (n / 256 / 256) 256) (mod-eq_of_lt (top n h)))
 
-pub length-be32 : (n : ℕ) → length (be32Bytes n) ≡ 4
-unfolding be32Bytes
-length-be32 n = refl
+pub length_be32 : (n : ℕ) → length (be32_bytes n) ≡ 4
+unfolding be32_bytes
+length_be32 n = refl
 
 -- a number in four bytes is read back
-pub be32-at : (xs ys : List ℕ) (n p : ℕ) → length xs ≡ p → n < 4294967296 → be32 (xs ++ (be32Bytes n ++ ys)) p ≡ n
-unfolding be32 be32Bytes
-be32-at xs ys n p e h =
-    let l : List ℕ = be32Bytes n ++ ys in
+pub be32_at : (xs ys : List ℕ) (n p : ℕ) → length xs ≡ p → n < 4294967296 → be32 (xs ++ (be32_bytes n ++ ys)) p ≡ n
+unfolding be32 be32_bytes
+be32_at xs ys n p e h =
+    let l : List ℕ = be32_bytes n ++ ys in
     rw (← e) (rw (get_or-append_seam xs (n / 16777216 % 256) (n / 65536 % 256 ∷ n / 256 % 256 ∷ n % 256 ∷ ys) 0, get_or-append-add xs l 1 0, get_or-append-add xs l 2 0, get_or-append-add xs l 3 0) (four_bytes n h))
 
 -- a word of four bytes at a place, and one of two halves
-pub word-four : (s : List ℕ) (at : ℕ) → at + 4 ≤ length s → word_of (take 4 (drop at s)) ≡ get_or s at 0 + 256 * get_or s (at + 1) 0 + 65536 * get_or s (at + 2) 0 + 16777216 * get_or s (at + 3) 0
+pub word_four : (s : List ℕ) (at : ℕ) → at + 4 ≤ length s → word_of (take 4 (drop at s)) ≡ get_or s at 0 + 256 * get_or s (at + 1) 0 + 65536 * get_or s (at + 2) 0 + 16777216 * get_or s (at + 3) 0
 unfolding word_of
-word-four s at h = rw (four-at s at h) (omega arith)
+word_four s at h = rw (four_at s at h) (omega arith)
 
-word-append : (xs ys : List ℕ) → word_of (xs ++ ys) ≡ word_of xs + 256 ^ length xs * word_of ys
+word_append : (xs ys : List ℕ) → word_of (xs ++ ys) ≡ word_of xs + 256 ^ length xs * word_of ys
 unfolding word_of
-word-append [] ys = omega arith
-word-append (x ∷ xs) ys = rw (word-append xs ys, pow-suc 256 (length xs)) (omega arith)
+word_append [] ys = omega arith
+word_append (x ∷ xs) ys = rw (word_append xs ys, pow-suc 256 (length xs)) (omega arith)
 
-pub word-halves : (s : List ℕ) (at : ℕ) → at + 8 ≤ length s → word_of (take 8 (drop at s)) ≡ word_of (take 4 (drop at s)) + 4294967296 * word_of (take 4 (drop (at + 4) s))
-word-halves s at h =
-    rw (take-add 4 4 (drop at s), drop-drop 4 at s, word-append (take 4 (drop at s)) (take 4 (drop (at + 4) s)), length_part s at 4 (omega arith))
+pub word_halves : (s : List ℕ) (at : ℕ) → at + 8 ≤ length s → word_of (take 8 (drop at s)) ≡ word_of (take 4 (drop at s)) + 4294967296 * word_of (take 4 (drop (at + 4) s))
+word_halves s at h =
+    rw (take-add 4 4 (drop at s), drop-drop 4 at s, word_append (take 4 (drop at s)) (take 4 (drop (at + 4) s)), length_part s at 4 (omega arith))

@@ -13,7 +13,7 @@ use lib.Seq.{take-take, take_all, take-append-le, length-take-le, drop-length, d
 use borrow.Author.Fill.{fill_more}
 use Rattle.laws.specs.Result.{pick}
 use Rattle.laws.specs.Store.{Copied, over}
-use Rattle.laws.proofs.ResultLaws.{pick-both}
+use Rattle.laws.proofs.ResultLaws.{pick_both}
 
 -- bytes that are there are as many as were asked for
 pub length_part : (s : List ℕ) (from count : ℕ) → from + count ≤ length s → length (take count (drop from s)) ≡ count
@@ -22,17 +22,17 @@ length_part s from count h = length-take-le count (drop from s) (simp length-dro
 pub copied_none : {s d : List ℕ} → Copied d s 0 d
 copied_none = record { is = refl }
 
-copy-suc : (n : ℕ) (s d : List ℕ) → n < length s → n < length d → set (take n s ++ drop n d) n (get_or s n 0) ≡ take (suc n) s ++ drop (suc n) d
-copy-suc n [] d h k = absurd (not-suc-le-zero h)
-copy-suc n (x ∷ s) [] h k = absurd (not-suc-le-zero k)
-copy-suc zero (x ∷ s) (y ∷ d) h k = refl
-copy-suc (suc n) (x ∷ s) (y ∷ d) h k = ap (λ (t : List ℕ). x ∷ t) (copy-suc n s d (le_of_suc-le-suc h) (le_of_suc-le-suc k))
+copy_suc : (n : ℕ) (s d : List ℕ) → n < length s → n < length d → set (take n s ++ drop n d) n (get_or s n 0) ≡ take (suc n) s ++ drop (suc n) d
+copy_suc n [] d h k = absurd (not-suc-le-zero h)
+copy_suc n (x ∷ s) [] h k = absurd (not-suc-le-zero k)
+copy_suc zero (x ∷ s) (y ∷ d) h k = refl
+copy_suc (suc n) (x ∷ s) (y ∷ d) h k = ap (λ (t : List ℕ). x ∷ t) (copy_suc n s d (le_of_suc-le-suc h) (le_of_suc-le-suc k))
 
 pub copied_more : {s d x : List ℕ} {n : ℕ} → Copied d s n x → n < length s → n < length d → Copied d s (n + 1) (set x n (get_or s n 0))
-copied_more {s} {d} {x} {n} w h k = record { is = rw (add-one, w.is) (copy-suc n s d h k) }
+copied_more {s} {d} {x} {n} w h k = record { is = rw (add-one, w.is) (copy_suc n s d h k) }
 
-pub copied-to : {s d x : List ℕ} {m n : ℕ} → Copied d s m x → m ≡ n → Copied d s n x
-copied-to w e = rw e at w
+pub copied_to : {s d x : List ℕ} {m n : ℕ} → Copied d s m x → m ≡ n → Copied d s n x
+copied_to w e = rw e at w
 
 pub copied_all : {s d x : List ℕ} {n : ℕ} → Copied d s n x → n ≡ min (length d) (length s) → x ≡ over d s
 unfolding over
@@ -43,20 +43,20 @@ copied_all {s} {d} {x} {n} w e = w.is ∙ go (dec_le (length d) (length s))
     go (no h) = let k : n ≡ length s = omega arith in simp (k, take_all (length s) s (omega arith), take_all (length d) s (omega arith))
 
 -- the bytes that a copy has passed are those of s
-pub copied-front : {s d x : List ℕ} {n : ℕ} → Copied d s n x → n ≤ length s → (m : ℕ) → m ≤ n → take m x ≡ take m s
-copied-front {s} {d} {x} {n} w h m k =
+pub copied_front : {s d x : List ℕ} {n : ℕ} → Copied d s n x → n ≤ length s → (m : ℕ) → m ≤ n → take m x ≡ take m s
+copied_front {s} {d} {x} {n} w h m k =
     rw w.is (take-append-le m (take n s) (drop n d) (simp (length-take-le n s h) k) ∙ take-take m n s k)
 
 -- past the front of p ++ drop m x stands what stands there in x
-past-front : (m n : ℕ) (p x : List ℕ) → length p ≡ m → m ≤ n → drop n (p ++ drop m x) ≡ drop n x
-past-front m n p x l h =
+past_front : (m n : ℕ) (p x : List ℕ) → length p ≡ m → m ≤ n → drop n (p ++ drop m x) ≡ drop n x
+past_front m n p x l h =
     let i : m + (n - m) ≡ n = omega arith in
     rw i at (sym (drop-drop (n - m) m (p ++ drop m x)) ∙ ap (drop (n - m)) (drop_at p (drop m x) m l) ∙ drop-drop (n - m) m x)
 
 -- a copy that goes on from another
-pub copied-then : {s d x y : List ℕ} {m n : ℕ} → Copied d s m x → m ≤ length s → m ≤ n → Copied x s n y → Copied d s n y
-copied-then {s} {d} {x} {y} {m} {n} w h k v =
-    record { is = v.is ∙ ap (λ (t : List ℕ). take n s ++ t) (rw w.is (past-front m n (take m s) d (length-take-le m s h) k)) }
+pub copied_then : {s d x y : List ℕ} {m n : ℕ} → Copied d s m x → m ≤ length s → m ≤ n → Copied x s n y → Copied d s n y
+copied_then {s} {d} {x} {y} {m} {n} w h k v =
+    record { is = v.is ∙ ap (λ (t : List ℕ). take n s ++ t) (rw w.is (past_front m n (take m s) d (length-take-le m s h) k)) }
 
 -- a copy of n bytes, of which the first j are those of s already
 pub record Going (s d : List ℕ) (n j : ℕ) (x : List ℕ) : Type 0 where
@@ -64,48 +64,48 @@ pub record Going (s d : List ℕ) (n j : ℕ) (x : List ℕ) : Type 0 where
   pub rest : drop n x ≡ drop n d
   pub long : length x ≡ length d
 
-pub going-from : {s d : List ℕ} {n j : ℕ} → take j d ≡ take j s → Going s d n j d
-going-from e = record { front = e; rest = refl; long = refl }
+pub going_from : {s d : List ℕ} {n j : ℕ} → take j d ≡ take j s → Going s d n j d
+going_from e = record { front = e; rest = refl; long = refl }
 
-pub going-block : {s d x : List ℕ} {n j : ℕ} → Going s d n j x → (k : ℕ) → j + k ≤ n → n ≤ length s → n ≤ length d → Going s d n (j + k) (sets x j (take k (drop j s)))
-going-block {s} {d} {x} {n} {j} w k h a b =
+pub going_block : {s d x : List ℕ} {n j : ℕ} → Going s d n j x → (k : ℕ) → j + k ≤ n → n ≤ length s → n ≤ length d → Going s d n (j + k) (sets x j (take k (drop j s)))
+going_block {s} {d} {x} {n} {j} w k h a b =
     let l : length (take k (drop j s)) ≡ k = length_part s j k (omega arith) in
     let c = w.long in
     let e : sets x j (take k (drop j s)) ≡ take (j + k) s ++ drop (j + k) x =
     sets-eq (take k (drop j s)) x j (omega arith) ∙ rw (l, w.front, take-add j k s) refl in
     let m : length (take (j + k) s) ≡ j + k = length-take-le (j + k) s (omega arith) in
-    record { front = rw e (take_at (take (j + k) s) (drop (j + k) x) (j + k) m); rest = rw e (past-front (j + k) n (take (j + k) s) x m h ∙ w.rest); long = length-sets x j (take k (drop j s)) ∙ c }
+    record { front = rw e (take_at (take (j + k) s) (drop (j + k) x) (j + k) m); rest = rw e (past_front (j + k) n (take (j + k) s) x m h ∙ w.rest); long = length-sets x j (take k (drop j s)) ∙ c }
 
 pub going_done : {s d x : List ℕ} {n : ℕ} → Going s d n n x → Copied d s n x
 going_done {s} {d} {x} {n} w = record { is = sym (take-append-drop n x) ∙ rw (w.front, w.rest) refl }
 
 -- the last 32 of n bytes, eight at a time
-pub copied-last : {s d x y z v : List ℕ} {n : ℕ} → 32 ≤ n → n ≤ length s → n ≤ length d → take (n - 32) d ≡ take (n - 32) s
+pub copied_last : {s d x y z v : List ℕ} {n : ℕ} → 32 ≤ n → n ≤ length s → n ≤ length d → take (n - 32) d ≡ take (n - 32) s
     → x ≡ sets d (n - 32) (take 8 (drop (n - 32) s)) → y ≡ sets x (n - 24) (take 8 (drop (n - 24) s)) → z ≡ sets y (n - 16) (take 8 (drop (n - 16) s)) → v ≡ sets z (n - 8) (take 8 (drop (n - 8) s))
     → Copied d s n v
-copied-last {s} {d} {x} {y} {z} {v} {n} h k l e ex ey ez ev = going_done (step (n - 8) n (omega arith, omega arith) ev (step (n - 16) (n - 8) (omega arith, omega arith) ez (step (n - 24) (n - 16) (omega arith, omega arith) ey (step (n - 32) (n - 24) (omega arith, omega arith) ex (going-from e)))))
+copied_last {s} {d} {x} {y} {z} {v} {n} h k l e ex ey ez ev = going_done (step (n - 8) n (omega arith, omega arith) ev (step (n - 16) (n - 8) (omega arith, omega arith) ez (step (n - 24) (n - 16) (omega arith, omega arith) ey (step (n - 32) (n - 24) (omega arith, omega arith) ex (going_from e)))))
   where
     step : (i j : ℕ) → (i + 8 ≡ j) × (j ≤ n) → {f g : List ℕ} → g ≡ sets f i (take 8 (drop i s)) → Going s d n i f → Going s d n j g
-    step i j b q w = rw (q, ← b.0) (going-block w 8 (omega (arith, b.0, b.1)) k l)
+    step i j b q w = rw (q, ← b.0) (going_block w 8 (omega (arith, b.0, b.1)) k l)
 
 -- four bytes that are stored one after the other, and four that stand so
-pub stored-four : (d : List ℕ) (at w x y z : ℕ) → set (set (set (set d at w) (at + 1) x) (at + 2) y) (at + 3) z ≡ sets d at (w ∷ x ∷ y ∷ z ∷ [])
-stored-four d at w x y z =
+pub stored_four : (d : List ℕ) (at w x y z : ℕ) → set (set (set (set d at w) (at + 1) x) (at + 2) y) (at + 3) z ≡ sets d at (w ∷ x ∷ y ∷ z ∷ [])
+stored_four d at w x y z =
     let e : at + 2 ≡ suc (suc at) = omega arith in
     let f : at + 3 ≡ suc (suc (suc at)) = omega arith in
     rw (add-one at, e, f)
 
-pub four-at : (s : List ℕ) (at : ℕ) → at + 4 ≤ length s → take 4 (drop at s) ≡ get_or s at 0 ∷ get_or s (at + 1) 0 ∷ get_or s (at + 2) 0 ∷ get_or s (at + 3) 0 ∷ []
-four-at s at h =
+pub four_at : (s : List ℕ) (at : ℕ) → at + 4 ≤ length s → take 4 (drop at s) ≡ get_or s at 0 ∷ get_or s (at + 1) 0 ∷ get_or s (at + 2) 0 ∷ get_or s (at + 3) 0 ∷ []
+four_at s at h =
     let e : at + 2 ≡ suc (suc at) = omega arith in
     let f : at + 3 ≡ suc (suc (suc at)) = omega arith in
     rw (drop-cons s at 0 (omega arith), drop-cons s (suc at) 0 (omega arith), drop-cons s (suc (suc at)) 0 (omega arith), drop-cons s (suc (suc (suc at))) 0 (omega arith), add-one at, e, f)
 
 -- eight bytes that are stored one after the other
-pub stored-eight : (s d : List ℕ) (at : ℕ) → at + 8 ≤ length s
+pub stored_eight : (s d : List ℕ) (at : ℕ) → at + 8 ≤ length s
     → set (set (set (set (set (set (set (set d at (get_or s at 0)) (at + 1) (get_or s (at + 1) 0)) (at + 2) (get_or s (at + 2) 0)) (at + 3) (get_or s (at + 3) 0)) (at + 4) (get_or s (at + 4) 0)) (at + 5) (get_or s (at + 5) 0)) (at + 6) (get_or s (at + 6) 0)) (at + 7) (get_or s (at + 7) 0)
     ≡ sets d at (take 8 (drop at s))
-stored-eight s d at h =
+stored_eight s d at h =
     let e2 : at + 2 ≡ suc (suc at) = omega arith in
     let e3 : at + 3 ≡ suc (suc (suc at)) = omega arith in
     let e4 : at + 4 ≡ suc (suc (suc (suc at))) = omega arith in
@@ -115,9 +115,9 @@ stored-eight s d at h =
     rw (add-one at, e2, e3, e4, e5, e6, e7, drop-cons s at 0 (omega arith), drop-cons s (suc at) 0 (omega arith), drop-cons s (suc (suc at)) 0 (omega arith), drop-cons s (suc (suc (suc at))) 0 (omega arith), drop-cons s (suc (suc (suc (suc at)))) 0 (omega arith), drop-cons s (suc (suc (suc (suc (suc at))))) 0 (omega arith), drop-cons s (suc (suc (suc (suc (suc (suc at)))))) 0 (omega arith), drop-cons s (suc (suc (suc (suc (suc (suc (suc at))))))) 0 (omega arith)) refl
 
 -- as long as d, s takes its place whole
-pub over-whole : (s d : List ℕ) → length d ≡ length s → over d s ≡ s
+pub over_whole : (s d : List ℕ) → length d ≡ length s → over d s ≡ s
 unfolding over
-over-whole s d h = simp (take_all (length d) s (omega arith), drop_of_length-le d {i = length s} (omega arith), append-nil)
+over_whole s d h = simp (take_all (length d) s (omega arith), drop_of_length-le d {i = length s} (omega arith), append-nil)
 
 -- what is laid over d leaves its length
 pub length_over : (s d : List ℕ) → length (over d s) ≡ length d
@@ -125,9 +125,9 @@ unfolding over
 length_over s d = simp (length-append, length-take, length-drop) (omega arith)
 
 -- what passes d's end is not laid over it
-pub over-front : (d s : List ℕ) → over d (take (length d) s) ≡ over d s
+pub over_front : (d s : List ℕ) → over d (take (length d) s) ≡ over d s
 unfolding over
-over-front d s = go (dec_le (length s) (length d))
+over_front d s = go (dec_le (length s) (length d))
   where
     go : Dec (length s ≤ length d) → take (length d) (take (length d) s) ++ drop (length (take (length d) s)) d ≡ take (length d) s ++ drop (length s) d
     go (yes h) = rw (take_all (length d) s h) (rw (take_all (length d) s h))
@@ -146,36 +146,36 @@ filled_none = record { is = refl }
 pub filled_more : {v : ℕ} {d x : List ℕ} {n : ℕ} → Filled v d n x → n < length d → Filled v d (n + 1) (set x n v)
 filled_more {v} {d} {x} {n} w h = record { is = rw w.is (fill_more n v d h) }
 
-pub filled-all : {v : ℕ} {d x : List ℕ} {n : ℕ} → Filled v d n x → n ≡ length d → x ≡ replicate (length d) v
-filled-all {v} {d} {x} {n} w e = w.is ∙ simp (e, drop-length d, append-nil)
+pub filled_all : {v : ℕ} {d x : List ℕ} {n : ℕ} → Filled v d n x → n ≡ length d → x ≡ replicate (length d) v
+filled_all {v} {d} {x} {n} w e = w.is ∙ simp (e, drop-length d, append-nil)
 
 -- a part of a buffer that was lent and came back with other bytes
-pub sets-part : (a e : ℕ) (xs vs : List ℕ) → a ≤ e → e ≤ length xs → length vs ≡ e - a → take a xs ++ (vs ++ drop (e - a) (drop a xs)) ≡ sets xs a vs
-sets-part a e xs vs h k l =
+pub sets_part : (a e : ℕ) (xs vs : List ℕ) → a ≤ e → e ≤ length xs → length vs ≡ e - a → take a xs ++ (vs ++ drop (e - a) (drop a xs)) ≡ sets xs a vs
+sets_part a e xs vs h k l =
     let m : a + length vs ≤ length xs = omega arith in
     sym (rw (sets-eq vs xs a m, l, drop-drop (e - a) a xs, append_assoc (take a xs) vs (drop (a + (e - a)) xs)) refl)
 
 -- stores that follow one another
-pub sets-append : (f : List ℕ) (at : ℕ) (vs ws : List ℕ) → sets (sets f at vs) (at + length vs) ws ≡ sets f at (vs ++ ws)
-sets-append f at [] ws = ap (λ (k : ℕ). sets f k ws) (omega arith)
-sets-append f at (v ∷ vs) ws = ap (λ (k : ℕ). sets (sets (set f at v) (suc at) vs) k ws) (omega arith) ∙ sets-append (set f at v) (suc at) vs ws
+pub sets_append : (f : List ℕ) (at : ℕ) (vs ws : List ℕ) → sets (sets f at vs) (at + length vs) ws ≡ sets f at (vs ++ ws)
+sets_append f at [] ws = ap (λ (k : ℕ). sets f k ws) (omega arith)
+sets_append f at (v ∷ vs) ws = ap (λ (k : ℕ). sets (sets (set f at v) (suc at) vs) k ws) (omega arith) ∙ sets_append (set f at v) (suc at) vs ws
 
 -- stores behind other bytes
-set-behind : (p x : List ℕ) (k v : ℕ) → set (p ++ x) (length p + k) v ≡ p ++ set x k v
-set-behind [] x k v = rw (zero-add k)
-set-behind (y ∷ p) x k v = rw (suc-add (length p) k) (ap (λ (t : List ℕ). y ∷ t) (set-behind p x k v))
+set_behind : (p x : List ℕ) (k v : ℕ) → set (p ++ x) (length p + k) v ≡ p ++ set x k v
+set_behind [] x k v = rw (zero-add k)
+set_behind (y ∷ p) x k v = rw (suc-add (length p) k) (ap (λ (t : List ℕ). y ∷ t) (set_behind p x k v))
 
 pub sets_behind : (p x : List ℕ) (k : ℕ) (vs : List ℕ) → sets (p ++ x) (length p + k) vs ≡ p ++ sets x k vs
 sets_behind p x k [] = refl
-sets_behind p x k (v ∷ vs) = rw (set-behind p x k v, ← (add-suc (length p) k)) (sets_behind p (set x k v) (suc k) vs)
+sets_behind p x k (v ∷ vs) = rw (set_behind p x k v, ← (add-suc (length p) k)) (sets_behind p (set x k v) (suc k) vs)
 
 -- two buffers that agree at a place, or are both written there, agree there after the same stores
-pub sets-agree : (f g : List ℕ) (at : ℕ) (vs : List ℕ) (j : ℕ) → length f ≡ length g → j < length f → (get_or f j 0 ≡ get_or g j 0) ⊎ ((at ≤ j) × (j < at + length vs))
+pub sets_agree : (f g : List ℕ) (at : ℕ) (vs : List ℕ) (j : ℕ) → length f ≡ length g → j < length f → (get_or f j 0 ≡ get_or g j 0) ⊎ ((at ≤ j) × (j < at + length vs))
     → get_or (sets f at vs) j 0 ≡ get_or (sets g at vs) j 0
-sets-agree f g at [] j l h (inl e) = e
-sets-agree f g at [] j l h (inr b) = absurd (omega arith)
-sets-agree f g at (v ∷ vs) j l h w =
-    sets-agree (set f at v) (set g at v) (suc at) vs j (simp length-set l) (simp length-set h) (go (ℕ_discrete j at) w)
+sets_agree f g at [] j l h (inl e) = e
+sets_agree f g at [] j l h (inr b) = absurd (omega arith)
+sets_agree f g at (v ∷ vs) j l h w =
+    sets_agree (set f at v) (set g at v) (suc at) vs j (simp length-set l) (simp length-set h) (go (ℕ_discrete j at) w)
   where
     go : Dec (j ≡ at) → (get_or f j 0 ≡ get_or g j 0) ⊎ ((at ≤ j) × (j < at + length (v ∷ vs))) → (get_or (set f at v) j 0 ≡ get_or (set g at v) j 0) ⊎ ((suc at ≤ j) × (j < suc at + length vs))
     go (yes e) w' = inl (rw e (get_or-set_same f at v 0 (omega arith) ∙ sym (get_or-set_same g at v 0 (omega arith))))
@@ -183,51 +183,51 @@ sets-agree f g at (v ∷ vs) j l h w =
     go (no n) (inr b) = inr (omega (arith, b.0, b.1), omega (arith, b.0, b.1))
 
 -- n bytes of s, copied into the part of f that was lent for them
-pub lent-copy : (f s : List ℕ) (a b n : ℕ) (y : List ℕ) → a + n ≤ length f → b + n ≤ length s → y ≡ over (take (a + n - a) (drop a f)) (take (b + n - b) (drop b s))
+pub lent_copy : (f s : List ℕ) (a b n : ℕ) (y : List ℕ) → a + n ≤ length f → b + n ≤ length s → y ≡ over (take (a + n - a) (drop a f)) (take (b + n - b) (drop b s))
     → take a f ++ (y ++ drop (a + n - a) (drop a f)) ≡ sets f a (take n (drop b s))
-lent-copy f s a b n y h k e =
+lent_copy f s a b n y h k e =
     let i : a + n - a ≡ n = omega arith in
     let j : b + n - b ≡ n = omega arith in
     let l : length (take n (drop b s)) ≡ n = length_part s b n (omega arith) in
     let m : length (take n (drop a f)) ≡ n = length_part f a n (omega arith) in
-    let w : y ≡ take n (drop b s) = e ∙ rw (i, j) (over-whole (take n (drop b s)) (take n (drop a f)) (m ∙ sym l)) in
-    rw w (sets-part a (a + n) f (take n (drop b s)) (omega arith) h (l ∙ sym i))
+    let w : y ≡ take n (drop b s) = e ∙ rw (i, j) (over_whole (take n (drop b s)) (take n (drop a f)) (m ∙ sym l)) in
+    rw w (sets_part a (a + n) f (take n (drop b s)) (omega arith) h (l ∙ sym i))
 
 -- stores past the end change nothing
-sets-past : (d : List ℕ) (at : ℕ) (vs : List ℕ) → length d ≤ at → sets d at vs ≡ d
-sets-past d at [] h = refl
-sets-past d at (v ∷ vs) h = sets-past (set d at v) (suc at) vs (simp length-set (omega arith)) ∙ set_out d at v h
+sets_past : (d : List ℕ) (at : ℕ) (vs : List ℕ) → length d ≤ at → sets d at vs ≡ d
+sets_past d at [] h = refl
+sets_past d at (v ∷ vs) h = sets_past (set d at v) (suc at) vs (simp length-set (omega arith)) ∙ set_out d at v h
 
-sets-most : (d : List ℕ) (at : ℕ) (vs : List ℕ) (n : ℕ) → length d ≤ at + n → sets d at vs ≡ sets d at (take n vs)
-sets-most d at vs zero h = sets-past d at vs (omega arith)
-sets-most d at [] (suc n) h = refl
-sets-most d at (v ∷ vs) (suc n) h = sets-most (set d at v) (suc at) vs n (simp length-set (omega arith))
+sets_most : (d : List ℕ) (at : ℕ) (vs : List ℕ) (n : ℕ) → length d ≤ at + n → sets d at vs ≡ sets d at (take n vs)
+sets_most d at vs zero h = sets_past d at vs (omega arith)
+sets_most d at [] (suc n) h = refl
+sets_most d at (v ∷ vs) (suc n) h = sets_most (set d at v) (suc at) vs n (simp length-set (omega arith))
 
 -- count bytes of s from a place on, copied as far as both buffers go, are all that can be stored
-pub copied-most : (d s : List ℕ) (to from count n : ℕ) → n ≡ min count (min (length d - to) (length s - from)) → sets d to (take n (drop from s)) ≡ sets d to (take count (drop from s))
-copied-most d s to from count n e = go (dec_le (length d) (to + n)) (dec_le count n)
+pub copied_most : (d s : List ℕ) (to from count n : ℕ) → n ≡ min count (min (length d - to) (length s - from)) → sets d to (take n (drop from s)) ≡ sets d to (take count (drop from s))
+copied_most d s to from count n e = go (dec_le (length d) (to + n)) (dec_le count n)
   where
     go : Dec (length d ≤ to + n) → Dec (count ≤ n) → sets d to (take n (drop from s)) ≡ sets d to (take count (drop from s))
-    go (yes h) k = sym (sets-most d to (take count (drop from s)) n h ∙ rw (take-take n count (drop from s) (omega arith)))
+    go (yes h) k = sym (sets_most d to (take count (drop from s)) n h ∙ rw (take-take n count (drop from s) (omega arith)))
     go (no h) (yes k) = let f : n ≡ count = omega arith in rw f
     go (no h) (no k) = rw (take_all n (drop from s) (simp length-drop (omega arith)), take_all count (drop from s) (simp length-drop (omega arith)))
 
 -- copied to or not, a buffer keeps its length
-pub wanted-length : (wanted : Bool) (d : List ℕ) (at : ℕ) (vs : List ℕ) → length (pick wanted (sets d at vs) d) ≡ length d
-wanted-length t d at vs = pick-both (λ (g : List ℕ). length g ≡ length d) t (length-sets d at vs) refl
+pub wanted_length : (wanted : Bool) (d : List ℕ) (at : ℕ) (vs : List ℕ) → length (pick wanted (sets d at vs) d) ≡ length d
+wanted_length t d at vs = pick_both (λ (g : List ℕ). length g ≡ length d) t (length-sets d at vs) refl
 
 -- the part of f that was lent, filled with v
-pub lent-fill : (f : List ℕ) (a n v : ℕ) (y : List ℕ) → a + n ≤ length f → y ≡ replicate (length (take (a + n - a) (drop a f))) v
+pub lent_fill : (f : List ℕ) (a n v : ℕ) (y : List ℕ) → a + n ≤ length f → y ≡ replicate (length (take (a + n - a) (drop a f))) v
     → take a f ++ (y ++ drop (a + n - a) (drop a f)) ≡ sets f a (replicate n v)
-lent-fill f a n v y h e =
+lent_fill f a n v y h e =
     let i : a + n - a ≡ n = omega arith in
     let m : length (take n (drop a f)) ≡ n = length_part f a n (omega arith) in
     let w : y ≡ replicate n v = e ∙ rw (i, m) refl in
-    rw w (sets-part a (a + n) f (replicate n v) (omega arith) h (length-replicate n v ∙ sym i))
+    rw w (sets_part a (a + n) f (replicate n v) (omega arith) h (length-replicate n v ∙ sym i))
 
 -- a part of a part is a part of the whole
-pub part-of-part : (s n e : ℕ) (f : List ℕ) → s + n ≤ e → take n (drop s (take e f)) ≡ take n (drop s f)
-part-of-part zero n e f h = take-take n e f (omega arith)
-part-of-part (suc s) n zero f h = absurd (omega arith)
-part-of-part (suc s) n (suc e) [] h = refl
-part-of-part (suc s) n (suc e) (x ∷ f) h = part-of-part s n e f (omega arith)
+pub part_of_part : (s n e : ℕ) (f : List ℕ) → s + n ≤ e → take n (drop s (take e f)) ≡ take n (drop s f)
+part_of_part zero n e f h = take-take n e f (omega arith)
+part_of_part (suc s) n zero f h = absurd (omega arith)
+part_of_part (suc s) n (suc e) [] h = refl
+part_of_part (suc s) n (suc e) (x ∷ f) h = part_of_part s n e f (omega arith)

@@ -10,8 +10,8 @@ unfoldable pub be32 : List ℕ → ℕ → ℕ
 be32 s at = get_or s at 0 * 16777216 + get_or s (at + 1) 0 * 65536 + get_or s (at + 2) 0 * 256 + get_or s (at + 3) 0
 
 -- a number in four bytes, the highest first
-unfoldable pub be32Bytes : ℕ → List ℕ
-be32Bytes n = n / 16777216 % 256 ∷ n / 65536 % 256 ∷ n / 256 % 256 ∷ n % 256 ∷ []
+unfoldable pub be32_bytes : ℕ → List ℕ
+be32_bytes n = n / 16777216 % 256 ∷ n / 65536 % 256 ∷ n / 256 % 256 ∷ n % 256 ∷ []
 
 -- bytes as one number, the lowest first
 unfoldable pub word_of : List ℕ → ℕ

@@ -19,14 +19,14 @@ need true n = ok tt
 need false n = fault n
 
 -- refuses with n where there is no value
-abbrev pub orRefuse : {A : Type 0} → ℕ → Option A → Res A
-orRefuse n (some a) = ok a
-orRefuse n none = fault n
+abbrev pub or_refuse : {A : Type 0} → ℕ → Option A → Res A
+or_refuse n (some a) = ok a
+or_refuse n none = fault n
 
 -- the value, or what was there before if there is none
-abbrev pub orKeep : {A : Type 0} → A → Res A → A
-orKeep b (ok a) = a
-orKeep b (fault n) = b
+abbrev pub or_keep : {A : Type 0} → A → Res A → A
+or_keep b (ok a) = a
+or_keep b (fault n) = b
 
 -- what a call leaves: what is made of the value, or what was there before if there is none
 abbrev pub leaves : {A B : Type 0} → B → (A → B) → Res A → B

@@ -6,8 +6,8 @@ unfoldable pub over : List ℕ → List ℕ → List ℕ
 over d s = take (length d) s ++ drop (length s) d
 
 -- a buffer with bytes at its front; the bytes past them stay
-abbrev pub withFront : List ℕ → List ℕ → List ℕ
-withFront out bytes = bytes ++ drop (length bytes) out
+abbrev pub with_front : List ℕ → List ℕ → List ℕ
+with_front out bytes = bytes ++ drop (length bytes) out
 
 -- a copy that has gone n bytes far
 pub record Copied (d s : List ℕ) (n : ℕ) (x : List ℕ) : Type 0 where

@@ -12,33 +12,33 @@ use Rattle.laws.specs.Store.{over}
 use Rattle.laws.proofs.StoreLaws.{length_over}
 use Rattle.lines.specs.Lines.{digits, decimal, Adds}
 
-take-append : (n : ℕ) (xs ys : List ℕ) → take n (xs ++ ys) ≡ take n xs ++ take (n - length xs) ys
-take-append zero xs ys = let e : zero - length xs ≡ 0 = omega arith in rw e refl
-take-append (suc n) [] ys = let e : suc n - 0 ≡ suc n = omega arith in rw e refl
-take-append (suc n) (x ∷ xs) ys = let e : n - length xs ≡ suc n - length (x ∷ xs) = omega arith in ap (λ (t : List ℕ). x ∷ t) (take-append n xs ys ∙ ap (λ (k : ℕ). take n xs ++ take k ys) e)
+take_append : (n : ℕ) (xs ys : List ℕ) → take n (xs ++ ys) ≡ take n xs ++ take (n - length xs) ys
+take_append zero xs ys = let e : zero - length xs ≡ 0 = omega arith in rw e refl
+take_append (suc n) [] ys = let e : suc n - 0 ≡ suc n = omega arith in rw e refl
+take_append (suc n) (x ∷ xs) ys = let e : n - length xs ≡ suc n - length (x ∷ xs) = omega arith in ap (λ (t : List ℕ). x ∷ t) (take_append n xs ys ∙ ap (λ (k : ℕ). take n xs ++ take k ys) e)
 
 -- two texts, one after the other
-over-append : (xs ys d : List ℕ) → over d (xs ++ ys) ≡ take (length d) xs ++ over (drop (length xs) d) ys
+over_append : (xs ys d : List ℕ) → over d (xs ++ ys) ≡ take (length d) xs ++ over (drop (length xs) d) ys
 unfolding over
-over-append xs ys d = simp (take-append (length d) xs ys, length-append xs ys, length-drop (length xs) d, drop-drop (length ys) (length xs) d, append_assoc)
+over_append xs ys d = simp (take_append (length d) xs ys, length-append xs ys, length-drop (length xs) d, drop-drop (length ys) (length xs) d, append_assoc)
 
 -- past a front of a known length
-seam-take : (p q : List ℕ) (n m : ℕ) → length p ≡ n → take (n + m) (p ++ q) ≡ p ++ take m q
-seam-take p q n m e = rw (sym e) (take-append-add p q m)
+seam_take : (p q : List ℕ) (n m : ℕ) → length p ≡ n → take (n + m) (p ++ q) ≡ p ++ take m q
+seam_take p q n m e = rw (sym e) (take-append-add p q m)
 
-seam-drop : (p q : List ℕ) (n m : ℕ) → length p ≡ n → drop (n + m) (p ++ q) ≡ drop m q
-seam-drop p q n m e = rw (sym e) (drop-append-add p q m)
+seam_drop : (p q : List ℕ) (n m : ℕ) → length p ≡ n → drop (n + m) (p ++ q) ≡ drop m q
+seam_drop p q n m e = rw (sym e) (drop-append-add p q m)
 
 -- where the first one ends
-take-over : (q : ℕ) (xs d : List ℕ) → q ≡ min (length xs) (length d) → take q (over d xs) ≡ take (length d) xs
+take_over : (q : ℕ) (xs d : List ℕ) → q ≡ min (length xs) (length d) → take q (over d xs) ≡ take (length d) xs
 unfolding over
-take-over q xs d e =
+take_over q xs d e =
     let l : length (take (length d) xs) ≡ q = length-take (length d) xs ∙ omega arith in
     take_at (take (length d) xs) (drop (length xs) d) q l
 
-drop-over : (q : ℕ) (xs d : List ℕ) → q ≡ min (length xs) (length d) → drop q (over d xs) ≡ drop (length xs) d
+drop_over : (q : ℕ) (xs d : List ℕ) → q ≡ min (length xs) (length d) → drop q (over d xs) ≡ drop (length xs) d
 unfolding over
-drop-over q xs d e =
+drop_over q xs d e =
     let l : length (take (length d) xs) ≡ q = length-take (length d) xs ∙ omega arith in
     drop_at (take (length d) xs) (drop (length xs) d) q l
 
@@ -46,68 +46,68 @@ module _ {out : List ℕ} {at : ℕ} {bytes out' : List ℕ} {next : ℕ} (v : A
   head : length (take at out) ≡ at
   head = length-take-le at out v.from
 
-  pub adds-size : length out' ≡ length out
-  adds-size = ap length v.left ∙ length-append (take at out) (over (drop at out) bytes) ∙ omega (arith, head, length_over bytes (drop at out), length-drop at out, v.from)
+  pub adds_size : length out' ≡ length out
+  adds_size = ap length v.left ∙ length-append (take at out) (over (drop at out) bytes) ∙ omega (arith, head, length_over bytes (drop at out), length-drop at out, v.from)
 
-  pub adds-room : next ≤ length out'
-  adds-room = omega (arith, v.place, adds-size)
+  pub adds_room : next ≤ length out'
+  adds_room = omega (arith, v.place, adds_size)
 
 pub adds_then : {out : List ℕ} {at : ℕ} {xs ys out' out'' : List ℕ} {p q : ℕ} → Adds out at xs out' p → Adds out' p ys out'' q → Adds out at (xs ++ ys) out'' q
 adds_then {out} {at} {xs} {ys} {out'} {out''} {p} {q} v w =
     let d : List ℕ = drop at out in
     let m : p - at ≡ min (length xs) (length d) = omega (arith, v.place, v.from, length-drop at out) in
     let k : p ≡ at + (p - at) = omega (arith, v.place, v.from) in
-    let f : take p out' ≡ take at out ++ take (length d) xs = rw (v.left, k) (seam-take (take at out) (over d xs) at (p - at) (head v) ∙ ap (λ (t : List ℕ). take at out ++ t) (take-over (p - at) xs d m)) in
-    let g : drop p out' ≡ drop (length xs) d = rw (v.left, k) (seam-drop (take at out) (over d xs) at (p - at) (head v) ∙ drop-over (p - at) xs d m) in
+    let f : take p out' ≡ take at out ++ take (length d) xs = rw (v.left, k) (seam_take (take at out) (over d xs) at (p - at) (head v) ∙ ap (λ (t : List ℕ). take at out ++ t) (take_over (p - at) xs d m)) in
+    let g : drop p out' ≡ drop (length xs) d = rw (v.left, k) (seam_drop (take at out) (over d xs) at (p - at) (head v) ∙ drop_over (p - at) xs d m) in
     record {
       from = v.from;
-      place = omega (arith, w.place, v.place, adds-size v, length-append xs ys, v.from);
-      left = w.left ∙ rw (f, g) (append_assoc (take at out) (take (length d) xs) (over (drop (length xs) d) ys) ∙ ap (λ (t : List ℕ). take at out ++ t) (sym (over-append xs ys d)));
+      place = omega (arith, w.place, v.place, adds_size v, length-append xs ys, v.from);
+      left = w.left ∙ rw (f, g) (append_assoc (take at out) (take (length d) xs) (over (drop (length xs) d) ys) ∙ ap (λ (t : List ℕ). take at out ++ t) (sym (over_append xs ys d)));
     }
 
 -- the same bytes by another name
-pub adds-as : {out : List ℕ} {at : ℕ} {xs ys out' : List ℕ} {next : ℕ} → Adds out at xs out' next → ys ≡ xs → Adds out at ys out' next
-adds-as v e = rw e v
+pub adds_as : {out : List ℕ} {at : ℕ} {xs ys out' : List ℕ} {next : ℕ} → Adds out at xs out' next → ys ≡ xs → Adds out at ys out' next
+adds_as v e = rw e v
 
 -- a byte, where there is room for it and where there is none
-pub adds-byte : {out : List ℕ} {at : ℕ} (b : ℕ) → at < length out → Adds out at (b ∷ []) (set out at b) (at + 1)
+pub adds_byte : {out : List ℕ} {at : ℕ} (b : ℕ) → at < length out → Adds out at (b ∷ []) (set out at b) (at + 1)
 unfolding over
-adds-byte {out} {at} b h =
+adds_byte {out} {at} b h =
     let l : length (drop at out) ≡ suc (length out - suc at) = length-drop at out ∙ omega arith in
     let e : at + 1 ≡ suc at = omega arith in
     record { from = omega arith; place = omega arith; left = set_split out at b h ∙ ap (λ (t : List ℕ). take at out ++ t) (sym (ap (λ (k : ℕ). take k (b ∷ []) ++ drop 1 (drop at out)) l ∙ ap (λ (t : List ℕ). b ∷ (t ++ drop 1 (drop at out))) (take-nil (length out - suc at)) ∙ ap (λ (t : List ℕ). b ∷ t) (drop-drop 1 at out ∙ rw e refl))) }
 
-pub adds-nothing : {out : List ℕ} {at : ℕ} (b : ℕ) → at ≤ length out → length out ≤ at → Adds out at (b ∷ []) out at
+pub adds_nothing : {out : List ℕ} {at : ℕ} (b : ℕ) → at ≤ length out → length out ≤ at → Adds out at (b ∷ []) out at
 unfolding over
-adds-nothing {out} {at} b h k =
+adds_nothing {out} {at} b h k =
     let d : drop at out ≡ [] = drop_of_length-le out {i = at} k in
     record { from = h; place = omega arith; left = rw d (sym (append-nil (take at out) ∙ take_all at out k)) }
 
 -- a text that was copied to the rest of the buffer
-pub adds-text : (out : List ℕ) (at size : ℕ) (bytes : List ℕ) {y : List ℕ} {next : ℕ} → at ≤ length out → size ≡ length out → y ≡ over (take (size - at) (drop at out)) bytes
+pub adds_text : (out : List ℕ) (at size : ℕ) (bytes : List ℕ) {y : List ℕ} {next : ℕ} → at ≤ length out → size ≡ length out → y ≡ over (take (size - at) (drop at out)) bytes
     → next ≡ min (at + length bytes) (length out) → Adds out at bytes (take at out ++ (y ++ drop (size - at) (drop at out))) next
-adds-text out at size bytes {y} h l e p =
+adds_text out at size bytes {y} h l e p =
     let k : length (drop at out) ≤ size - at = simp length-drop (omega arith) in
     let f : y ++ drop (size - at) (drop at out) ≡ over (drop at out) bytes = rw (drop_of_length-le (drop at out) {i = size - at} k) (append-nil y ∙ e ∙ rw (take_all (size - at) (drop at out) k) refl) in
     record { from = h; place = p; left = ap (λ (t : List ℕ). take at out ++ t) f }
 
 -- at a place within the buffer, and past its end
-pub adds-within : {out : List ℕ} {at : ℕ} {bytes out' : List ℕ} {next : ℕ} → at ≤ length out → Adds out at bytes out' next → Adds out (min at (length out)) bytes out' next
-adds-within {out} {at} h v = let e : min at (length out) ≡ at = omega arith in rw e v
+pub adds_within : {out : List ℕ} {at : ℕ} {bytes out' : List ℕ} {next : ℕ} → at ≤ length out → Adds out at bytes out' next → Adds out (min at (length out)) bytes out' next
+adds_within {out} {at} h v = let e : min at (length out) ≡ at = omega arith in rw e v
 
-pub adds-past : {out : List ℕ} {at : ℕ} (bytes : List ℕ) → length out < at → Adds out (min at (length out)) bytes out (length out)
+pub adds_past : {out : List ℕ} {at : ℕ} (bytes : List ℕ) → length out < at → Adds out (min at (length out)) bytes out (length out)
 unfolding over
-adds-past {out} {at} bytes h =
+adds_past {out} {at} bytes h =
     let e : min at (length out) ≡ length out = omega arith in
     let d : drop (length out) out ≡ [] = drop_of_length-le out {i = length out} (omega arith) in
     rw e (record { from = omega arith; place = omega arith; left = rw d (sym (ap (λ (t : List ℕ). take (length out) out ++ t) (drop-nil (length bytes)) ∙ append-nil (take (length out) out) ∙ take_all (length out) out (omega arith))) })
 
-pub adds-at : {out : List ℕ} {at : ℕ} {bytes out' : List ℕ} {next : ℕ} → at ≤ length out → Adds out (min at (length out)) bytes out' next → Adds out at bytes out' next
-adds-at {out} {at} h v = let e : min at (length out) ≡ at = omega arith in rw e at v
+pub adds_at : {out : List ℕ} {at : ℕ} {bytes out' : List ℕ} {next : ℕ} → at ≤ length out → Adds out (min at (length out)) bytes out' next → Adds out at bytes out' next
+adds_at {out} {at} h v = let e : min at (length out) ≡ at = omega arith in rw e at v
 
 -- at the front of a buffer
-pub adds-front : {out bytes out' : List ℕ} {next : ℕ} → Adds out 0 bytes out' next → (out' ≡ over out bytes) × (next ≡ min (length bytes) (length out))
-adds-front {out} {bytes} v = (v.left, v.place ∙ omega arith)
+pub adds_front : {out bytes out' : List ℕ} {next : ℕ} → Adds out 0 bytes out' next → (out' ≡ over out bytes) × (next ≡ min (length bytes) (length out))
+adds_front {out} {bytes} v = (v.left, v.place ∙ omega arith)
 
 -- decimal numbers, digit by digit
 enough : (k l n : ℕ) → n < k → n < l → digits k n ≡ digits l n
@@ -123,6 +123,6 @@ pub decimal_digit : (n : ℕ) → n < 10 → decimal n ≡ (48 + n) ∷ []
 unfolding decimal
 decimal_digit n h = rw (lt-ltb n 10 h, digits) refl
 
-pub decimal-more : (n : ℕ) → 10 ≤ n → decimal n ≡ decimal (n / 10) ++ ((48 + n % 10) ∷ [])
+pub decimal_more : (n : ℕ) → 10 ≤ n → decimal n ≡ decimal (n / 10) ++ ((48 + n % 10) ∷ [])
 unfolding decimal
-decimal-more n h = rw (le-ltb n 10 h, digits) (ap (λ (t : List ℕ). t ++ ((48 + n % 10) ∷ [])) (enough n (suc (n / 10)) (n / 10) (omega arith) (omega arith)))
+decimal_more n h = rw (le-ltb n 10 h, digits) (ap (λ (t : List ℕ). t ++ ((48 + n % 10) ∷ [])) (enough n (suc (n / 10)) (n / 10) (omega arith) (omega arith)))

@@ -30,33 +30,33 @@ abbrev pub newline : List ℕ
 newline = 10 ∷ []
 
 -- the whole output for a file or a frame that is too large
-abbrev pub tooLarge : List ℕ
-tooLarge = ascii "too large\n"
+abbrev pub too_large : List ℕ
+too_large = ascii "too large\n"
 
 -- the last line of a file that is refused
-unfoldable pub refusedLine : ℕ → List ℕ
-refusedLine n = field "refused " n ++ newline
+unfoldable pub refused_line : ℕ → List ℕ
+refused_line n = field "refused " n ++ newline
 
 -- the last line of a file that ends at frame n
-unfoldable pub endLine : ℕ → List ℕ
-endLine n = field "end " n ++ newline
+unfoldable pub end_line : ℕ → List ℕ
+end_line n = field "end " n ++ newline
 
 -- the first line: the picture's sizes
-unfoldable pub pictureLine : Sizes → List ℕ
-pictureLine z = field "picture " z.width ++ field "x" z.height ++ field "x" z.planes ++ newline
+unfoldable pub picture_line : Sizes → List ℕ
+picture_line z = field "picture " z.width ++ field "x" z.height ++ field "x" z.planes ++ newline
 
 -- frame n, and what stepping on reported of it
-unfoldable pub frameLine : ℕ → Report → List ℕ
-frameLine n r =
+unfoldable pub frame_line : ℕ → Report → List ℕ
+frame_line n r =
     field "frame " n ++ field " method " r.method ++ field " time " r.time ++ field " changed " r.changed ++ field " record " r.record_length ++ newline
 
 -- the text of each line
 abbrev pub line_of : Line → List ℕ
-line_of TooLarge = tooLarge
-line_of (Picture z) = pictureLine z
-line_of (Frame n r) = frameLine n r
-line_of (End n) = endLine n
-line_of (Refused why) = refusedLine (number_of why)
+line_of TooLarge = too_large
+line_of (Picture z) = picture_line z
+line_of (Frame n r) = frame_line n r
+line_of (End n) = end_line n
+line_of (Refused why) = refused_line (number_of why)
 
 -- bytes added to a buffer at a place, as far as it goes, and the place after them
 pub record Adds (out : List ℕ) (at : ℕ) (bytes out' : List ℕ) (next : ℕ) : Type 0 where

@@ -1,6 +1,6 @@
 // The lines of a listing, as text in a lent buffer.
 ghost use Rattle.std.specs.Prelude.{[], ◌∷◌, ◌++◌, ◌≤◌, min, length};
-ghost use Rattle.lines.specs.Lines.{decimal, newline, pictureLine, frameLine, line_of, Adds};
+ghost use Rattle.lines.specs.Lines.{decimal, newline, picture_line, frame_line, line_of, Adds};
 
 use copies::copy;
 use refusal::Refusal;
@@ -76,7 +76,7 @@ fn put_last(out: &mut [u8], at: usize, word: &[u8], number: usize) -> usize
 // Adds the first line: the picture's sizes.
 fn put_picture(out: &mut [u8], from: usize, sizes: Sizes) -> usize
     requires { from ≤ length out.old }
-    ensures { Adds out.old from (pictureLine sizes) out.new result }
+    ensures { Adds out.old from (picture_line sizes) out.new result }
 {
     let mut at = put_field(out, from, b"picture ", sizes.width);
     at = put_field(out, at, b"x", sizes.height);
@@ -87,7 +87,7 @@ fn put_picture(out: &mut [u8], from: usize, sizes: Sizes) -> usize
 // Adds a frame's line: what stepping on reported of it.
 fn put_frame(out: &mut [u8], from: usize, frame: usize, report: Report) -> usize
     requires { from ≤ length out.old }
-    ensures { Adds out.old from (frameLine frame report) out.new result }
+    ensures { Adds out.old from (frame_line frame report) out.new result }
 {
     let mut at = put_field(out, from, b"frame ", frame);
     at = put_field(out, at, b" method ", report.method);

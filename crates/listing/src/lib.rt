@@ -2,8 +2,8 @@
 ghost use Rattle.std.specs.Prelude.{◌&&◌, ◌≡◌, leb, length};
 ghost use Rattle.lines.specs.Lines.{line_of};
 ghost use Rattle.state.specs.After.{lent};
-ghost use Rattle.step_on.specs.Step.{onOf};
-ghost use Rattle.listing.specs.Listing.{stepLine, taken, begun, listFrames, listFilm, listFront, planFor, plan_of, listFile, Lists, MeetsList, Holds};
+ghost use Rattle.step_on.specs.Step.{on_of};
+ghost use Rattle.listing.specs.Listing.{step_line, taken, begun, list_frames, list_film, list_front, plan_for, plan_of, list_file, Lists, MeetsList, Holds};
 
 use colours::MAP;
 use lines::{Line, put_line};
@@ -22,7 +22,7 @@ pub const RECORD: usize = 65536;
 
 // The line of a step on.
 fn step_line(s: SteppedOn) -> Line
-    ensures { line_of result ≡ stepLine (onOf s.answer) s.state.frame }
+    ensures { line_of result ≡ step_line (on_of s.answer) s.state.frame }
 {
     let state = s.state;
     let answer = s.answer;
@@ -35,7 +35,7 @@ fn step_line(s: SteppedOn) -> Line
 
 // Whether a step on was taken.
 fn taken(s: SteppedOn) -> bool
-    ensures { result ≡ taken (onOf s.answer) }
+    ensures { result ≡ taken (on_of s.answer) }
 {
     let answer = s.answer;
     match answer {
@@ -56,7 +56,7 @@ fn list_frames(
     rec: &mut [u8],
     out: &mut [u8],
 ) -> usize
-    ensures { Lists (listFrames file.now (length work.old) (length rec.old)
+    ensures { Lists (list_frames file.now (length work.old) (length rec.old)
         (begun (lent a.entry.now b.old map.old start work.old rec.old)))
         out.old result
         (record { a = a.exit.now; b = b.new; map = map.new; work = work.new; rec = rec.new }) out.new }
@@ -84,7 +84,7 @@ fn list_film(
     rec: &mut [u8],
     out: &mut [u8],
 ) -> usize
-    ensures { Lists (listFilm file.now
+    ensures { Lists (list_film file.now
         (record { a = a.entry.now; b = b.old; map = map.old; work = work.old; rec = rec.old }))
         out.old result
         (record { a = a.exit.now; b = b.new; map = map.new; work = work.new; rec = rec.new }) out.new }
@@ -110,7 +110,7 @@ fn list_front(
     out: &mut [u8],
 ) -> usize
     requires { Holds n (length a.old) (length b.old) (length map.old) (length work.old) (length rec.old) }
-    ensures { Lists (listFront file.now n
+    ensures { Lists (list_front file.now n
         (record { a = a.entry.now; b = b.old; map = map.old; work = work.old; rec = rec.old }))
         out.old result
         (record { a = a.exit.now; b = b.new; map = map.new; work = work.new; rec = rec.new }) out.new }
@@ -135,7 +135,7 @@ enum Plan {
 
 // How a file is listed, by its length and its frames' length.
 fn plan_for(file: &[u8]) -> Plan
-    ensures { plan_of result ≡ planFor file.now }
+    ensures { plan_of result ≡ plan_for file.now }
 {
     if FILE < file.len() {
         return Plan::Single(Line::TooLarge);
@@ -163,7 +163,7 @@ fn list_file(
     out: &mut [u8],
 ) -> usize
     requires { Holds 16384 (length a.old) (length b.old) (length map.old) (length work.old) (length rec.old) }
-    ensures { Lists (listFile file.now
+    ensures { Lists (list_file file.now
         (record { a = a.entry.now; b = b.old; map = map.old; work = work.old; rec = rec.old }))
         out.old result
         (record { a = a.exit.now; b = b.new; map = map.new; work = work.new; rec = rec.new }) out.new }

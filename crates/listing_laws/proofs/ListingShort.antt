@@ -6,17 +6,17 @@ use lib.Dec.{leb}
 use lib.ListN.{length}
 use borrow.Author.Tests.{leb-true}
 use Rattle.laws.specs.Bytes.{Bytes}
-use Rattle.laws.proofs.ResultLaws.{pick-case}
-use Rattle.opening.specs.Open.{frameSize}
-use Rattle.listing.specs.Listing.{planFor, listPlanned, listFile, listing, Planned}
+use Rattle.laws.proofs.ResultLaws.{pick_case}
+use Rattle.opening.specs.Open.{frame_size}
+use Rattle.listing.specs.Listing.{plan_for, list_planned, list_file, listing, Planned}
 use Rattle.answers.proofs.InTable.{listed}
-use Rattle.answers.proofs.Table.{size-table}
-use Rattle.listing_laws.proofs.TextRoom.{Short, sized-short}
+use Rattle.answers.proofs.Table.{size_table}
+use Rattle.listing_laws.proofs.TextRoom.{Short, sized_short}
 
 -- the text of any file of bytes
 module _ (file : List ℕ) (bytes : Bytes file) where
-  pub listing-short : length (listing file) ≤ 65_536
-  unfolding listing listFile planFor
-  listing-short =
-      pick-case (λ (p : Planned). Short (listPlanned file (record { a = []; b = []; map = []; work = []; rec = [] }) p)) (leb (length file) 65_536)
-      (λ e. sized-short file bytes (leb-true (length file) 65_536 e) (frameSize file) (listed (size-table file))) (λ e. omega arith)
+  pub listing_short : length (listing file) ≤ 65_536
+  unfolding listing list_file plan_for
+  listing_short =
+      pick_case (λ (p : Planned). Short (list_planned file (record { a = []; b = []; map = []; work = []; rec = [] }) p)) (leb (length file) 65_536)
+      (λ e. sized_short file bytes (leb-true (length file) 65_536 e) (frame_size file) (listed (size_table file))) (λ e. omega arith)

@@ -10,36 +10,36 @@ use borrow.Author.Tests.{leb-true}
 use Rattle.laws.specs.Bytes.{Bytes}
 use Rattle.laws.proofs.BytesLaws.{bytes_take}
 use Rattle.laws.specs.Result.{Res, Res.ok, Res.fault}
-use Rattle.laws.proofs.ResultLaws.{Each, Each.each, Each.no_value, All, All.all-some, All.all_none, each-self, each-bind, each-is, all-value, pick-both, pick-case, each-some}
+use Rattle.laws.proofs.ResultLaws.{Each, Each.each, Each.no_value, All, All.all_some, All.all_none, each_self, each_bind, each_is, all_value, pick_both, pick_case, each_some}
 use Rattle.laws.specs.Loop.{Step}
-use Rattle.laws.proofs.LoopLaws.{Comes, Comes.comes-next, Comes.comes-done, iterate-holds}
+use Rattle.laws.proofs.LoopLaws.{Comes, Comes.comes_next, Comes.comes_done, iterate_holds}
 use Rattle.refusal.specs.Number.{is_number}
 use Rattle.colours.specs.Colours.{MAP, coloured}
 use Rattle.state.specs.declared.Report.{Report}
 use Rattle.state.specs.declared.Sizes.{Sizes}
-use Rattle.state.specs.State.{rowBytes, Sound}
-use Rattle.state.proofs.StateLaws.{sizes-sound}
+use Rattle.state.specs.State.{row_bytes, Sound}
+use Rattle.state.proofs.StateLaws.{sizes_sound}
 use Rattle.form.specs.Form.{chunks_of}
 use Rattle.delta.specs.Reading.{shape_of}
 use Rattle.delta.specs.Delta.{draw}
-use Rattle.delta.proofs.DeltaLaws.{draw-length}
-use Rattle.frame.specs.Frame.{Frame, frameAt}
-use Rattle.frame.proofs.FrameLaws.{frame-rises}
+use Rattle.delta.proofs.DeltaLaws.{draw_length}
+use Rattle.frame.specs.Frame.{Frame, frame_at}
+use Rattle.frame.proofs.FrameLaws.{frame_rises}
 use Rattle.state.specs.Film.{Film}
 use Rattle.opening.specs.Open.{opening}
-use Rattle.opening.proofs.OpenLaws.{places-lie, first-long}
-use Rattle.state.specs.World.{World, isOdd, shownIn, hiddenIn, withHidden}
-use Rattle.state.specs.After.{After, lentAfter}
-use Rattle.step_on.specs.Step.{basis, change, Built, build, look, lookAhead, reportOf}
-use Rattle.step_on.proofs.CaseLaws.{stepTo, on-case}
-use Rattle.step_on.proofs.ReadyLaws.{Passed, ready-passed}
-use Rattle.lines.specs.Lines.{frameLine, endLine, refusedLine, pictureLine}
-use Rattle.listing.specs.Listing.{Listing, lineOn, listStep, listFrames, Buffers, listOpened, ROOM, listFront, planSized, listPlanned, Planned}
-use Rattle.changes.proofs.CountLaws.{differing-short}
-use Rattle.record.proofs.RecordRoom.{record-room}
-use Rattle.answers.proofs.InTable.{Numbered, Numbered.table-refusal, listed, table-number}
-use Rattle.answers.proofs.Table.{opening-table, on-table}
-use Rattle.listing_laws.proofs.ShortLaws.{Holds, frame-holds, pointers-least, delta-long, Tells, frame-line-short, end-line-short, refused-line-short, picture-line-short}
+use Rattle.opening.proofs.OpenLaws.{places_lie, first_long}
+use Rattle.state.specs.World.{World, is_odd, shown_in, hidden_in, with_hidden}
+use Rattle.state.specs.After.{After, lent_after}
+use Rattle.step_on.specs.Step.{basis, change, Built, build, look, look_ahead, report_of}
+use Rattle.step_on.proofs.CaseLaws.{step_to, on_case}
+use Rattle.step_on.proofs.ReadyLaws.{Passed, ready_passed}
+use Rattle.lines.specs.Lines.{frame_line, end_line, refused_line, picture_line}
+use Rattle.listing.specs.Listing.{Listing, line_on, list_step, list_frames, Buffers, list_opened, ROOM, list_front, plan_sized, list_planned, Planned}
+use Rattle.changes.proofs.CountLaws.{differing_short}
+use Rattle.record.proofs.RecordRoom.{record_room_lem}
+use Rattle.answers.proofs.InTable.{Numbered, Numbered.table_refusal, listed, table_number}
+use Rattle.answers.proofs.Table.{opening_table, on_table}
+use Rattle.listing_laws.proofs.ShortLaws.{Holds, frame_holds, pointers_least, delta_long, Tells, frame_line_short, end_line_short, refused_line_short, picture_line_short}
 
 -- a picture that the listing program's buffers hold
 abbrev Small : List ℕ → Type 0
@@ -51,46 +51,46 @@ record Steps (file : ℕ) (w : World) (x : Built) : Type 0 where
   rises : w.state.next + 100 ≤ x.next
   ends : x.next ≤ file
   picture : Small x.picture
-  tells : Tells (reportOf w x)
+  tells : Tells (report_of w x)
 
 module _ (file : List ℕ) (w : World) (bytes : Bytes file) {size : ℕ} (passed : Passed (length file) w.state (length w.a) (length w.b) (length w.map) size)
-    (shown-small : Small (shownIn w)) (hidden_small : Small (hiddenIn w)) where
+    (shown_small : Small (shown_in w)) (hidden_small : Small (hidden_in w)) where
   abbrev anim : List ℕ
   anim = take w.state.end file
 
   abbrev B : ℕ
-  B = rowBytes w.state.sizes.width
+  B = row_bytes w.state.sizes.width
 
-  change-holds : (x : Frame) → frameAt anim w.state.next B ≡ ok (some x) → Holds w.state.next x → Each (Steps (length file) w) (change w.state.sizes x (shownIn w) (hiddenIn w))
+  change_holds : (x : Frame) → frame_at anim w.state.next B ≡ ok (some x) → Holds w.state.next x → Each (Steps (length file) w) (change w.state.sizes x (shown_in w) (hidden_in w))
   unfolding change
-  change-holds x e h =
+  change_holds x e h =
       let z : Sizes = w.state.sizes in
-      let k = frame-rises anim B w.state.next x e in
-      let few = passed.onA.few in
-      each-bind (delta-long z x.header.items x.dlta) λ ops l.
-      let f : List ℕ = draw (shape_of z x.header.items) x.dlta ops (basis x.header (shownIn w) (hiddenIn w)) in
+      let k = frame_rises anim B w.state.next x e in
+      let few = passed.on_a.few in
+      each_bind (delta_long z x.header.items x.dlta) λ ops l.
+      let f : List ℕ = draw (shape_of z x.header.items) x.dlta ops (basis x.header (shown_in w) (hidden_in w)) in
       each (record {
         few = few;
-        rises = omega (arith, h.takes, pointers-least z x.header.items);
+        rises = omega (arith, h.takes, pointers_least z x.header.items);
         ends = omega (arith, k.ends, length-take w.state.end file);
-        picture = rw (draw-length (shape_of z x.header.items) x.dlta ops (basis x.header (shownIn w) (hiddenIn w))) (pick-both Small (eqb x.header.interleave 1) shown-small hidden_small);
+        picture = rw (draw_length (shape_of z x.header.items) x.dlta ops (basis x.header (shown_in w) (hidden_in w))) (pick_both Small (eqb x.header.interleave 1) shown_small hidden_small);
         tells = record {
           method = omega (arith, h.method);
           time = omega (arith, h.time);
-          changed = omega (arith, differing-short (hiddenIn w) f);
-          record-length = omega (arith, record-room (suc w.state.frame) w.state.next (hiddenIn w) f w.map (coloured w.map x.cmap) few (omega arith) passed.mapLong);
+          changed = omega (arith, differing_short (hidden_in w) f);
+          record_length = omega (arith, record_room_lem (suc w.state.frame) w.state.next (hidden_in w) f w.map (coloured w.map x.cmap) few (omega arith) passed.map_long);
         };
       })
 
-  build-holds : (o : Option Frame) → frameAt anim w.state.next B ≡ ok o → All (Holds w.state.next) o → Each (All (Steps (length file) w)) (build w.state.sizes (shownIn w) (hiddenIn w) o)
-  build-holds none e h = each all_none
-  build-holds (some x) e h = each-bind (change-holds x e (all-value h)) λ y k. each (all-some k)
+  build_holds : (o : Option Frame) → frame_at anim w.state.next B ≡ ok o → All (Holds w.state.next) o → Each (All (Steps (length file) w)) (build w.state.sizes (shown_in w) (hidden_in w) o)
+  build_holds none e h = each all_none
+  build_holds (some x) e h = each_bind (change_holds x e (all_value h)) λ y k. each (all_some k)
 
-  look-holds : Each (All (Steps (length file) w)) (look anim w.state (shownIn w) (hiddenIn w))
+  look_holds : Each (All (Steps (length file) w)) (look anim w.state (shown_in w) (hidden_in w))
   unfolding look
-  look-holds =
-      each-bind (each_both (each-self (frameAt anim w.state.next B)) (frame-holds anim B w.state.next (bytes_take w.state.end file bytes))) λ o h.
-      build-holds o h.0 h.1
+  look_holds =
+      each_bind (each_both (each_self (frame_at anim w.state.next B)) (frame_holds anim B w.state.next (bytes_take w.state.end file bytes))) λ o h.
+      build_holds o h.0 h.1
     where
       each_both : {A : Type 0} {P Q : A → Type 0} {r : Res A} → Each P r → Each Q r → Each (λ (a : A). P a × Q a) r
       each_both (each p) (each q) = each (p, q)
@@ -108,48 +108,48 @@ abbrev pub Short : Listing → Type 0
 Short c = length c.text ≤ 65_536
 
 -- one line more at the end
-last-short : (c : Listing) → Roomy c → (line : List ℕ) → length line ≤ 68 → length (c.text ++ line) ≤ 65_536
-last-short c h line k = omega (arith, length-append c.text line, h.text, h.place)
+last_short : (c : Listing) → Roomy c → (line : List ℕ) → length line ≤ 68 → length (c.text ++ line) ≤ 65_536
+last_short c h line k = omega (arith, length-append c.text line, h.text, h.place)
 
 -- a step that comes to o, and its line
 abbrev told : Listing → After → Step Listing Listing
-told c o = lineOn o.answer (record { lent = lentAfter c.lent o; text = c.text })
+told c o = line_on o.answer (record { lent = lent_after c.lent o; text = c.text })
 
 module _ (file : List ℕ) (bytes : Bytes file) (short : length file ≤ 65_536) (size : ℕ) where
   -- what a step that is taken is told as
-  stepped : (c : Listing) → Roomy c → (x : Built) → Steps (length file) c.lent.world x → Comes Roomy Short (told c (stepTo c.lent.world x))
-  unfolding lentAfter withHidden
+  stepped : (c : Listing) → Roomy c → (x : Built) → Steps (length file) c.lent.world x → Comes Roomy Short (told c (step_to c.lent.world x))
+  unfolding lent_after with_hidden
   stepped c h x k =
-      let r : Report = reportOf c.lent.world x in
+      let r : Report = report_of c.lent.world x in
       let n : suc c.lent.world.state.frame < 10_000_000 = omega (arith, k.few) in
       let f : suc c.lent.world.state.frame ≤ 1_000_000 = omega (arith, k.few) in
       let p : x.next ≤ 65_536 = omega (arith, k.ends) in
-      let t : 100 * length (c.text ++ frameLine (suc c.lent.world.state.frame) r) ≤ 68 * x.next + 100 * 68 =
-      omega (arith, length-append c.text (frameLine (suc c.lent.world.state.frame) r), frame-line-short (suc c.lent.world.state.frame) r n k.tells, h.text, k.rises) in
-      comes-next (record {
-        left = pick-both Small (isOdd c.lent.world.state.frame) h.left k.picture;
-        right = pick-both Small (isOdd c.lent.world.state.frame) k.picture h.right;
+      let t : 100 * length (c.text ++ frame_line (suc c.lent.world.state.frame) r) ≤ 68 * x.next + 100 * 68 =
+      omega (arith, length-append c.text (frame_line (suc c.lent.world.state.frame) r), frame_line_short (suc c.lent.world.state.frame) r n k.tells, h.text, k.rises) in
+      comes_next (record {
+        left = pick_both Small (is_odd c.lent.world.state.frame) h.left k.picture;
+        right = pick_both Small (is_odd c.lent.world.state.frame) k.picture h.right;
         frame = f;
         place = p;
         text = t;
       })
 
-  step-roomy : (c : Listing) → Roomy c → Comes Roomy Short (listStep file size ROOM c)
-  unfolding lentAfter
-  step-roomy c h =
+  step_roomy : (c : Listing) → Roomy c → Comes Roomy Short (list_step file size ROOM c)
+  unfolding lent_after
+  step_roomy c h =
       let w : World = c.lent.world in
-      let s : Small (shownIn w) = unfold shownIn in pick-both Small (isOdd w.state.frame) h.left h.right in
-      let i : Small (hiddenIn w) = unfold hiddenIn in pick-both Small (isOdd w.state.frame) h.right h.left in
-      let k : Each (All (Steps (length file) w)) (lookAhead file w size) =
-      unfold lookAhead in each-bind (ready-passed (length file) w.state (length w.a) (length w.b) (length w.map) size) λ _ p. look-holds file w bytes p s i in
-      on-case (λ (o : After). Comes Roomy Short (told c o)) w ROOM file size
-      (λ n e. comes-done (last-short c h (refusedLine n) (refused-line-short n (table-number (listed (on-table file w size)) e))))
-      (λ e. comes-done (last-short c h (endLine w.state.frame) (end-line-short w.state.frame (omega (arith, h.frame)))))
-      (λ x e. stepped c h x (each-some e k)) (λ x e q. comes-done (last-short c h (refusedLine 51) (refused-line-short 51 refl)))
+      let s : Small (shown_in w) = unfold shown_in in pick_both Small (is_odd w.state.frame) h.left h.right in
+      let i : Small (hidden_in w) = unfold hidden_in in pick_both Small (is_odd w.state.frame) h.right h.left in
+      let k : Each (All (Steps (length file) w)) (look_ahead file w size) =
+      unfold look_ahead in each_bind (ready_passed (length file) w.state (length w.a) (length w.b) (length w.map) size) λ _ p. look_holds file w bytes p s i in
+      on_case (λ (o : After). Comes Roomy Short (told c o)) w ROOM file size
+      (λ n e. comes_done (last_short c h (refused_line n) (refused_line_short n (table_number (listed (on_table file w size)) e))))
+      (λ e. comes_done (last_short c h (end_line w.state.frame) (end_line_short w.state.frame (omega (arith, h.frame)))))
+      (λ x e. stepped c h x (each_some e k)) (λ x e q. comes_done (last_short c h (refused_line 51) (refused_line_short 51 refl)))
 
-  frames-short : (c : Listing) → Roomy c → Short (listFrames file size ROOM c)
-  unfolding listFrames
-  frames-short c h = iterate-holds (listStep file size ROOM) (λ d. length file - d.lent.world.state.next) c Roomy Short (omega (arith, h.text, h.place)) step-roomy c h
+  frames_short : (c : Listing) → Roomy c → Short (list_frames file size ROOM c)
+  unfolding list_frames
+  frames_short c h = iterate_holds (list_step file size ROOM) (λ d. length file - d.lent.world.state.next) c Roomy Short (omega (arith, h.text, h.place)) step_roomy c h
 
 -- what opening gives
 record Begins (file : List ℕ) (n : ℕ) (F : Film) : Type 0 where
@@ -157,27 +157,27 @@ record Begins (file : List ℕ) (n : ℕ) (F : Film) : Type 0 where
   first : length F.first ≡ n
   start : F.start ≤ length file
 
-opening-begins : (file : List ℕ) (n : ℕ) → Each (Begins file n) (opening file n n MAP)
+opening_begins : (file : List ℕ) (n : ℕ) → Each (Begins file n) (opening file n n MAP)
 unfolding opening
-opening-begins file n =
-    each-bind (places-lie file) λ p l. each-bind (first-long (chunks_of file p.form) p.body n n MAP) λ f g.
+opening_begins file n =
+    each_bind (places_lie file) λ p l. each_bind (first_long (chunks_of file p.form) p.body n n MAP) λ f g.
     let s : p.form.next ≤ length file = omega (arith, l.stops, l.ends) in
-    each (record { sound = each-is g.sizes (sizes-sound f.sizes); first = g.picture; start = s })
+    each (record { sound = each_is g.sizes (sizes_sound f.sizes); first = g.picture; start = s })
 
 -- the text of any file of bytes
 module _ (file : List ℕ) (bytes : Bytes file) where
-  opened-short : length file ≤ 65_536 → (n : ℕ) → n ≤ 16_384 → (q : Res Film) → Numbered is_number q → Each (Begins file n) q → (l : Buffers) → Short (listOpened file n ROOM l q)
-  unfolding listOpened
-  opened-short h n k (ok F) l (each g) m =
+  opened_short : length file ≤ 65_536 → (n : ℕ) → n ≤ 16_384 → (q : Res Film) → Numbered is_number q → Each (Begins file n) q → (l : Buffers) → Short (list_opened file n ROOM l q)
+  unfolding list_opened
+  opened_short h n k (ok F) l (each g) m =
       let w : Small F.first = omega (arith, g.first) in
       let p : F.start ≤ 65_536 = omega (arith, g.start) in
-      let t : 100 * length (pictureLine F.sizes) ≤ 68 * F.start + 100 * 68 = omega (arith, picture-line-short F.sizes n g.sound) in
-      frames-short file bytes h n _ (record { left = w; right = w; frame = omega arith; place = p; text = t })
-  opened-short h n k (fault m) (table-refusal l) g b = omega (arith, refused-line-short m l)
+      let t : 100 * length (picture_line F.sizes) ≤ 68 * F.start + 100 * 68 = omega (arith, picture_line_short F.sizes n g.sound) in
+      frames_short file bytes h n _ (record { left = w; right = w; frame = omega arith; place = p; text = t })
+  opened_short h n k (fault m) (table_refusal l) g b = omega (arith, refused_line_short m l)
 
-  pub sized-short : length file ≤ 65_536 → (q : Res ℕ) → Numbered is_number q → Short (listPlanned file (record { a = []; b = []; map = []; work = []; rec = [] }) (planSized q))
-  unfolding listFront
-  sized-short h (ok n) l =
-      pick-case (λ (p : Planned). Short (listPlanned file (record { a = []; b = []; map = []; work = []; rec = [] }) p)) (leb n 16_384)
-      (λ e. opened-short h n (leb-true n 16_384 e) (opening file n n MAP) (listed (opening-table file n n MAP)) (opening-begins file n) _) (λ e. omega arith)
-  sized-short h (fault m) (table-refusal l) = omega (arith, refused-line-short m l)
+  pub sized_short : length file ≤ 65_536 → (q : Res ℕ) → Numbered is_number q → Short (list_planned file (record { a = []; b = []; map = []; work = []; rec = [] }) (plan_sized q))
+  unfolding list_front
+  sized_short h (ok n) l =
+      pick_case (λ (p : Planned). Short (list_planned file (record { a = []; b = []; map = []; work = []; rec = [] }) p)) (leb n 16_384)
+      (λ e. opened_short h n (leb-true n 16_384 e) (opening file n n MAP) (listed (opening_table file n n MAP)) (opening_begins file n) _) (λ e. omega arith)
+  sized_short h (fault m) (table_refusal l) = omega (arith, refused_line_short m l)

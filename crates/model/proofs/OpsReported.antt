@@ -7,51 +7,51 @@ use lib.ListN.{length, take}
 use Rattle.laws.specs.Bytes.{Bytes}
 use Rattle.laws.proofs.BytesLaws.{bytes_take}
 use Rattle.laws.specs.Result.{Res.ok}
-use Rattle.laws.proofs.ResultLaws.{Each, Each.each, All, All.all-some, All.all_none, each-any, each-bind, each-is, each-self, each-some, never}
-use Rattle.state.specs.State.{rowBytes}
+use Rattle.laws.proofs.ResultLaws.{Each, Each.each, All, All.all_some, All.all_none, each_any, each_bind, each_is, each_self, each_some, never}
+use Rattle.state.specs.State.{row_bytes}
 use Rattle.state.specs.declared.Report.{Report}
-use Rattle.state.specs.World.{World, shownIn, hiddenIn}
-use Rattle.state.specs.After.{Lent, Answer.tookOn, After}
+use Rattle.state.specs.World.{World, shown_in, hidden_in}
+use Rattle.state.specs.After.{Lent, Answer.took_on, After}
 use Rattle.delta.specs.Reading.{shape_of}
-use Rattle.delta.specs.Delta.{readDelta}
-use Rattle.delta.proofs.CountLaws.{ops-most}
-use Rattle.frame.specs.Frame.{Frame, frameAt}
-use Rattle.frame.proofs.FrameLaws.{frame-bytes}
+use Rattle.delta.specs.Delta.{read_delta}
+use Rattle.delta.proofs.CountLaws.{ops_most_lem}
+use Rattle.frame.specs.Frame.{Frame, frame_at}
+use Rattle.frame.proofs.FrameLaws.{frame_bytes_lem}
 use Rattle.step_on.specs.declared.SteppedOn.{SteppedOn}
-use Rattle.step_on.specs.Step.{ready, change, Built, build, look, lookAhead, reportOf, onOf, MeetsOn}
-use Rattle.step_on.proofs.CaseLaws.{on-case}
+use Rattle.step_on.specs.Step.{ready, change, Built, build, look, look_ahead, report_of, on_of, MeetsOn}
+use Rattle.step_on.proofs.CaseLaws.{on_case}
 use Rattle.model.specs.Demands.{OpsRead}
-use Rattle.model.proofs.Laws.{ops-same}
+use Rattle.model.proofs.Laws.{ops_same}
 
 module _ (file : List ℕ) (bytes : Bytes file) (w : World) where
-  built-ops : (o : Option Frame) → frameAt (take w.state.end file) w.state.next (rowBytes w.state.sizes.width) ≡ ok o
-      → Each (All (λ (y : Built). OpsRead file w y.ops)) (build w.state.sizes (shownIn w) (hiddenIn w) o)
+  built_ops : (o : Option Frame) → frame_at (take w.state.end file) w.state.next (row_bytes w.state.sizes.width) ≡ ok o
+      → Each (All (λ (y : Built). OpsRead file w y.ops)) (build w.state.sizes (shown_in w) (hidden_in w) o)
   unfolding change
-  built-ops none e = each all_none
-  built-ops (some x) e =
-      each-bind {P = λ (y : Built). OpsRead file w y.ops}
-      (each-bind (each-self (readDelta (shape_of w.state.sizes x.header.items) x.dlta)) λ ops q.
+  built_ops none e = each all_none
+  built_ops (some x) e =
+      each_bind {P = λ (y : Built). OpsRead file w y.ops}
+      (each_bind (each_self (read_delta (shape_of w.state.sizes x.header.items) x.dlta)) λ ops q.
       each (record {
         frame = x;
         there = e;
         ops = ops;
         read = q;
-        counted = ops-same _ _ _ x e w.state.sizes ops;
-        most = each-is q (ops-most (shape_of w.state.sizes x.header.items) x.dlta (frame-bytes _ _ _ x (bytes_take w.state.end file bytes) e));
+        counted = ops_same _ _ _ x e w.state.sizes ops;
+        most = each_is q (ops_most_lem (shape_of w.state.sizes x.header.items) x.dlta (frame_bytes_lem _ _ _ x (bytes_take w.state.end file bytes) e));
       }))
-      λ y p. each (all-some p)
+      λ y p. each (all_some p)
 
-  ahead-ops : (work : ℕ) → Each (All (λ (y : Built). OpsRead file w y.ops)) (lookAhead file w work)
-  unfolding lookAhead look
-  ahead-ops work =
-      each-any (ready (length file) w.state (length w.a) (length w.b) (length w.map) work) λ _.
-      each-bind (each-self (frameAt (take w.state.end file) w.state.next (rowBytes w.state.sizes.width))) λ o e. built-ops o e
+  ahead_ops : (work : ℕ) → Each (All (λ (y : Built). OpsRead file w y.ops)) (look_ahead file w work)
+  unfolding look_ahead look
+  ahead_ops work =
+      each_any (ready (length file) w.state (length w.a) (length w.b) (length w.map) work) λ _.
+      each_bind (each_self (frame_at (take w.state.end file) w.state.next (row_bytes w.state.sizes.width))) λ o e. built_ops o e
 
 -- of every step on that met its contract and is taken, in a file of bytes
-pub ops-reported : (file : List ℕ) → Bytes file → (l : Lent) (r : SteppedOn) (l' : Lent) (p : Report) → MeetsOn file l r l' → onOf r.answer ≡ tookOn p → OpsRead file l.world p.ops
-ops-reported file bytes l r l' p m e =
-    on-case (λ (o : After). o.answer ≡ tookOn p → OpsRead file l.world p.ops) l.world (length l.rec) file (length l.work)
+pub ops_reported : (file : List ℕ) → Bytes file → (l : Lent) (r : SteppedOn) (l' : Lent) (p : Report) → MeetsOn file l r l' → on_of r.answer ≡ took_on p → OpsRead file l.world p.ops
+ops_reported file bytes l r l' p m e =
+    on_case (λ (o : After). o.answer ≡ took_on p → OpsRead file l.world p.ops) l.world (length l.rec) file (length l.work)
     (λ n q h. never (cc)) (λ q h. never (cc))
-    (λ x q h. let k : reportOf l.world x ≡ p = cc in rw (ap (λ (t : Report). t.ops) k) at (each-some q (ahead-ops file bytes l.world (length l.work))))
+    (λ x q h. let k : report_of l.world x ≡ p = cc in rw (ap (λ (t : Report). t.ops) k) at (each_some q (ahead_ops file bytes l.world (length l.work))))
     (λ x q f h. never (cc))
     (sym m.answer ∙ e)

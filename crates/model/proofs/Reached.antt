@@ -7,58 +7,58 @@ use mathlib.Core.Option.{some}
 use mathlib.Core.Path.{◌≡◌, refl, ap, ◌∙◌}
 use lib.ListN.{length, take, length-take}
 use borrow.Author.Tests.{le-leb}
-use Rattle.laws.specs.Result.{Res.ok, answer, pick, orKeep}
-use Rattle.laws.proofs.ResultLaws.{pick-both}
-use Rattle.state.specs.State.{rowBytes, stateLength}
+use Rattle.laws.specs.Result.{Res.ok, answer, pick, or_keep}
+use Rattle.laws.proofs.ResultLaws.{pick_both}
+use Rattle.state.specs.State.{row_bytes, state_length}
 use Rattle.frame.specs.Frame.{Frame}
-use Rattle.frame.proofs.FrameLaws.{Rises, frame-rises}
+use Rattle.frame.proofs.FrameLaws.{Rises, frame_rises}
 use Rattle.colours.specs.Colours.{MAP, coloured}
-use Rattle.colours.proofs.ColourLaws.{coloured-length}
-use Rattle.state.specs.World.{isOdd, shownIn, hiddenIn}
+use Rattle.colours.proofs.ColourLaws.{coloured_length}
+use Rattle.state.specs.World.{is_odd, shown_in, hidden_in}
 use Rattle.state.specs.After.{Answer, After}
 use Rattle.state.specs.Film.{Film}
-use Rattle.model.specs.Model.{here, past, builtAt, drawn, placeAt, picture, colouredBy, mapAt, recordAt, stands}
-use Rattle.model.proofs.Laws.{built-length}
+use Rattle.model.specs.Model.{here, past, built_at, drawn, place_at, picture, coloured_by, map_at, record_at, stands}
+use Rattle.model.proofs.Laws.{built_length}
 use Rattle.model.proofs.Opened.{Opened, size}
 
 -- frame m + 1 can be reached
 pub data Reached (F : Film) : ℕ → Type 0 where
   first : Reached F zero
-  next : {m : ℕ} (x : Frame) (g : List ℕ) → Reached F m → here F (placeAt F m) ≡ ok (some x) → builtAt F m x ≡ ok g → suc m < 1_000_000 → Reached F (suc m)
+  next : {m : ℕ} (x : Frame) (g : List ℕ) → Reached F m → here F (place_at F m) ≡ ok (some x) → built_at F m x ≡ ok g → suc m < 1_000_000 → Reached F (suc m)
 
 -- what a frame that is there makes of the place, of the map and of the picture
-pub place-next : (F : Film) (m : ℕ) (x : Frame) → here F (placeAt F m) ≡ ok (some x) → placeAt F (suc m) ≡ x.next
-unfolding placeAt past
-place-next F m x e = rw e
+pub place_next : (F : Film) (m : ℕ) (x : Frame) → here F (place_at F m) ≡ ok (some x) → place_at F (suc m) ≡ x.next
+unfolding place_at past
+place_next F m x e = rw e
 
-pub map_next : (F : Film) (m : ℕ) (x : Frame) → here F (placeAt F m) ≡ ok (some x) → mapAt F (suc m) ≡ coloured (mapAt F m) x.cmap
-unfolding mapAt colouredBy
+pub map_next : (F : Film) (m : ℕ) (x : Frame) → here F (place_at F m) ≡ ok (some x) → map_at F (suc m) ≡ coloured (map_at F m) x.cmap
+unfolding map_at coloured_by
 map_next F m x e = rw e
 
-pub picture-next : (F : Film) (m : ℕ) (x : Frame) (g : List ℕ) → here F (placeAt F m) ≡ ok (some x) → builtAt F m x ≡ ok g → picture F (suc (suc m)) ≡ g
+pub picture_next : (F : Film) (m : ℕ) (x : Frame) (g : List ℕ) → here F (place_at F m) ≡ ok (some x) → built_at F m x ≡ ok g → picture F (suc (suc m)) ≡ g
 unfolding picture drawn
-picture-next F m x g e c = rw e (ap (orKeep (picture F m)) c)
+picture_next F m x g e c = rw e (ap (or_keep (picture F m)) c)
 
 -- what holds at a frame that can be reached
 pub record Good (F : Film) (m : ℕ) : Type 0 where
   pub hidden : length (picture F m) ≡ size F
   pub shown : length (picture F (suc m)) ≡ size F
-  pub mapLong : length (mapAt F m) ≡ MAP
-  pub low : 12 ≤ placeAt F m
-  pub high : placeAt F m ≤ F.end
+  pub map_long : length (map_at F m) ≡ MAP
+  pub low : 12 ≤ place_at F m
+  pub high : place_at F m ≤ F.end
   pub few : suc m ≤ 1_000_000
 
 pub good : (F : Film) → Opened F → {m : ℕ} → Reached F m → Good F m
-good F o first = unfold picture placeAt mapAt in record { hidden = o.whole; shown = o.whole; mapLong = o.mapLong; low = o.from; high = o.inside; few = omega arith }
-good F o (next {m = m} x g p e c h) = go (good F o p) (frame-rises (take F.end F.file) (rowBytes F.sizes.width) (placeAt F m) x e)
+good F o first = unfold picture place_at map_at in record { hidden = o.whole; shown = o.whole; map_long = o.map_long; low = o.from; high = o.inside; few = omega arith }
+good F o (next {m = m} x g p e c h) = go (good F o p) (frame_rises (take F.end F.file) (row_bytes F.sizes.width) (place_at F m) x e)
   where
-    go : Good F m → Rises (take F.end F.file) (placeAt F m) x → Good F (suc m)
+    go : Good F m → Rises (take F.end F.file) (place_at F m) x → Good F (suc m)
     go k r = record {
       hidden = k.shown;
-      shown = rw (picture-next F m x g e c) (built-length F x (picture F (suc m)) (picture F m) g k.shown k.hidden c);
-      mapLong = rw (map_next F m x e) (coloured-length (mapAt F m) x.cmap ∙ k.mapLong);
-      low = rw (place-next F m x e) (omega (arith, k.low, r.rises));
-      high = rw (place-next F m x e) (omega (arith, r.ends, length-take F.end F.file));
+      shown = rw (picture_next F m x g e c) (built_length F x (picture F (suc m)) (picture F m) g k.shown k.hidden c);
+      map_long = rw (map_next F m x e) (coloured_length (map_at F m) x.cmap ∙ k.map_long);
+      low = rw (place_next F m x e) (omega (arith, k.low, r.rises));
+      high = rw (place_next F m x e) (omega (arith, r.ends, length-take F.end F.file));
       few = h;
     }
 
@@ -68,53 +68,53 @@ module _ {A : Type 0} where
   pick_same true x y = refl
   pick_same false x y = refl
 
-  pub pick-left : (t : Bool) (x y z : A) → pick t (pick t x y) z ≡ pick (not t) z x
-  pick-left true x y z = refl
-  pick-left false x y z = refl
+  pub pick_left : (t : Bool) (x y z : A) → pick t (pick t x y) z ≡ pick (not t) z x
+  pick_left true x y z = refl
+  pick_left false x y z = refl
 
-  pub pick-right : (t : Bool) (x y z : A) → pick t z (pick t y x) ≡ pick (not t) x z
-  pick-right true x y z = refl
-  pick-right false x y z = refl
+  pub pick_right : (t : Bool) (x y z : A) → pick t z (pick t y x) ≡ pick (not t) x z
+  pick_right true x y z = refl
+  pick_right false x y z = refl
 
-  pub pick-back-left : (t : Bool) (x y z : A) → pick (not t) x (pick (not t) y z) ≡ pick t z x
-  pick-back-left true x y z = refl
-  pick-back-left false x y z = refl
+  pub pick_back_left : (t : Bool) (x y z : A) → pick (not t) x (pick (not t) y z) ≡ pick t z x
+  pick_back_left true x y z = refl
+  pick_back_left false x y z = refl
 
-  pub pick-back-right : (t : Bool) (x y z : A) → pick (not t) (pick (not t) z y) x ≡ pick t x z
-  pick-back-right true x y z = refl
-  pick-back-right false x y z = refl
+  pub pick_back_right : (t : Bool) (x y z : A) → pick (not t) (pick (not t) z y) x ≡ pick t x z
+  pick_back_right true x y z = refl
+  pick_back_right false x y z = refl
 
 -- the state at a frame that can be reached is within the limits
-pub state-good : (F : Film) → Opened F → (m : ℕ) → Good F m → stateLength (stands F m).state ≡ ok (size F)
-unfolding stateLength stands
-state-good F o m k =
-    simp (le-leb 1 (suc m) (omega arith), le-leb (suc m) 1_000_000 k.few, le-leb 12 (placeAt F m) k.low, le-leb (placeAt F m) F.end k.high, le-leb F.end 2_147_483_647 o.short) o.sizes
+pub state_good : (F : Film) → Opened F → (m : ℕ) → Good F m → state_length (stands F m).state ≡ ok (size F)
+unfolding state_length stands
+state_good F o m k =
+    simp (le-leb 1 (suc m) (omega arith), le-leb (suc m) 1_000_000 k.few, le-leb 12 (place_at F m) k.low, le-leb (place_at F m) F.end k.high, le-leb F.end 2_147_483_647 o.short) o.sizes
 
 -- the pictures that a call is handed
-pub hidden-is : (F : Film) (m : ℕ) → hiddenIn (stands F m) ≡ picture F m
-unfolding hiddenIn stands
-hidden-is F m = pick_same (isOdd (suc m)) (picture F m) (picture F (suc m))
+pub hidden_is : (F : Film) (m : ℕ) → hidden_in (stands F m) ≡ picture F m
+unfolding hidden_in stands
+hidden_is F m = pick_same (is_odd (suc m)) (picture F m) (picture F (suc m))
 
-pub shown-is : (F : Film) (m : ℕ) → shownIn (stands F m) ≡ picture F (suc m)
-unfolding shownIn stands
-shown-is F m = pick_same (isOdd (suc m)) (picture F (suc m)) (picture F m)
+pub shown_is : (F : Film) (m : ℕ) → shown_in (stands F m) ≡ picture F (suc m)
+unfolding shown_in stands
+shown_is F m = pick_same (is_odd (suc m)) (picture F (suc m)) (picture F m)
 
-pub left-long : (F : Film) (m : ℕ) → Good F m → length (stands F m).a ≡ size F
+pub left_long : (F : Film) (m : ℕ) → Good F m → length (stands F m).a ≡ size F
 unfolding stands
-left-long F m k = pick-both (λ (p : List ℕ). length p ≡ size F) (isOdd (suc m)) k.shown k.hidden
+left_long F m k = pick_both (λ (p : List ℕ). length p ≡ size F) (is_odd (suc m)) k.shown k.hidden
 
-pub right-long : (F : Film) (m : ℕ) → Good F m → length (stands F m).b ≡ size F
+pub right_long : (F : Film) (m : ℕ) → Good F m → length (stands F m).b ≡ size F
 unfolding stands
-right-long F m k = pick-both (λ (p : List ℕ). length p ≡ size F) (isOdd (suc m)) k.hidden k.shown
+right_long F m k = pick_both (λ (p : List ℕ). length p ≡ size F) (is_odd (suc m)) k.hidden k.shown
 
-pub map-long : (F : Film) (m : ℕ) → Good F m → length (stands F m).map ≡ MAP
+pub map_long_lem : (F : Film) (m : ℕ) → Good F m → length (stands F m).map ≡ MAP
 unfolding stands
-map-long F m k = k.mapLong
+map_long_lem F m k = k.map_long
 
 -- the records not yet taken back at frame m + 1, the latest first
 unfoldable pub records : Film → ℕ → List (List ℕ)
 records F zero = []
-records F (suc m) = recordAt F m ∷ records F m
+records F (suc m) = record_at F m ∷ records F m
 
 -- what a call at frame m + 1 comes to, if it is answered x and leads to frame m' + 1
 pub record Comes (F : Film) (m m' : ℕ) (x : Answer) (rec : List ℕ) (o : After) : Type 0 where

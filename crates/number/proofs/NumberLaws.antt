@@ -12,72 +12,72 @@ use lib.Seq.{sets}
 use borrow.Author.Tests.{le-leb, lt-leb}
 use Rattle.laws.specs.Bytes.{Bytes}
 use Rattle.laws.proofs.BytesLaws.{bytes_drop}
-use Rattle.number.specs.Number.{Value, readNumber, writeNumber, read_of, Within, ReadAt, fits, after, laid}
+use Rattle.number.specs.Number.{Value, read_number, write_number, read_of, Within, ReadAt, fits, after, laid}
 use Rattle.number.specs.declared.Parsed.{Parsed}
 use Rattle.number.specs.declared.Parsed.TheVariants.{Number, Malformed}
-use Rattle.number.proofs.GroupLaws.{last_written, more-written, groups-most, groups-short, groups-few, high-below, Encoded, encoded, encoded-is, wider, encoded-length, read_back, Decoded, decoded, Front, decoded-front, decoded-taken}
+use Rattle.number.proofs.GroupLaws.{last_written, more_written, groups_most, groups_short, groups_few, high_below, Encoded, encoded, encoded_is, wider, encoded_length, read_back, Decoded, decoded, Front, decoded_front, decoded_taken}
 
 -- one group of a number that is written
-pub write-last : (n : ℕ) → n < 128 → writeNumber n ≡ n ∷ []
-unfolding writeNumber
-write-last n h = last_written 4 n h
+pub write_last : (n : ℕ) → n < 128 → write_number n ≡ n ∷ []
+unfolding write_number
+write_last n h = last_written 4 n h
 
-pub write-more : (n : ℕ) → 128 ≤ n → n < 2 ^ 32 → writeNumber n ≡ (128 + n % 128) ∷ writeNumber (n / 128)
-unfolding writeNumber
-write-more n h l = more-written 3 n h ∙ ap (λ (t : List ℕ). (128 + n % 128) ∷ t) (sym (encoded-is (wider (encoded 3 (n / 128) (omega arith)))))
+pub write_more : (n : ℕ) → 128 ≤ n → n < 2 ^ 32 → write_number n ≡ (128 + n % 128) ∷ write_number (n / 128)
+unfolding write_number
+write_more n h l = more_written 3 n h ∙ ap (λ (t : List ℕ). (128 + n % 128) ∷ t) (sym (encoded_is (wider (encoded 3 (n / 128) (omega arith)))))
 
 -- how many bytes are written: one for each power of 128 that the number reaches, and one more
-pub length_last : (n : ℕ) → n < 128 → length (writeNumber n) ≡ 1
-length_last n h = ap length (write-last n h)
+pub length_last : (n : ℕ) → n < 128 → length (write_number n) ≡ 1
+length_last n h = ap length (write_last n h)
 
-pub length_more : (k n : ℕ) → n < 2 ^ 32 → 128 ^ suc k ≤ n → n < 128 ^ suc (suc k) → length (writeNumber n) ≡ suc (suc k)
-length_more zero n f h l = rw (write-more n (omega arith) f, write-last (n / 128) (omega arith))
+pub length_more : (k n : ℕ) → n < 2 ^ 32 → 128 ^ suc k ≤ n → n < 128 ^ suc (suc k) → length (write_number n) ≡ suc (suc k)
+length_more zero n f h l = rw (write_more n (omega arith) f, write_last (n / 128) (omega arith))
 length_more (suc k) n f h l =
     let big : 128 ≤ n = omega (arith, pow-suc 128 (suc k), one-le-pow (suc k) 128 (lit< tt)) in
-    rw (write-more n big f) (ap suc (length_more k (n / 128) (omega arith)
-    ((le-div_iff_mul-le (lit< tt)).1 (rw (← (pow-suc 128 (suc k))) h)) (high-below (suc k) n l)))
+    rw (write_more n big f) (ap suc (length_more k (n / 128) (omega arith)
+    ((le-div_iff_mul-le (lit< tt)).1 (rw (← (pow-suc 128 (suc k))) h)) (high_below (suc k) n l)))
 
-write-encoded : (n : ℕ) → n < 2 ^ 32 → Encoded 4 n (writeNumber n)
-unfolding writeNumber
-write-encoded n h = encoded 4 n (omega arith)
+write_encoded : (n : ℕ) → n < 2 ^ 32 → Encoded 4 n (write_number n)
+unfolding write_number
+write_encoded n h = encoded 4 n (omega arith)
 
-pub write-length : (n : ℕ) → n < 2 ^ 32 → (1 ≤ length (writeNumber n)) × (length (writeNumber n) ≤ 5)
-write-length n h = encoded-length (write-encoded n h)
+pub write_length : (n : ℕ) → n < 2 ^ 32 → (1 ≤ length (write_number n)) × (length (write_number n) ≤ 5)
+write_length n h = encoded_length (write_encoded n h)
 
-pub write-most : (n : ℕ) → length (writeNumber n) ≤ 5
-unfolding writeNumber
-write-most n = groups-most 4 n
+pub write_most : (n : ℕ) → length (write_number n) ≤ 5
+unfolding write_number
+write_most n = groups_most 4 n
 
-pub write-short : (n : ℕ) → length (writeNumber n) ≤ 1 + n / 128
-unfolding writeNumber
-write-short n = groups-short 4 n
+pub write_short : (n : ℕ) → length (write_number n) ≤ 1 + n / 128
+unfolding write_number
+write_short n = groups_short 4 n
 
 -- a number below 128 ^ suc k takes at most suc k bytes
-pub write-few : (k n : ℕ) → n < 128 ^ suc k → length (writeNumber n) ≤ suc k
-unfolding writeNumber
-write-few k n h = groups-few 4 k n h
+pub write_few : (k n : ℕ) → n < 128 ^ suc k → length (write_number n) ≤ suc k
+unfolding write_number
+write_few k n h = groups_few 4 k n h
 
 -- what is written is read back
-pub read-write : (n : ℕ) (s : List ℕ) → n < 2 ^ 32 → readNumber (writeNumber n ++ s) ≡ some (record { value = n; rest = s })
-unfolding readNumber
-read-write n s h = read_back (write-encoded n h) 1 0 s (inr refl) (omega arith) ∙ ap (λ (v : ℕ). some (record { value = v; rest = s })) (omega arith)
+pub read_write : (n : ℕ) (s : List ℕ) → n < 2 ^ 32 → read_number (write_number n ++ s) ≡ some (record { value = n; rest = s })
+unfolding read_number
+read_write n s h = read_back (write_encoded n h) 1 0 s (inr refl) (omega arith) ∙ ap (λ (v : ℕ). some (record { value = v; rest = s })) (omega arith)
 
 -- a number that was read is below 2^32, and its rest is what stands after it
-read-decoded : {s : List ℕ} {v : Value} → readNumber s ≡ some v → Decoded 5 1 0 s v
-unfolding readNumber
-read-decoded {s} {v} e = decoded 5 1 0 s v e
+read_decoded : {s : List ℕ} {v : Value} → read_number s ≡ some v → Decoded 5 1 0 s v
+unfolding read_number
+read_decoded {s} {v} e = decoded 5 1 0 s v e
 
-pub read-front : (s : List ℕ) (v : Value) → readNumber s ≡ some v → Front s v
-read-front s v e = decoded-front (read-decoded e)
+pub read_front : (s : List ℕ) (v : Value) → read_number s ≡ some v → Front s v
+read_front s v e = decoded_front (read_decoded e)
 
-pub rest-bytes : (s : List ℕ) (v : Value) → Bytes s → readNumber s ≡ some v → Bytes v.rest
-rest-bytes s v y e = rw (read-front s v e).behind (bytes_drop (length s - length v.rest) s y)
+pub rest_bytes : (s : List ℕ) (v : Value) → Bytes s → read_number s ≡ some v → Bytes v.rest
+rest_bytes s v y e = rw (read_front s v e).behind (bytes_drop (length s - length v.rest) s y)
 
 -- what reads well is what would be written
-pub write_read : (s : List ℕ) (v : Value) → Bytes s → readNumber s ≡ some v → s ≡ writeNumber v.value ++ v.rest
-unfolding writeNumber
+pub write_read : (s : List ℕ) (v : Value) → Bytes s → read_number s ≡ some v → s ≡ write_number v.value ++ v.rest
+unfolding write_number
 write_read s v y e =
-    let t = decoded-taken y (read-decoded e) in
+    let t = decoded_taken y (read_decoded e) in
     let n : v.value ≡ t.number = omega (arith, t.sum) in
     rw n t.split
 
@@ -87,23 +87,23 @@ pub fitting : (out : List ℕ) (at : ℕ) (bytes : List ℕ) {next : ℕ} {left 
 unfolding fits after laid
 fitting out at bytes h w = let e = le-leb (at + length bytes) (length out) h in (rw (e, w.0), rw e w.1)
 
-pub not-fitting : (out : List ℕ) (at : ℕ) (bytes : List ℕ) → length out < at + length bytes → (none ≡ after out at bytes) × (out ≡ laid out at bytes)
+pub not_fitting : (out : List ℕ) (at : ℕ) (bytes : List ℕ) → length out < at + length bytes → (none ≡ after out at bytes) × (out ≡ laid out at bytes)
 unfolding fits after laid
-not-fitting out at bytes h = let e = lt-leb (at + length bytes) (length out) h in (rw e, rw e)
+not_fitting out at bytes h = let e = lt-leb (at + length bytes) (length out) h in (rw e, rw e)
 
 -- what an answer of `read` tells its caller
 pub record Found (s : List ℕ) (at value next : ℕ) : Type 0 where
-  pub is : readNumber (drop at s) ≡ some (record { value = value; rest = drop next s })
+  pub is : read_number (drop at s) ≡ some (record { value = value; rest = drop next s })
   pub later : at < next
   pub inside : next ≤ length s
   pub small : value < 2 ^ 32
 
-pub number-found : {s : List ℕ} {at value next : ℕ} {r : Parsed} → ReadAt s at r → r ≡ Number value next → Found s at value next
-number-found {s} {at} {value} {next} w e =
-    let is : some (record { value = value; rest = drop next s }) ≡ readNumber (drop at s) = subst (λ (x : Parsed). read_of s x ≡ readNumber (drop at s)) e w.is in
+pub number_found : {s : List ℕ} {at value next : ℕ} {r : Parsed} → ReadAt s at r → r ≡ Number value next → Found s at value next
+number_found {s} {at} {value} {next} w e =
+    let is : some (record { value = value; rest = drop next s }) ≡ read_number (drop at s) = subst (λ (x : Parsed). read_of s x ≡ read_number (drop at s)) e w.is in
     let inside : next ≤ length s = subst (Within s) e w.within in
-    let front = read-front (drop at s) (record { value = value; rest = drop next s }) (sym is) in
+    let front = read_front (drop at s) (record { value = value; rest = drop next s }) (sym is) in
     record { is = sym is; later = omega (arith, length-drop next s, length-drop at s, front.shorter); inside = inside; small = front.small }
 
-pub none_found : {s : List ℕ} {at : ℕ} {r : Parsed} → ReadAt s at r → r ≡ Malformed → readNumber (drop at s) ≡ none
-none_found {s} {at} w e = sym (subst (λ (x : Parsed). read_of s x ≡ readNumber (drop at s)) e w.is)
+pub none_found : {s : List ℕ} {at : ℕ} {r : Parsed} → ReadAt s at r → r ≡ Malformed → read_number (drop at s) ≡ none
+none_found {s} {at} w e = sym (subst (λ (x : Parsed). read_of s x ≡ read_number (drop at s)) e w.is)

@@ -15,8 +15,8 @@ pub record Value : Type 0 where
   pub rest : List ℕ
 
 -- the last group b, at weight m, after groups that come to a: the sum is below 2^32, and b is 0 only where it is the only group
-unfoldable pub lastGroup : ℕ → ℕ → ℕ → List ℕ → Option Value
-lastGroup m a b s =
+unfoldable pub last_group : ℕ → ℕ → ℕ → List ℕ → Option Value
+last_group m a b s =
     given (ltb (a + m * b) (2 ^ 32)) >>? λ _.
     given (pick (eqb m 1) true (ltb 0 b)) >>? λ _.
     some (record { value = a + m * b; rest = s })
@@ -25,20 +25,20 @@ lastGroup m a b s =
 unfoldable pub groups : ℕ → ℕ → ℕ → List ℕ → Option Value
 groups zero m a s = none
 groups (suc k) m a [] = none
-groups (suc k) m a (b ∷ s) = elim (ltb b 128) [ true ↦ lastGroup m a b s | false ↦ groups k (m * 128) (a + m * (b - 128)) s ]
+groups (suc k) m a (b ∷ s) = elim (ltb b 128) [ true ↦ last_group m a b s | false ↦ groups k (m * 128) (a + m * (b - 128)) s ]
 
 -- the number at the front of s, or none if it is malformed: it ends early, isn't in shortest form, or reaches 2^32
-unfoldable pub readNumber : List ℕ → Option Value
-readNumber s = groups 5 1 0 s
+unfoldable pub read_number : List ℕ → Option Value
+read_number s = groups 5 1 0 s
 
 -- n in at most suc k groups
-unfoldable pub writeGroups : ℕ → ℕ → List ℕ
-writeGroups zero n = n ∷ []
-writeGroups (suc k) n = elim (ltb n 128) [ true ↦ n ∷ [] | false ↦ (128 + n % 128) ∷ writeGroups k (n / 128) ]
+unfoldable pub write_groups : ℕ → ℕ → List ℕ
+write_groups zero n = n ∷ []
+write_groups (suc k) n = elim (ltb n 128) [ true ↦ n ∷ [] | false ↦ (128 + n % 128) ∷ write_groups k (n / 128) ]
 
 -- the bytes of a number below 2^32
-unfoldable pub writeNumber : ℕ → List ℕ
-writeNumber n = writeGroups 4 n
+unfoldable pub write_number : ℕ → List ℕ
+write_number n = write_groups 4 n
 
 -- an answer's value and the bytes after it, which are those from the next place on; Malformed is none, and a record's reader
 -- makes 61 of it
@@ -53,7 +53,7 @@ Within s Malformed = Unit
 
 -- what reading at a place of s answers
 pub record ReadAt (s : List ℕ) (at : ℕ) (r : Parsed) : Type 0 where
-  pub is : read_of s r ≡ readNumber (drop at s)
+  pub is : read_of s r ≡ read_number (drop at s)
   pub within : Within s r
 
 -- whether bytes fit at a place of a buffer

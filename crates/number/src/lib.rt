@@ -1,7 +1,7 @@
 // The numbers of step records: groups of seven bits, low group first.
 ghost use Rattle.std.specs.Prelude.{◌≡◌, ◌+◌, ◌≤◌, length};
 ghost use Rattle.std.proofs.lemmas.List.Edits.{sets};
-ghost use Rattle.number.specs.Number.{ReadAt, writeNumber, laid, after, written_of};
+ghost use Rattle.number.specs.Number.{ReadAt, write_number, laid, after, written_of};
 
 // What stands at a place: a number below 2^32 and the place after it, or no well-formed number.
 #[derive(Drop)]
@@ -69,7 +69,7 @@ pub fn read(s: &[u8], at: usize) -> Parsed
 
 // How many bytes a number takes.
 pub fn written_length(n: u32) -> usize
-    ensures { result ≡ length (writeNumber n) }
+    ensures { result ≡ length (write_number n) }
 {
     if n < 128 {
         return 1;
@@ -88,8 +88,8 @@ pub fn written_length(n: u32) -> usize
 
 // Writes the groups of a number at a place of out where they fit, and answers the place after them.
 fn write_groups(out: &mut [u8], at: usize, n: u32) -> usize
-    requires { at + length (writeNumber n) ≤ length out.old }
-    ensures { (result ≡ at + length (writeNumber n)) × (out.new ≡ sets out.old at (writeNumber n)) }
+    requires { at + length (write_number n) ≤ length out.old }
+    ensures { (result ≡ at + length (write_number n)) × (out.new ≡ sets out.old at (write_number n)) }
 {
     let mut i = at;
     let mut rest = n;
@@ -104,7 +104,7 @@ fn write_groups(out: &mut [u8], at: usize, n: u32) -> usize
 
 // Writes a number at a place of out, if it fits there; else out stays as it is.
 pub fn write(out: &mut [u8], at: usize, n: u32) -> Written
-    ensures { (written_of result ≡ after out.old at (writeNumber n)) × (out.new ≡ laid out.old at (writeNumber n)) }
+    ensures { (written_of result ≡ after out.old at (write_number n)) × (out.new ≡ laid out.old at (write_number n)) }
 {
     if out.len() < at {
         return Written::NoRoom;

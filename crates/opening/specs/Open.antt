@@ -3,21 +3,21 @@
 -- then 37 and 25 for a BODY, or 32, 33, 35, 36, 37 and the delta's refusals. Without a BODY the first picture is what its delta makes of an
 -- all-zero one. The map is cleared, and gets the colours of the first picture's CMAP.
 use Rattle.std.specs.Prelude.{ℕ, Bool, true, false, List, ◌≡◌, leb, eqb, length, take, replicate}
-use Rattle.laws.specs.Result.{Res, Res.ok, Res.fault, ◌>>=◌, need, orRefuse, pick, answer}
+use Rattle.laws.specs.Result.{Res, Res.ok, Res.fault, ◌>>=◌, need, or_refuse, pick, answer}
 use Rattle.refusal.specs.Number.{number_of}
-use Rattle.state.specs.State.{rowBytes, frameBytes, opened, zeros}
+use Rattle.state.specs.State.{row_bytes, frame_bytes, opened, zeros}
 use Rattle.state.specs.World.{World}
 use Rattle.state.specs.Film.{Film}
 use Rattle.state.specs.declared.Sizes.{Sizes}
 use Rattle.iff.specs.Ids.{BMHD, BODY, CMAP, ANHD, DLTA}
 use Rattle.iff.specs.Chunk.{has, contents}
-use Rattle.form.specs.Form.{FormIlbm, chunks_of, animEnd, nextForm}
-use Rattle.bmhd.specs.Header.{bitmapHeader}
+use Rattle.form.specs.Form.{FormIlbm, chunks_of, anim_end, next_form}
+use Rattle.bmhd.specs.Header.{bitmap_header}
 use Rattle.bmhd.specs.declared.Header.{Header}
 use Rattle.body.specs.Body.{body}
-use Rattle.anhd.specs.Anhd.{frameHeader}
+use Rattle.anhd.specs.Anhd.{frame_header}
 use Rattle.delta.specs.Reading.{shape_of}
-use Rattle.delta.specs.Delta.{readDelta, draw}
+use Rattle.delta.specs.Delta.{read_delta, draw}
 use Rattle.colours.specs.Colours.{MAP, unset, colours, coloured}
 use Rattle.opening.specs.declared.Opening.{Opening}
 use Rattle.opening.specs.declared.Opening.TheVariants.{Opened, Refused}
@@ -32,8 +32,8 @@ pub record Places : Type 0 where
   pub body : Bool
 
 -- whether the first frame's chunks have a BODY: 23 without a BMHD, and with neither a BODY nor a DLTA
-unfoldable pub bodyIn : List ℕ → Res Bool
-bodyIn s =
+unfoldable pub body_in : List ℕ → Res Bool
+body_in s =
     has s BMHD >>= λ h.
     need h 23 >>= λ _.
     has s BODY >>= λ b.
@@ -43,51 +43,51 @@ bodyIn s =
     ok false)
 
 -- 21 or 23 as the chunks of FORM ANIM are walked
-unfoldable pub placesIn : List ℕ → Res Places
-placesIn s =
-    nextForm s 12 >>= λ o.
-    orRefuse 23 o >>= λ x.
-    bodyIn (chunks_of s x) >>= λ b.
+unfoldable pub places_in : List ℕ → Res Places
+places_in s =
+    next_form s 12 >>= λ o.
+    or_refuse 23 o >>= λ x.
+    body_in (chunks_of s x) >>= λ b.
     ok (record { end = length s; form = x; body = b })
 
 -- before them 13, 21 for under 12 bytes, 22, 21 for the outer length
-unfoldable pub firstPlaces : List ℕ → Res Places
-firstPlaces file =
+unfoldable pub first_places : List ℕ → Res Places
+first_places file =
     need (leb (length file) 2_147_483_647) 13 >>= λ _.
-    animEnd file >>= λ end.
-    placesIn (take end file)
+    anim_end file >>= λ end.
+    places_in (take end file)
 
 -- what the first picture's BMHD says, where t tells whether there is a BODY: 31 with neither a BODY nor an ANHD, then 24
-unfoldable pub firstHeader : List ℕ → Bool → Res Header
-firstHeader s t =
+unfoldable pub first_header : List ℕ → Bool → Res Header
+first_header s t =
     pick t (ok true) (has s ANHD) >>= λ h.
     need h 31 >>= λ _.
-    bitmapHeader (contents s BMHD)
+    bitmap_header (contents s BMHD)
 
 -- the length of the first picture's frame, or what refuses it up to and including 24
-unfoldable pub frameSize : List ℕ → Res ℕ
-frameSize file = firstPlaces file >>= λ p. firstHeader (chunks_of file p.form) p.body >>= λ z. ok z.length
+unfoldable pub frame_size : List ℕ → Res ℕ
+frame_size file = first_places file >>= λ p. first_header (chunks_of file p.form) p.body >>= λ z. ok z.length
 
 -- what an ANHD and a DLTA make of an all-zero picture, with a CMAP beside them: 32, 33, 35, 36, then 37, then the delta's refusals
-unfoldable pub firstDelta : List ℕ → List ℕ → List ℕ → Sizes → Res (List ℕ)
-firstDelta h c d z =
-    frameHeader true (rowBytes z.width) h >>= λ x.
+unfoldable pub first_delta : List ℕ → List ℕ → List ℕ → Sizes → Res (List ℕ)
+first_delta h c d z =
+    frame_header true (row_bytes z.width) h >>= λ x.
     colours c >>= λ _.
-    readDelta (shape_of z x.items) d >>= λ ops.
-    ok (draw (shape_of z x.items) d ops (replicate (frameBytes z) 0))
+    read_delta (shape_of z x.items) d >>= λ ops.
+    ok (draw (shape_of z x.items) d ops (replicate (frame_bytes z) 0))
 
 -- the picture in a BODY, with a CMAP beside it: 37, then 25
-unfoldable pub firstBody : List ℕ → List ℕ → Sizes → Bool → Res (List ℕ)
-firstBody c d z packed = colours c >>= λ _. body d z packed
+unfoldable pub first_body : List ℕ → List ℕ → Sizes → Bool → Res (List ℕ)
+first_body c d z packed = colours c >>= λ _. body d z packed
 
 -- the bytes of the first picture, by whether there is a BODY: that, or else what the delta makes
-unfoldable pub firstPicture : List ℕ → Bool → Header → Res (List ℕ)
-firstPicture s true z = firstBody (contents s CMAP) (contents s BODY) z.sizes z.packed
-firstPicture s false z = firstDelta (contents s ANHD) (contents s CMAP) (contents s DLTA) z.sizes
+unfoldable pub first_picture : List ℕ → Bool → Header → Res (List ℕ)
+first_picture s true z = first_body (contents s CMAP) (contents s BODY) z.sizes z.packed
+first_picture s false z = first_delta (contents s ANHD) (contents s CMAP) (contents s DLTA) z.sizes
 
 -- the map at frame 1, by its chunks
-unfoldable pub firstMap : List ℕ → List ℕ
-firstMap s = coloured unset (contents s CMAP)
+unfoldable pub first_map : List ℕ → List ℕ
+first_map s = coloured unset (contents s CMAP)
 
 -- the first picture: its sizes, its bytes and its map
 pub record First : Type 0 where
@@ -98,33 +98,33 @@ pub record First : Type 0 where
 -- the first picture in a frame's chunks, where t tells whether there is a BODY, with buffers A and B and a map of so many bytes
 unfoldable pub first_of : List ℕ → Bool → ℕ → ℕ → ℕ → Res First
 first_of s t a b map =
-    firstHeader s t >>= λ z.
+    first_header s t >>= λ z.
     need (eqb a z.length) 12 >>= λ _.
     need (eqb b z.length) 12 >>= λ _.
     need (eqb map MAP) 12 >>= λ _.
-    firstPicture s t z >>= λ p.
-    ok (record { sizes = z.sizes; picture = p; map = firstMap s })
+    first_picture s t z >>= λ p.
+    ok (record { sizes = z.sizes; picture = p; map = first_map s })
 
 -- what is fixed with it: the file, its end place and the place after frame 1
-abbrev pub filmOf : List ℕ → ℕ → ℕ → First → Film
-filmOf file end start p = record { file = file; end = end; sizes = p.sizes; start = start; first = p.picture; map = p.map }
+abbrev pub film_of : List ℕ → ℕ → ℕ → First → Film
+film_of file end start p = record { file = file; end = end; sizes = p.sizes; start = start; first = p.picture; map = p.map }
 
 -- opening a file, with buffers A and B and a map of so many bytes
 unfoldable pub opening : List ℕ → ℕ → ℕ → ℕ → Res Film
 opening file a b map =
-    firstPlaces file >>= λ p.
+    first_places file >>= λ p.
     first_of (chunks_of file p.form) p.body a b map >>= λ f.
-    ok (filmOf file p.end p.form.next f)
+    ok (film_of file p.end p.form.next f)
 
 -- A, B, the map and the state after it: both buffers hold frame 1 and the map its colours, or all three stay and the state is six zeros
-abbrev pub worldOpened : (a b map : List ℕ) → Res Film → World
-worldOpened a b map (ok F) = record { a = F.first; b = F.first; map = F.map; state = opened F.sizes F.start F.end }
-worldOpened a b map (fault n) = record { a = a; b = b; map = map; state = zeros }
+abbrev pub world_opened : (a b map : List ℕ) → Res Film → World
+world_opened a b map (ok F) = record { a = F.first; b = F.first; map = F.map; state = opened F.sizes F.start F.end }
+world_opened a b map (fault n) = record { a = a; b = b; map = map; state = zeros }
 
 -- what the answers say in the paper's terms
-abbrev pub openingOf : Opening → Res (Unit {0})
-openingOf Opened = ok tt
-openingOf (Refused why) = fault (number_of why)
+abbrev pub opening_of : Opening → Res (Unit {0})
+opening_of Opened = ok tt
+opening_of (Refused why) = fault (number_of why)
 
 abbrev pub size_of : Size → Res ℕ
 size_of (Bytes n) = ok n
@@ -132,8 +132,8 @@ size_of (SizeRefused why) = fault (number_of why)
 
 -- what an opening answers and leaves, where it comes to q
 pub record Opens (q : Res Film) (a b map : List ℕ) (r : OpenedFile) (w : World) : Type 0 where
-  pub answer : openingOf r.answer ≡ answer q
-  pub left : w ≡ worldOpened a b map q
+  pub answer : opening_of r.answer ≡ answer q
+  pub left : w ≡ world_opened a b map q
 
 -- the contract of opening
 abbrev pub MeetsOpen : (file a b map : List ℕ) (r : OpenedFile) (w : World) → Type 0

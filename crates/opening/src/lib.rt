@@ -3,9 +3,9 @@
 ghost use Rattle.std.specs.Prelude.{◌≡◌, length};
 ghost use Rattle.opening.specs.declared.Opening.TheVariants.{Refused};
 ghost use Rattle.state.specs.State.{zeros};
-ghost use Rattle.bmhd.specs.Header.{bmhdOf};
-ghost use Rattle.opening.specs.Open.{bodyIn, placesIn, firstPlaces, firstHeader, frameSize, first_of, size_of, MeetsOpen};
-ghost use Rattle.opening.specs.Parts.{hasBodyOf, places_of, OpensFirst};
+ghost use Rattle.bmhd.specs.Header.{bmhd_of};
+ghost use Rattle.opening.specs.Open.{body_in, places_in, first_places, first_header, frame_size, first_of, size_of, MeetsOpen};
+ghost use Rattle.opening.specs.Parts.{has_body_of, places_of, OpensFirst};
 
 mod picture;
 
@@ -72,7 +72,7 @@ fn refused(why: Refusal) -> OpenedFile
 
 // Looks for a BMHD, and a BODY or else a DLTA.
 fn body_in(chunks: &[u8]) -> HasBody
-    ensures { hasBodyOf result ≡ bodyIn chunks.now }
+    ensures { has_body_of result ≡ body_in chunks.now }
 {
     let p = iff::find_three(chunks, BMHD, BODY, DLTA);
     let h = p.first;
@@ -95,7 +95,7 @@ fn body_in(chunks: &[u8]) -> HasBody
 
 // Finds the first picture in FORM ANIM.
 fn places_in(anim: &[u8]) -> Located
-    ensures { places_of result ≡ placesIn anim.now }
+    ensures { places_of result ≡ places_in anim.now }
 {
     let f = form::next_form(anim, 12);
     match f {
@@ -120,7 +120,7 @@ fn places_in(anim: &[u8]) -> Located
 
 // Finds the first picture of a file.
 fn first_places(file: &[u8]) -> Located
-    ensures { places_of result ≡ firstPlaces file.now }
+    ensures { places_of result ≡ first_places file.now }
 {
     if State::MAX_PLACE < file.len() {
         return Located::Refused(Refusal::FileTooLong);
@@ -134,7 +134,7 @@ fn first_places(file: &[u8]) -> Located
 
 // What the first picture's BMHD says; without a BODY, ANHD must be there too, and is looked for first.
 fn first_header(chunks: &[u8], body: bool) -> Bmhd
-    ensures { bmhdOf result ≡ firstHeader chunks.now body }
+    ensures { bmhd_of result ≡ first_header chunks.now body }
 {
     if !body {
         let h = iff::find(chunks, ANHD);
@@ -149,7 +149,7 @@ fn first_header(chunks: &[u8], body: bool) -> Bmhd
 
 // The length of the first picture's frame, or what refuses it up to and including its BMHD.
 pub fn frame_size(file: &[u8]) -> Size
-    ensures { size_of result ≡ frameSize file.now }
+    ensures { size_of result ≡ frame_size file.now }
 {
     let p = first_places(file);
     match p {

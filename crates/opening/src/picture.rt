@@ -2,8 +2,8 @@
 ghost use Rattle.std.specs.Prelude.{◌≡◌, length};
 ghost use Rattle.laws.specs.Result.{Res.ok};
 ghost use Rattle.colours.specs.Colours.{MAP};
-ghost use Rattle.state.specs.State.{frameLength};
-ghost use Rattle.opening.specs.Open.{firstDelta, firstBody, firstPicture, firstMap};
+ghost use Rattle.state.specs.State.{frame_length};
+ghost use Rattle.opening.specs.Open.{first_delta, first_body, first_picture, first_map};
 ghost use Rattle.opening.specs.Parts.{Fills};
 
 use anhd::Anhd;
@@ -26,8 +26,8 @@ pub(crate) enum Filled {
 
 // Fills A with the picture that an ANHD and a DLTA make of zeros, with a CMAP beside them, all or nothing.
 fn first_delta(a: &mut [u8], anhd: &[u8], cmap: &[u8], dlta: &[u8], sizes: Sizes) -> Filled
-    requires { frameLength sizes ≡ ok (length a.old) }
-    ensures { Fills (firstDelta anhd.now cmap.now dlta.now sizes) a.old result a.new }
+    requires { frame_length sizes ≡ ok (length a.old) }
+    ensures { Fills (first_delta anhd.now cmap.now dlta.now sizes) a.old result a.new }
 {
     let h = anhd::frame_header(true, sizes.row_bytes(), anhd);
     match h {
@@ -48,8 +48,8 @@ fn first_delta(a: &mut [u8], anhd: &[u8], cmap: &[u8], dlta: &[u8], sizes: Sizes
 
 // Fills A with the picture in a BODY, with a CMAP beside it, all or nothing.
 fn first_body(a: &mut [u8], cmap: &[u8], body: &[u8], sizes: Sizes, packed: bool) -> Filled
-    requires { frameLength sizes ≡ ok (length a.old) }
-    ensures { Fills (firstBody cmap.now body.now sizes packed) a.old result a.new }
+    requires { frame_length sizes ≡ ok (length a.old) }
+    ensures { Fills (first_body cmap.now body.now sizes packed) a.old result a.new }
 {
     if !good_length(cmap.len()) {
         return Filled::Refused(Refusal::BadColours);
@@ -63,8 +63,8 @@ fn first_body(a: &mut [u8], cmap: &[u8], body: &[u8], sizes: Sizes, packed: bool
 
 // Fills A with the first picture, all or nothing.
 pub(crate) fn first_picture(a: &mut [u8], chunks: &[u8], body: bool, header: Header) -> Filled
-    requires { frameLength header.sizes ≡ ok (length a.old) }
-    ensures { Fills (firstPicture chunks.now body header) a.old result a.new }
+    requires { frame_length header.sizes ≡ ok (length a.old) }
+    ensures { Fills (first_picture chunks.now body header) a.old result a.new }
 {
     let cmap = iff::contents(chunks, CMAP);
     if body {
@@ -88,7 +88,7 @@ pub(crate) fn first_picture(a: &mut [u8], chunks: &[u8], body: bool, header: Hea
 // Clears the map, and gives it the first picture's colours.
 pub(crate) fn first_map(map: &mut [u8], chunks: &[u8])
     requires { length map.old ≡ MAP }
-    ensures { map.new ≡ firstMap chunks.now }
+    ensures { map.new ≡ first_map chunks.now }
 {
     fill(map, 0);
     copy(map, iff::contents(chunks, CMAP));

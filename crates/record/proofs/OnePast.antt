@@ -6,31 +6,31 @@ use mathlib.Core.Logic.{◌↔◌}
 use mathlib.Core.Path.{◌≡◌, sym, ap, ◌∙◌}
 use borrow.Author.Tests.{eqb-true}
 use Rattle.laws.specs.Bytes.{Bytes}
-use Rattle.laws.specs.Result.{Res, Res.ok, ◌>>=◌, orRefuse}
-use Rattle.laws.proofs.ResultLaws.{Each, Each.each, each-need, each-bind, each_of, each-is, ok_same}
-use Rattle.record.specs.Record.{recordBytes, Past, past_of, restored}
-use Rattle.record.proofs.ReadLaws.{record-read}
+use Rattle.laws.specs.Result.{Res, Res.ok, ◌>>=◌, or_refuse}
+use Rattle.laws.proofs.ResultLaws.{Each, Each.each, each_need, each_bind, each_of, each_is, ok_same}
+use Rattle.record.specs.Record.{record_bytes, Past, past_of, restored}
+use Rattle.record.proofs.ReadLaws.{record_read}
 
 -- a record that is accepted is the one that the step which it leads back over would write
-pub restored-read : (bytes shown map : List ℕ) (frame next : ℕ) → Bytes bytes
-    → Each (λ (p : Past). bytes ≡ recordBytes frame p.place p.picture shown p.map map) (restored bytes shown map frame next)
+pub restored_read : (bytes shown map : List ℕ) (frame next : ℕ) → Bytes bytes
+    → Each (λ (p : Past). bytes ≡ record_bytes frame p.place p.picture shown p.map map) (restored bytes shown map frame next)
 unfolding restored
-restored-read bytes shown map frame next y =
-    each-bind (each_of 61 (record-read bytes shown map y)) λ p r.
-    each-need _ 62 _ λ _. each-need _ 62 _ λ e. each-need _ 62 _ λ _. each-need _ 62 _ λ _.
-    each (r ∙ ap (λ (n : ℕ). recordBytes n p.place p.picture shown p.map map) (eqb-true _ _ e))
+restored_read bytes shown map frame next y =
+    each_bind (each_of 61 (record_read bytes shown map y)) λ p r.
+    each_need _ 62 _ λ _. each_need _ 62 _ λ e. each_need _ 62 _ λ _. each_need _ 62 _ λ _.
+    each (r ∙ ap (λ (n : ℕ). record_bytes n p.place p.picture shown p.map map) (eqb-true _ _ e))
 
 module _ (shown map : List ℕ) (frame next : ℕ) {bytes bytes' : List ℕ} {p p' : Past} (y : Bytes bytes) (y' : Bytes bytes')
     (e : restored bytes shown map frame next ≡ ok p) (e' : restored bytes' shown map frame next ≡ ok p') where
-  pub one-past : (bytes ≡ bytes') ↔ ((p.picture ≡ p'.picture) × (p.map ≡ p'.map) × (p.place ≡ p'.place))
-  one-past = (same-past, same-record)
+  pub one_past : (bytes ≡ bytes') ↔ ((p.picture ≡ p'.picture) × (p.map ≡ p'.map) × (p.place ≡ p'.place))
+  one_past = (same_past, same_record)
     where
-      same-past : bytes ≡ bytes' → (p.picture ≡ p'.picture) × (p.map ≡ p'.map) × (p.place ≡ p'.place)
-      same-past q =
+      same_past : bytes ≡ bytes' → (p.picture ≡ p'.picture) × (p.map ≡ p'.map) × (p.place ≡ p'.place)
+      same_past q =
           let same : p ≡ p' = ok_same (sym e ∙ ap (λ (b : List ℕ). restored b shown map frame next) q ∙ e') in
           (ap (λ (x : Past). x.picture) same, ap (λ (x : Past). x.map) same, ap (λ (x : Past). x.place) same)
 
-      same-record : (p.picture ≡ p'.picture) × (p.map ≡ p'.map) × (p.place ≡ p'.place) → bytes ≡ bytes'
-      same-record q =
-          each-is e (restored-read bytes shown map frame next y)
-          ∙ rw (q.0, q.1, q.2) (sym (each-is e' (restored-read bytes' shown map frame next y')))
+      same_record : (p.picture ≡ p'.picture) × (p.map ≡ p'.map) × (p.place ≡ p'.place) → bytes ≡ bytes'
+      same_record q =
+          each_is e (restored_read bytes shown map frame next y)
+          ∙ rw (q.0, q.1, q.2) (sym (each_is e' (restored_read bytes' shown map frame next y')))

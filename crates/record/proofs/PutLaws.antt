@@ -5,7 +5,7 @@ use mathlib.Core.Option.{some}
 use mathlib.Core.Path.{◌≡◌, refl, sym, ap, ◌∙◌}
 use lib.ListN.{length}
 use lib.Seq.{sets}
-use Rattle.laws.proofs.ResultLaws.{none-some, some_same}
+use Rattle.laws.proofs.ResultLaws.{none_some, some_same}
 use Rattle.number.specs.Number.{after, laid, written_of}
 use Rattle.number.proofs.NumberLaws.{fitting}
 use Rattle.number.specs.declared.Written.{Written}
@@ -21,5 +21,5 @@ module _ (out : List ℕ) (at : ℕ) (bytes out' : List ℕ) (r : Written) (h : 
   pub put_next : (next : ℕ) → r ≡ Next next → Put out at bytes out' next
   put_next next e = put_is (some_same (sym (ap written_of e) ∙ w.0 ∙ sym fits.0)) (w.1 ∙ sym fits.1)
 
-  pub put-fits : {A : Type 0} → r ≡ NoRoom → A
-  put-fits e = none-some (sym (ap written_of e) ∙ w.0 ∙ sym fits.0)
+  pub put_fits : {A : Type 0} → r ≡ NoRoom → A
+  put_fits e = none_some (sym (ap written_of e) ∙ w.0 ∙ sym fits.0)

@@ -3,27 +3,27 @@
 -- pictures and the two maps only.
 use Rattle.std.specs.Prelude.{ℕ, ◌*◌, List, ◌++◌, ◌≡◌, leb, ltb, eqb, length}
 use Rattle.std.proofs.Math.Option.{Option, some}
-use Rattle.laws.specs.Result.{Res, Res.ok, Res.fault, ◌>>=◌, need, orRefuse, leaves, ◌>>?◌, given}
-use Rattle.laws.specs.Store.{withFront}
-use Rattle.number.specs.Number.{readNumber, writeNumber}
+use Rattle.laws.specs.Result.{Res, Res.ok, Res.fault, ◌>>=◌, need, or_refuse, leaves, ◌>>?◌, given}
+use Rattle.laws.specs.Store.{with_front}
+use Rattle.number.specs.Number.{read_number, write_number}
 use Rattle.refusal.specs.Number.{number_of}
 use Rattle.colours.specs.Colours.{MAP, coloured}
-use Rattle.runs.specs.Runs.{runsOf, differing}
-use Rattle.record.specs.RunList.{listBytes, beforeOf}
+use Rattle.runs.specs.Runs.{runs_of, differing}
+use Rattle.record.specs.RunList.{list_bytes, before_of}
 use Rattle.record.specs.declared.Recorded.{Recorded}
 use Rattle.record.specs.declared.Recorded.TheVariants.{Written, Refused}
 
 -- the picture part of a record: the two numbers, and the run list of the picture
-unfoldable pub pictureBytes : ℕ → ℕ → List ℕ → List ℕ → List ℕ
-pictureBytes frame place old new = writeNumber frame ++ writeNumber place ++ listBytes (runsOf old new)
+unfoldable pub picture_bytes : ℕ → ℕ → List ℕ → List ℕ → List ℕ
+picture_bytes frame place old new = write_number frame ++ write_number place ++ list_bytes (runs_of old new)
 
 -- the map part: the run list of the map
-unfoldable pub mapBytes : List ℕ → List ℕ → List ℕ
-mapBytes old new = listBytes (runsOf old new)
+unfoldable pub map_bytes : List ℕ → List ℕ → List ℕ
+map_bytes old new = list_bytes (runs_of old new)
 
 -- the bytes of a record, by the two numbers, the pictures and the maps
-unfoldable pub recordBytes : ℕ → ℕ → List ℕ → List ℕ → List ℕ → List ℕ → List ℕ
-recordBytes frame place old new map map' = pictureBytes frame place old new ++ mapBytes map map'
+unfoldable pub record_bytes : ℕ → ℕ → List ℕ → List ℕ → List ℕ → List ℕ → List ℕ
+record_bytes frame place old new map map' = picture_bytes frame place old new ++ map_bytes map map'
 
 -- a record's length and the number of bytes of the picture that changed: what a written record is answered with
 pub record Measure : Type 0 where
@@ -31,7 +31,7 @@ pub record Measure : Type 0 where
   pub changed : ℕ
 
 unfoldable pub measure : ℕ → ℕ → List ℕ → List ℕ → List ℕ → List ℕ → Measure
-measure frame place old new map map' = record { length = length (recordBytes frame place old new map map'); changed = differing old new }
+measure frame place old new map map' = record { length = length (record_bytes frame place old new map map'); changed = differing old new }
 
 -- the record of a step to a frame with this CMAP, written into a buffer of room bytes: 12 for pictures of two lengths or longer than a frame
 -- can be, and for a map that isn't 768 bytes long, then 51
@@ -40,13 +40,13 @@ written room frame place old new map cmap =
     need (eqb (length old) (length new)) 12 >>= λ _.
     need (leb (length old) (8 * 1024 * 128)) 12 >>= λ _.
     need (eqb (length map) MAP) 12 >>= λ _.
-    need (leb (length (recordBytes frame place old new map (coloured map cmap))) room) 51 >>= λ _.
+    need (leb (length (record_bytes frame place old new map (coloured map cmap))) room) 51 >>= λ _.
     ok (measure frame place old new map (coloured map cmap))
 
 -- what recording a step answers, and what it leaves in the record buffer, in the hidden buffer and in the map
 pub record Commits (out : List ℕ) (frame place : ℕ) (old new map cmap : List ℕ) (r : Res Measure) (out' old' map' : List ℕ) : Type 0 where
   pub answer : r ≡ written (length out) frame place old new map cmap
-  pub bytes : out' ≡ leaves out (λ m. withFront out (recordBytes frame place old new map (coloured map cmap))) r
+  pub bytes : out' ≡ leaves out (λ m. with_front out (record_bytes frame place old new map (coloured map cmap))) r
   pub picture : old' ≡ leaves old (λ m. new) r
   pub colours : map' ≡ leaves map (λ m. coloured map cmap) r
 
@@ -60,17 +60,17 @@ pub record Past : Type 0 where
 -- none if a number or a list is malformed, there are bytes left over, or an old byte equals the one it replaces
 unfoldable pub past_of : List ℕ → List ℕ → List ℕ → Option Past
 past_of bytes shown map =
-    readNumber bytes >>? λ f.
-    readNumber f.rest >>? λ p.
-    beforeOf p.rest shown >>? λ b.
-    beforeOf b.rest map >>? λ c.
+    read_number bytes >>? λ f.
+    read_number f.rest >>? λ p.
+    before_of p.rest shown >>? λ b.
+    before_of b.rest map >>? λ c.
     given (eqb (length c.rest) 0) >>? λ _.
     some (record { frame = f.value; place = p.value; picture = b.buffer; map = c.buffer })
 
 -- a record put back at a frame number and a next place: 61, then 62
 unfoldable pub restored : List ℕ → List ℕ → List ℕ → ℕ → ℕ → Res Past
 restored bytes shown map frame next =
-    orRefuse 61 (past_of bytes shown map) >>= λ p.
+    or_refuse 61 (past_of bytes shown map) >>= λ p.
     need (leb 2 p.frame) 62 >>= λ _.
     need (eqb p.frame frame) 62 >>= λ _.
     need (leb 12 p.place) 62 >>= λ _.
@@ -78,6 +78,6 @@ restored bytes shown map frame next =
     ok p
 
 -- what the answer says in the paper's terms
-abbrev pub recordedOf : Recorded → Res Measure
-recordedOf (Written length changed) = ok (record { length = length; changed = changed })
-recordedOf (Refused why) = fault (number_of why)
+abbrev pub recorded_of : Recorded → Res Measure
+recorded_of (Written length changed) = ok (record { length = length; changed = changed })
+recorded_of (Refused why) = fault (number_of why)

@@ -3,13 +3,13 @@ ghost use Rattle.std.specs.Prelude.{◌≡◌, ◌+◌, ◌*◌, ◌<◌, ◌≤
 ghost use Rattle.std.proofs.lemmas.List.Edits.{sets};
 ghost use Rattle.laws.specs.Result.{pick};
 ghost use Rattle.laws.specs.Put.{Put};
-ghost use Rattle.number.specs.Number.{writeNumber};
-ghost use Rattle.runs.specs.Runs.{runsOf};
+ghost use Rattle.number.specs.Number.{write_number};
+ghost use Rattle.runs.specs.Runs.{runs_of};
 ghost use Rattle.changes.specs.Count.{count};
-ghost use Rattle.record.specs.RunList.{runBytes, runsBytes, listBytes};
+ghost use Rattle.record.specs.RunList.{run_bytes, runs_bytes, list_bytes};
 ghost use Rattle.colours.specs.Colours.{coloured};
-ghost use Rattle.record.specs.Record.{pictureBytes, mapBytes, recordBytes, Commits, recordedOf};
-ghost use Rattle.record.specs.Room.{mapRoom};
+ghost use Rattle.record.specs.Record.{picture_bytes, map_bytes, record_bytes, Commits, recorded_of};
+ghost use Rattle.record.specs.Room.{map_room};
 ghost use Rattle.record.specs.Walk.{Counted, Laid};
 
 use changes::{Counts, count};
@@ -28,7 +28,7 @@ pub enum Recorded {
 // How many bytes a run is written in.
 fn run_length(gap: usize, count: usize) -> usize
     requires { gap + count ≤ 8 * 1024 * 128 }
-    ensures { (result ≡ length (writeNumber gap) + length (writeNumber count) + count) × (result ≤ 10 + count) }
+    ensures { (result ≡ length (write_number gap) + length (write_number count) + count) × (result ≤ 10 + count) }
 {
     number::written_length(gap as u32) + number::written_length(count as u32) + count
 }
@@ -36,7 +36,7 @@ fn run_length(gap: usize, count: usize) -> usize
 // How many bytes the runs of two buffers of one length are written in.
 fn measure(old: &[u8], new: &[u8]) -> usize
     requires { (length old.now ≡ length new.now) × (length old.now ≤ 8 * 1024 * 128) }
-    ensures { result ≡ length (runsBytes (runsOf old.now new.now)) }
+    ensures { result ≡ length (runs_bytes (runs_of old.now new.now)) }
 {
     let mut at = 0;
     let mut bytes = 0;
@@ -56,7 +56,7 @@ fn measure(old: &[u8], new: &[u8]) -> usize
 // a number takes at most one byte, and one more for each 128 that it says.
 fn runs_fit(counts: Counts, old: &[u8], new: &[u8], room: usize) -> bool
     requires { (length old.now ≡ length new.now) × (length old.now ≤ 8 * 1024 * 128) × (counts ≡ count old.now new.now) }
-    ensures { result ≡ leb (length (runsBytes (runsOf old.now new.now))) room }
+    ensures { result ≡ leb (length (runs_bytes (runs_of old.now new.now))) room }
 {
     if 2 * counts.runs + counts.changed + old.len() / 128 <= room {
         return true;
@@ -66,8 +66,8 @@ fn runs_fit(counts: Counts, old: &[u8], new: &[u8], room: usize) -> bool
 
 // Writes a number at a place of out where it fits, and answers the place after it.
 fn put_number(out: &mut [u8], at: usize, n: u32) -> usize
-    requires { at + length (writeNumber n) ≤ length out.old }
-    ensures { Put out.old at (writeNumber n) out.new result }
+    requires { at + length (write_number n) ≤ length out.old }
+    ensures { Put out.old at (write_number n) out.new result }
 {
     let w = number::write(out, at, n);
     match w {
@@ -97,8 +97,8 @@ fn replace(dst: &mut [u8], to: usize, src: &[u8], from: usize, count: usize, wan
 // Writes a run, whose bytes stand at a place of the old buffer, at a place of out where it fits, and answers the place after it.
 fn put_run(out: &mut [u8], at: usize, gap: usize, old: &[u8], start: usize, count: usize) -> usize
     requires { (gap < 2 ^ 32) × (count < 2 ^ 32) × (start + count ≤ length old.now)
-        × (at + (length (writeNumber gap) + length (writeNumber count) + count) ≤ length out.old) }
-    ensures { Put out.old at (runBytes (record { gap = gap; bytes = take count (drop start old.now) })) out.new result }
+        × (at + (length (write_number gap) + length (write_number count) + count) ≤ length out.old) }
+    ensures { Put out.old at (run_bytes (record { gap = gap; bytes = take count (drop start old.now) })) out.new result }
 {
     let count_at = put_number(out, at, gap as u32);
     let bytes_at = put_number(out, count_at, count as u32);
@@ -110,8 +110,8 @@ fn put_run(out: &mut [u8], at: usize, gap: usize, old: &[u8], start: usize, coun
 // bytes are put into the old buffer.
 fn put_runs(out: &mut [u8], from: usize, old: &mut [u8], new: &[u8], commit: bool) -> usize
     requires { (length old.old ≡ length new.now) × (length old.old ≤ 8 * 1024 * 128)
-        × (from + length (runsBytes (runsOf old.old new.now)) ≤ length out.old) }
-    ensures { Put out.old from (runsBytes (runsOf old.old new.now)) out.new result
+        × (from + length (runs_bytes (runs_of old.old new.now)) ≤ length out.old) }
+    ensures { Put out.old from (runs_bytes (runs_of old.old new.now)) out.new result
         × (old.new ≡ pick commit new.now old.old) }
 {
     let mut at = 0;
@@ -140,8 +140,8 @@ fn put_list(
     new: &[u8],
     commit: bool,
 ) -> usize
-    requires { Counted old.old new.now runs × (at + length (listBytes (runsOf old.old new.now)) ≤ length out.old) }
-    ensures { Put out.old at (listBytes (runsOf old.old new.now)) out.new result
+    requires { Counted old.old new.now runs × (at + length (list_bytes (runs_of old.old new.now)) ≤ length out.old) }
+    ensures { Put out.old at (list_bytes (runs_of old.old new.now)) out.new result
         × (old.new ≡ pick commit new.now old.old) }
 {
     let first = put_number(out, at, runs as u32);
@@ -158,8 +158,8 @@ fn put_picture(
     new: &[u8],
     commit: bool,
 ) -> usize
-    requires { Counted old.old new.now runs × (length (pictureBytes frame place old.old new.now) ≤ length out.old) }
-    ensures { Put out.old 0 (pictureBytes frame place old.old new.now) out.new result
+    requires { Counted old.old new.now runs × (length (picture_bytes frame place old.old new.now) ≤ length out.old) }
+    ensures { Put out.old 0 (picture_bytes frame place old.old new.now) out.new result
         × (old.new ≡ pick commit new.now old.old) }
 {
     let place_at = put_number(out, 0, frame);
@@ -170,7 +170,7 @@ fn put_picture(
 // How many bytes the map part of a record is written in, for a map and a CMAP that is laid over it.
 fn map_length(map: &[u8], cmap: &[u8]) -> usize
     requires { Laid map.now cmap.now }
-    ensures { (result ≡ length (mapBytes map.now (coloured map.now cmap.now))) × (result ≤ mapRoom) }
+    ensures { (result ≡ length (map_bytes map.now (coloured map.now cmap.now))) × (result ≤ map_room) }
 {
     let k = cmap.len();
     let part = &map[..k];
@@ -180,8 +180,8 @@ fn map_length(map: &[u8], cmap: &[u8]) -> usize
 
 // Writes the map part of a record at a place of out where it fits, and lays the CMAP over the map.
 fn put_map(out: &mut [u8], at: usize, map: &mut [u8], cmap: &[u8]) -> usize
-    requires { Laid map.old cmap.now × (at + length (mapBytes map.old (coloured map.old cmap.now)) ≤ length out.old) }
-    ensures { Put out.old at (mapBytes map.old (coloured map.old cmap.now)) out.new result
+    requires { Laid map.old cmap.now × (at + length (map_bytes map.old (coloured map.old cmap.now)) ≤ length out.old) }
+    ensures { Put out.old at (map_bytes map.old (coloured map.old cmap.now)) out.new result
         × (map.new ≡ coloured map.old cmap.now) }
 {
     let k = cmap.len();
@@ -201,8 +201,8 @@ fn put_record(
     cmap: &[u8],
 ) -> usize
     requires { Counted old.old new.now counts.runs × Laid map.old cmap.now
-        × (length (recordBytes frame place old.old new.now map.old (coloured map.old cmap.now)) ≤ length out.old) }
-    ensures { Put out.old 0 (recordBytes frame place old.old new.now map.old
+        × (length (record_bytes frame place old.old new.now map.old (coloured map.old cmap.now)) ≤ length out.old) }
+    ensures { Put out.old 0 (record_bytes frame place old.old new.now map.old
         (coloured map.old cmap.now)) out.new result
         × (old.new ≡ new.now) × (map.new ≡ coloured map.old cmap.now) }
 {
@@ -225,7 +225,7 @@ pub fn commit(
     map: &mut [u8],
     cmap: &[u8],
 ) -> Recorded
-    ensures { Commits out.old frame place old.old new.now map.old cmap.now (recordedOf result)
+    ensures { Commits out.old frame place old.old new.now map.old cmap.now (recorded_of result)
         out.new old.new map.new }
 {
     if old.len() != new.len() {

@@ -8,51 +8,51 @@ use mathlib.Core.Path.{◌≡◌, refl, sym, ap, ◌∙◌}
 use lib.ListN.{length, take, drop}
 use lib.Seq.{drop-drop, sets}
 use Rattle.laws.specs.Result.{◌>>?◌, pick}
-use Rattle.laws.proofs.ResultLaws.{false-true, pick-both}
-use Rattle.laws.proofs.StoreLaws.{wanted-length, length_part}
-use Rattle.number.specs.Number.{readNumber}
+use Rattle.laws.proofs.ResultLaws.{false_true, pick_both}
+use Rattle.laws.proofs.StoreLaws.{wanted_length, length_part}
+use Rattle.number.specs.Number.{read_number}
 use Rattle.number.proofs.NumberLaws.{Found}
-use Rattle.runs.specs.Runs.{Run, differ, allDiffer, patch}
-use Rattle.runs.proofs.AppendLaws.{reach, reach-more, differ-append, patch-more}
-use Rattle.record.specs.RunList.{Runs, readRun, readRuns, readList, runsBack}
+use Rattle.runs.specs.Runs.{Run, differ, all_differ, patch}
+use Rattle.runs.proofs.AppendLaws.{reach, reach_more, differ_append, patch_more}
+use Rattle.record.specs.RunList.{Runs, read_run, read_runs, read_list, runs_back}
 use Rattle.restore.specs.Walk.{RunFound, RunTaken, Walked, Stopped}
 
 -- what can't be read isn't taken
-pub none-taken : {putting : Bool} {f f' : List ℕ} {whole : Option Runs} → whole ≡ none → (putting ≡ false → f' ≡ f) → Stopped f whole putting f'
-none-taken e k = record { unread = λ p. e; bad = λ p. rw e; kept = k }
+pub none_taken : {putting : Bool} {f f' : List ℕ} {whole : Option Runs} → whole ≡ none → (putting ≡ false → f' ≡ f) → Stopped f whole putting f'
+none_taken e k = record { unread = λ p. e; bad = λ p. rw e; kept = k }
 
 -- the number of runs at a place, and what follows from it
-pub list-faulty : (bytes : List ℕ) (at size : ℕ) → readNumber (drop at bytes) ≡ none → readList size (drop at bytes) ≡ none
-unfolding readList
-list-faulty bytes at size e = simp e
+pub list_faulty : (bytes : List ℕ) (at size : ℕ) → read_number (drop at bytes) ≡ none → read_list size (drop at bytes) ≡ none
+unfolding read_list
+list_faulty bytes at size e = simp e
 
-pub list-found : {bytes : List ℕ} {at value next : ℕ} (size : ℕ) → Found bytes at value next → readList size (drop at bytes) ≡ readRuns value 0 size (drop next bytes)
-unfolding readList
-list-found size g = simp g.is
+pub list_found : {bytes : List ℕ} {at value next : ℕ} (size : ℕ) → Found bytes at value next → read_list size (drop at bytes) ≡ read_runs value 0 size (drop next bytes)
+unfolding read_list
+list_found size g = simp g.is
 
 -- runs in front of those that are read
-abbrev pub inFront : List Run → Option Runs → Option Runs
-inFront rs (some m) = some (record { runs = rs ++ m.runs; rest = m.rest })
-inFront rs none = none
+abbrev pub in_front : List Run → Option Runs → Option Runs
+in_front rs (some m) = some (record { runs = rs ++ m.runs; rest = m.rest })
+in_front rs none = none
 
-front-none : (x : Option Runs) → x ≡ inFront [] x
-front-none none = refl
-front-none (some m) = refl
+front_none : (x : Option Runs) → x ≡ in_front [] x
+front_none none = refl
+front_none (some m) = refl
 
-front-more : (rs : List Run) (r : Run) (x : Option Runs) → inFront rs (x >>? λ m. some (record { runs = r ∷ m.runs; rest = m.rest })) ≡ inFront (rs ++ (r ∷ [])) x
-front-more rs r none = refl
-front-more rs r (some m) = rw (append_assoc rs (r ∷ []) m.runs)
+front_more : (rs : List Run) (r : Run) (x : Option Runs) → in_front rs (x >>? λ m. some (record { runs = r ∷ m.runs; rest = m.rest })) ≡ in_front (rs ++ (r ∷ [])) x
+front_more rs r none = refl
+front_more rs r (some m) = rw (append_assoc rs (r ∷ []) m.runs)
 
-front-run : (rs : List Run) (k least room : ℕ) (s t : List ℕ) (r : Run) → readRun least room s ≡ some (record { run = r; rest = t })
-    → inFront rs (readRuns (suc k) least room s) ≡ inFront (rs ++ (r ∷ [])) (readRuns k 1 (room - (r.gap + length r.bytes)) t)
-unfolding readRuns
-front-run rs k least room s t r e = simp e (front-more rs r (readRuns k 1 (room - (r.gap + length r.bytes)) t))
+front_run : (rs : List Run) (k least room : ℕ) (s t : List ℕ) (r : Run) → read_run least room s ≡ some (record { run = r; rest = t })
+    → in_front rs (read_runs (suc k) least room s) ≡ in_front (rs ++ (r ∷ [])) (read_runs k 1 (room - (r.gap + length r.bytes)) t)
+unfolding read_runs
+front_run rs k least room s t r e = simp e (front_more rs r (read_runs k 1 (room - (r.gap + length r.bytes)) t))
 
 -- runs of which some don't differ aren't put back, whatever follows
-front-bad : (f : List ℕ) (rs : List Run) (x : Option Runs) → allDiffer rs f ≡ false → inFront rs x >>? runsBack f ≡ none
-unfolding runsBack
-front-bad f rs none e = refl
-front-bad f rs (some m) e = rw (differ-append rs m.runs f, e)
+front_bad : (f : List ℕ) (rs : List Run) (x : Option Runs) → all_differ rs f ≡ false → in_front rs x >>? runs_back f ≡ none
+unfolding runs_back
+front_bad f rs none e = refl
+front_bad f rs (some m) e = rw (differ_append rs m.runs f, e)
 
 -- so far: the runs that were read, and the buffer f that f₀ has become
 pub record Taking (putting : Bool) (bytes f₀ : List ℕ) (whole : Option Runs) (f : List ℕ) (at place least left : ℕ) : Type 0 where
@@ -60,31 +60,31 @@ pub record Taking (putting : Bool) (bytes f₀ : List ℕ) (whole : Option Runs)
   pub reached : place ≡ reach runs
   pub size : length f ≡ length f₀
   pub inside : place ≤ length f₀
-  pub same : whole ≡ inFront runs (readRuns left least (length f₀ - place) (drop at bytes))
-  pub good : putting ≡ false → allDiffer runs f₀ ≡ true
+  pub same : whole ≡ in_front runs (read_runs left least (length f₀ - place) (drop at bytes))
+  pub good : putting ≡ false → all_differ runs f₀ ≡ true
   pub buffer : f ≡ pick putting (patch runs f₀) f₀
 
-pub take-starts : (putting : Bool) {bytes f : List ℕ} {from count : ℕ} → Taking putting bytes f (readRuns count 0 (length f) (drop from bytes)) f from 0 0 count
-unfolding reach allDiffer
-take-starts putting {f = f} =
+pub take_starts : (putting : Bool) {bytes f : List ℕ} {from count : ℕ} → Taking putting bytes f (read_runs count 0 (length f) (drop from bytes)) f from 0 0 count
+unfolding reach all_differ
+take_starts putting {f = f} =
     let z : length f - 0 ≡ length f = omega arith in
-    record { runs = []; reached = refl; size = refl; inside = omega arith; same = rw z (front-none _); good = λ e. refl; buffer = pick-both (λ (g : List ℕ). f ≡ g) putting (unfold patch in refl) refl }
+    record { runs = []; reached = refl; size = refl; inside = omega arith; same = rw z (front_none _); good = λ e. refl; buffer = pick_both (λ (g : List ℕ). f ≡ g) putting (unfold patch in refl) refl }
 
 module _ {putting : Bool} {bytes f₀ f : List ℕ} {whole : Option Runs} {at place least left : ℕ} (w : Taking putting bytes f₀ whole f at place least left) where
   pub take_ends : left ≡ 0 → Walked f₀ whole putting (drop at bytes) f
-  unfolding readRuns
+  unfolding read_runs
   take_ends e = record { runs = w.runs; read = w.same ∙ rw (e, append-nil w.runs); good = w.good; left = w.buffer }
 
-  kept-so-far : putting ≡ false → f ≡ f₀
-  kept-so-far e = w.buffer ∙ rw e
+  kept_so_far : putting ≡ false → f ≡ f₀
+  kept_so_far e = w.buffer ∙ rw e
 
   module _ (h : 0 < left) where
     more_left : left ≡ suc (left - 1)
     more_left = omega arith
 
-    pub take-faulty : readRun least (length f - place) (drop at bytes) ≡ none → Stopped f₀ whole putting f
-    unfolding readRuns
-    take-faulty e = none-taken (w.same ∙ rw (more_left, ← w.size, e)) kept-so-far
+    pub take_faulty : read_run least (length f - place) (drop at bytes) ≡ none → Stopped f₀ whole putting f
+    unfolding read_runs
+    take_faulty e = none_taken (w.same ∙ rw (more_left, ← w.size, e)) kept_so_far
 
     module _ {gap n start : ℕ} (a : RunFound bytes at least (length f - place) gap n start) where
       old : List ℕ
@@ -93,52 +93,52 @@ module _ {putting : Bool} {bytes f₀ f : List ℕ} {whole : Option Runs} {at pl
       next : Run
       next = record { gap = gap; bytes = old }
 
-      old-length : length old ≡ n
+      old_length : length old ≡ n
       unfolding old
-      old-length = length_part bytes start n (omega (arith, a.inside))
+      old_length = length_part bytes start n (omega (arith, a.inside))
 
-      next-in : place + gap + n ≤ length f₀
-      next-in = omega (arith, a.fits, w.size, w.inside)
+      next_in : place + gap + n ≤ length f₀
+      next_in = omega (arith, a.fits, w.size, w.inside)
 
       -- the run that was found is the next of the list, and others follow
       abbrev others : Option Runs
-      others = readRuns (left - 1) 1 (length f₀ - (place + gap + n)) (drop (start + n) bytes)
+      others = read_runs (left - 1) 1 (length f₀ - (place + gap + n)) (drop (start + n) bytes)
 
-      read_more : whole ≡ inFront (w.runs ++ (next ∷ [])) others
+      read_more : whole ≡ in_front (w.runs ++ (next ∷ [])) others
       unfolding old next
       read_more =
-          let room : length f - place - (gap + length old) ≡ length f₀ - (place + gap + n) = omega (arith, w.size, old-length) in
-          (rw (more_left, ← w.size) at w.same) ∙ rw room at (front-run w.runs (left - 1) least (length f - place) (drop at bytes) (drop (start + n) bytes) next a.is)
+          let room : length f - place - (gap + length old) ≡ length f₀ - (place + gap + n) = omega (arith, w.size, old_length) in
+          (rw (more_left, ← w.size) at w.same) ∙ rw room at (front_run w.runs (left - 1) least (length f - place) (drop at bytes) (drop (start + n) bytes) next a.is)
 
       -- its bytes differ from those that they replace if they did so far and it does
-      next-differ : putting ≡ false → allDiffer (w.runs ++ (next ∷ [])) f₀ ≡ differ old (drop (place + gap) f₀)
-      unfolding allDiffer old next
-      next-differ p = differ-append w.runs (next ∷ []) f₀ ∙ rw (w.good p, ← w.reached, drop-drop gap place f₀) (and-true _)
+      next_differ : putting ≡ false → all_differ (w.runs ++ (next ∷ [])) f₀ ≡ differ old (drop (place + gap) f₀)
+      unfolding all_differ old next
+      next_differ p = differ_append w.runs (next ∷ []) f₀ ∙ rw (w.good p, ← w.reached, drop-drop gap place f₀) (and-true _)
 
       module _ {r : Bool} {f' : List ℕ} (t : RunTaken f (place + gap) (take n (drop start bytes)) putting f' r) where
-        differs-so : putting ≡ false → r ≡ differ (take n (drop start bytes)) (drop (place + gap) f₀)
-        differs-so p = t.is ∙ rw (p, kept-so-far p)
+        differs_so : putting ≡ false → r ≡ differ (take n (drop start bytes)) (drop (place + gap) f₀)
+        differs_so p = t.is ∙ rw (p, kept_so_far p)
 
-        pub take-equal : r ≡ false → Stopped f₀ whole putting f'
+        pub take_equal : r ≡ false → Stopped f₀ whole putting f'
         unfolding old
-        take-equal e = record {
-          unread = λ p. false-true (sym e ∙ t.is ∙ rw p);
-          bad = λ p. rw read_more (front-bad f₀ (w.runs ++ (next ∷ [])) others (next-differ p ∙ sym (differs-so p) ∙ e));
-          kept = λ p. t.left ∙ rw p (kept-so-far p);
+        take_equal e = record {
+          unread = λ p. false_true (sym e ∙ t.is ∙ rw p);
+          bad = λ p. rw read_more (front_bad f₀ (w.runs ++ (next ∷ [])) others (next_differ p ∙ sym (differs_so p) ∙ e));
+          kept = λ p. t.left ∙ rw p (kept_so_far p);
         }
 
         pub take_more : r ≡ true → Taking putting bytes f₀ whole f' (start + n) (place + gap + n) 1 (left - 1)
         unfolding old next
         take_more e = record {
           runs = w.runs ++ (next ∷ []);
-          reached = omega (arith, w.reached, reach-more w.runs next, old-length);
-          size = ap length t.left ∙ wanted-length putting f (place + gap) old ∙ w.size;
-          inside = next-in;
+          reached = omega (arith, w.reached, reach_more w.runs next, old_length);
+          size = ap length t.left ∙ wanted_length putting f (place + gap) old ∙ w.size;
+          inside = next_in;
           same = read_more;
-          good = λ p. next-differ p ∙ sym (differs-so p) ∙ e;
+          good = λ p. next_differ p ∙ sym (differs_so p) ∙ e;
           buffer = t.left ∙ go putting w.buffer;
         }
           where
             go : (p : Bool) → f ≡ pick p (patch w.runs f₀) f₀ → pick p (sets f (place + gap) (take n (drop start bytes))) f ≡ pick p (patch (w.runs ++ (next ∷ [])) f₀) f₀
-            go true q = rw q (sym (patch-more w.runs next f₀ (omega (arith, w.reached, next-in, old-length)) ∙ rw w.reached))
+            go true q = rw q (sym (patch_more w.runs next f₀ (omega (arith, w.reached, next_in, old_length)) ∙ rw w.reached))
             go false q = q

@@ -14,6 +14,6 @@ pub record Restores (bytes shown map : List ℕ) (frame next : ℕ) (r : Res ℕ
   pub colours : map' ≡ leaves map (λ p. p.map) (restored bytes shown map frame next)
 
 -- the next place before the record's step, or the refusal's number
-abbrev pub restoredOf : Restored → Res ℕ
-restoredOf (Back place) = ok place
-restoredOf (Refused why) = fault (number_of why)
+abbrev pub restored_of : Restored → Res ℕ
+restored_of (Back place) = ok place
+restored_of (Refused why) = fault (number_of why)

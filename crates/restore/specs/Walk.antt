@@ -6,8 +6,8 @@ use Rattle.std.proofs.Math.Option.{Option, none, some}
 use Rattle.std.proofs.lemmas.List.Edits.{sets}
 use Rattle.laws.specs.Result.{Res.ok, Res.fault, pick, ◌>>?◌, given}
 use Rattle.refusal.specs.Number.{number_of}
-use Rattle.runs.specs.Runs.{Run, differ, allDiffer, patch}
-use Rattle.record.specs.RunList.{Runs, readRun, runsBack, beforeOf}
+use Rattle.runs.specs.Runs.{Run, differ, all_differ, patch}
+use Rattle.record.specs.RunList.{Runs, read_run, runs_back, before_of}
 use Rattle.record.specs.Record.{Past, past_of, restored}
 use Rattle.restore.specs.declared.Stored.{Stored}
 use Rattle.restore.specs.declared.Stored.TheVariants.{Whole, Faulty}
@@ -22,13 +22,13 @@ use Rattle.restore.specs.declared.Leads.TheVariants.{To, Refused}
 
 -- the run at a place of a record, as a reader answers it
 pub record RunFound (bytes : List ℕ) (at least room gap count start : ℕ) : Type 0 where
-  pub is : readRun least room (drop at bytes) ≡ some (record { run = record { gap = gap; bytes = take count (drop start bytes) }; rest = drop (start + count) bytes })
+  pub is : read_run least room (drop at bytes) ≡ some (record { run = record { gap = gap; bytes = take count (drop start bytes) }; rest = drop (start + count) bytes })
   pub fits : gap + count ≤ room
   pub inside : start + count ≤ length bytes
 
 abbrev pub RunAt : List ℕ → ℕ → ℕ → ℕ → Stored → Type 0
 RunAt bytes at least room (Whole gap count start) = RunFound bytes at least room gap count start
-RunAt bytes at least room Faulty = readRun least room (drop at bytes) ≡ none
+RunAt bytes at least room Faulty = read_run least room (drop at bytes) ≡ none
 
 -- the bytes of a run at a place: put back, or compared with those that they replace
 pub record RunTaken (f : List ℕ) (to : ℕ) (old : List ℕ) (putting : Bool) (f' : List ℕ) (r : Bool) : Type 0 where
@@ -39,13 +39,13 @@ pub record RunTaken (f : List ℕ) (to : ℕ) (old : List ℕ) (putting : Bool) 
 pub record Walked (f : List ℕ) (whole : Option Runs) (putting : Bool) (rest f' : List ℕ) : Type 0 where
   pub runs : List Run
   pub read : whole ≡ some (record { runs = runs; rest = rest })
-  pub good : putting ≡ false → allDiffer runs f ≡ true
+  pub good : putting ≡ false → all_differ runs f ≡ true
   pub left : f' ≡ pick putting (patch runs f) f
 
 -- they were not
 pub record Stopped (f : List ℕ) (whole : Option Runs) (putting : Bool) (f' : List ℕ) : Type 0 where
   pub unread : putting ≡ true → whole ≡ none
-  pub bad : putting ≡ false → whole >>? runsBack f ≡ none
+  pub bad : putting ≡ false → whole >>? runs_back f ≡ none
   pub kept : putting ≡ false → f' ≡ f
 
 -- what taking runs answers and leaves in a buffer, where the definition reads `whole`
@@ -54,29 +54,29 @@ Took f bytes whole putting f' (Ends next) = Walked f whole putting (drop next by
 Took f bytes whole putting f' Bad = Stopped f whole putting f'
 
 -- what a record leads back to, by its two numbers and what stands behind them
-unfoldable pub pastFrom : ℕ → ℕ → List ℕ → List ℕ → List ℕ → Option Past
-pastFrom frame place s shown map =
-    beforeOf s shown >>? λ b.
-    beforeOf b.rest map >>? λ c.
+unfoldable pub past_from : ℕ → ℕ → List ℕ → List ℕ → List ℕ → Option Past
+past_from frame place s shown map =
+    before_of s shown >>? λ b.
+    before_of b.rest map >>? λ c.
     given (eqb (length c.rest) 0) >>? λ _.
     some (record { frame = frame; place = place; picture = b.buffer; map = c.buffer })
 
 -- the two numbers of a record, as a reader answers them
 abbrev pub HeaderAt : List ℕ → Header → Type 0
-HeaderAt bytes (Numbers frame place list) = (shown map : List ℕ) → past_of bytes shown map ≡ pastFrom frame place (drop list bytes) shown map
+HeaderAt bytes (Numbers frame place list) = (shown map : List ℕ) → past_of bytes shown map ≡ past_from frame place (drop list bytes) shown map
 HeaderAt bytes Short = (shown map : List ℕ) → past_of bytes shown map ≡ none
 
 -- two run lists at places of a record that lead back from the shown picture and the map: the second follows the first and ends the record
 pub record Lists (bytes : List ℕ) (list map_list : ℕ) (shown map : List ℕ) : Type 0 where
   pub picture : List ℕ
   pub colours : List ℕ
-  pub pictureBack : beforeOf (drop list bytes) shown ≡ some (record { buffer = picture; rest = drop map_list bytes })
-  pub coloursBack : beforeOf (drop map_list bytes) map ≡ some (record { buffer = colours; rest = [] })
+  pub picture_back : before_of (drop list bytes) shown ≡ some (record { buffer = picture; rest = drop map_list bytes })
+  pub colours_back : before_of (drop map_list bytes) map ≡ some (record { buffer = colours; rest = [] })
 
 -- the two run lists at a place of a record, as checking them answers: a record with bad ones leads nowhere, whatever its numbers are
 abbrev pub ListsAt : List ℕ → ℕ → List ℕ → List ℕ → Checked → Type 0
 ListsAt bytes list shown map (Good map_list) = Lists bytes list map_list shown map
-ListsAt bytes list shown map Wrong = (frame place : ℕ) → pastFrom frame place (drop list bytes) shown map ≡ none
+ListsAt bytes list shown map Wrong = (frame place : ℕ) → past_from frame place (drop list bytes) shown map ≡ none
 
 -- a record's frame is the state's and not the first, and its place is from 12 on and before the state's next place
 abbrev pub belongs : ℕ → ℕ → ℕ → ℕ → Bool

@@ -1,8 +1,8 @@
 // Step records put back: read, checked whole, then restored into the shown picture and the map, all or nothing.
 ghost use Rattle.std.specs.Prelude.{◌≡◌, ◌+◌, ◌≤◌, length, take, drop};
 ghost use Rattle.runs.specs.Runs.{differ};
-ghost use Rattle.record.specs.RunList.{readRuns, readList};
-ghost use Rattle.restore.specs.Restored.{Restores, restoredOf};
+ghost use Rattle.record.specs.RunList.{read_runs, read_list};
+ghost use Rattle.restore.specs.Restored.{Restores, restored_of};
 ghost use Rattle.restore.specs.Walk.{RunAt, RunTaken, Took, ListsAt, HeaderAt, belongs, LeadsBack};
 
 use copies::copy_part;
@@ -105,7 +105,7 @@ enum Taken {
 
 // Takes so many runs from a place of a record on: puts them back into a buffer, or only checks them against it.
 fn take_runs(shown: &mut [u8], bytes: &[u8], from: usize, count: usize, putting: bool) -> Taken
-    ensures { Took shown.old bytes.now (readRuns count 0 (length shown.old) (drop from bytes.now)) putting
+    ensures { Took shown.old bytes.now (read_runs count 0 (length shown.old) (drop from bytes.now)) putting
         shown.new result }
 {
     let mut at = from;
@@ -133,7 +133,7 @@ fn take_runs(shown: &mut [u8], bytes: &[u8], from: usize, count: usize, putting:
 
 // Takes the run list at a place of a record.
 fn take_list(shown: &mut [u8], bytes: &[u8], at: usize, putting: bool) -> Taken
-    ensures { Took shown.old bytes.now (readList (length shown.old) (drop at bytes.now)) putting
+    ensures { Took shown.old bytes.now (read_list (length shown.old) (drop at bytes.now)) putting
         shown.new result }
 {
     let n = number::read(bytes, at);
@@ -270,7 +270,7 @@ pub fn restore(
     frame: usize,
     next: usize,
 ) -> Restored
-    ensures { Restores bytes.now shown.old map.old frame next (restoredOf result) shown.new map.new }
+    ensures { Restores bytes.now shown.old map.old frame next (restored_of result) shown.new map.new }
 {
     let l = leads_back(bytes, shown, map, frame, next);
     match l {

@@ -5,17 +5,17 @@ use mathlib.Core.Path.{◌≡◌}
 use lib.ListN.{length}
 use Rattle.laws.specs.Result.{Res.ok}
 use Rattle.laws.specs.Every.{Every}
-use Rattle.laws.proofs.ResultLaws.{each-is}
+use Rattle.laws.proofs.ResultLaws.{each_is}
 use Rattle.state.specs.declared.Sizes.{Sizes}
-use Rattle.state.specs.State.{frameLength}
-use Rattle.state.proofs.StateLaws.{sizes-sound}
-use Rattle.writer.specs.Write.{deltaBytes}
+use Rattle.state.specs.State.{frame_length}
+use Rattle.state.proofs.StateLaws.{sizes_sound}
+use Rattle.writer.specs.Write.{delta_bytes}
 use Rattle.delta.specs.Reading.{Op, shape_of}
-use Rattle.delta.specs.Delta.{readDelta}
+use Rattle.delta.specs.Delta.{read_delta}
 use Rattle.delta.specs.None.{HasRows}
 use Rattle.anhd.specs.declared.Items.TheVariants.{Bytes}
-use Rattle.roundtrip.proofs.DeltaLaws.{delta-reads}
+use Rattle.roundtrip.proofs.DeltaLaws.{delta_reads}
 
-pub never-none : (z : Sizes) (n : ℕ) (old new : List ℕ) → frameLength z ≡ ok n → length old ≡ n → length new ≡ n
-    → (ops : List Op) × (readDelta (shape_of z Bytes) (deltaBytes old new z) ≡ ok ops) × Every HasRows ops
-never-none z n old new e lo ln = let w = delta-reads z n old new (each-is e (sizes-sound z)) lo ln in (w.ops, w.reads, w.makes.rows)
+pub never_none : (z : Sizes) (n : ℕ) (old new : List ℕ) → frame_length z ≡ ok n → length old ≡ n → length new ≡ n
+    → (ops : List Op) × (read_delta (shape_of z Bytes) (delta_bytes old new z) ≡ ok ops) × Every HasRows ops
+never_none z n old new e lo ln = let w = delta_reads z n old new (each_is e (sizes_sound z)) lo ln in (w.ops, w.reads, w.makes.rows)

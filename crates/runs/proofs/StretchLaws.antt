@@ -13,66 +13,66 @@ use borrow.Author.Tests.{le-leb, lt-leb}
 use Rattle.runs.specs.Stretch.{stretch, Scanned}
 
 -- two bytes are as the stretch has them, or not
-pub by-test : {P : Type 0} (t u : Bool) → (u ≡ t → P) → (u ≡ not t → P) → P
-by-test true true p q = p refl
-by-test true false p q = q refl
-by-test false true p q = q refl
-by-test false false p q = p refl
+pub by_test : {P : Type 0} (t u : Bool) → (u ≡ t → P) → (u ≡ not t → P) → P
+by_test true true p q = p refl
+by_test true false p q = q refl
+by_test false true p q = q refl
+by_test false false p q = p refl
 
 -- what the test of two bytes tells
-pub as-asked : (u t : Bool) → not (beq u t) ≡ false → u ≡ t
-as-asked true true e = refl
-as-asked true false e = e
-as-asked false true e = sym e
-as-asked false false e = refl
+pub as_asked : (u t : Bool) → not (beq u t) ≡ false → u ≡ t
+as_asked true true e = refl
+as_asked true false e = e
+as_asked false true e = sym e
+as_asked false false e = refl
 
-pub not-asked : (u t : Bool) → not (beq u t) ≡ true → u ≡ not t
-not-asked true true e = sym e
-not-asked true false e = refl
-not-asked false true e = refl
-not-asked false false e = e
+pub not_asked : (u t : Bool) → not (beq u t) ≡ true → u ≡ not t
+not_asked true true e = sym e
+not_asked true false e = refl
+not_asked false true e = refl
+not_asked false false e = e
 
 -- one byte at the front
-pub stretch-more : (t : Bool) (a b : ℕ) (old new : List ℕ) → eqb a b ≡ t → stretch t (a ∷ old) (b ∷ new) ≡ suc (stretch t old new)
+pub stretch_more : (t : Bool) (a b : ℕ) (old new : List ℕ) → eqb a b ≡ t → stretch t (a ∷ old) (b ∷ new) ≡ suc (stretch t old new)
 unfolding stretch
-stretch-more true a b old new e = rw e
-stretch-more false a b old new e = rw e
+stretch_more true a b old new e = rw e
+stretch_more false a b old new e = rw e
 
-pub stretch-stop : (t : Bool) (a b : ℕ) (old new : List ℕ) → eqb a b ≡ not t → stretch t (a ∷ old) (b ∷ new) ≡ 0
+pub stretch_stop : (t : Bool) (a b : ℕ) (old new : List ℕ) → eqb a b ≡ not t → stretch t (a ∷ old) (b ∷ new) ≡ 0
 unfolding stretch
-stretch-stop true a b old new e = rw e
-stretch-stop false a b old new e = rw e
+stretch_stop true a b old new e = rw e
+stretch_stop false a b old new e = rw e
 
-pub stretch-end : (t : Bool) (old new : List ℕ) → length old ≡ 0 → stretch t old new ≡ 0
+pub stretch_end : (t : Bool) (old new : List ℕ) → length old ≡ 0 → stretch t old new ≡ 0
 unfolding stretch
-stretch-end t [] new h = refl
-stretch-end t (a ∷ old) new h = absurd (omega arith)
+stretch_end t [] new h = refl
+stretch_end t (a ∷ old) new h = absurd (omega arith)
 
-pub stretch-none : (t : Bool) (a : ℕ) (old : List ℕ) → stretch t (a ∷ old) [] ≡ 0
+pub stretch_none : (t : Bool) (a : ℕ) (old : List ℕ) → stretch t (a ∷ old) [] ≡ 0
 unfolding stretch
-stretch-none t a old = refl
+stretch_none t a old = refl
 
-pub stretch-short : (t : Bool) (old new : List ℕ) → stretch t old new ≤ length old
-stretch-short t [] new = omega (arith, stretch-end t [] new refl)
-stretch-short t (a ∷ old) [] = omega (arith, stretch-none t a old)
-stretch-short t (a ∷ old) (b ∷ new) =
-    let ih = stretch-short t old new in
-    by-test t (eqb a b) (λ e. omega (arith, stretch-more t a b old new e)) (λ e. omega (arith, stretch-stop t a b old new e))
+pub stretch_short : (t : Bool) (old new : List ℕ) → stretch t old new ≤ length old
+stretch_short t [] new = omega (arith, stretch_end t [] new refl)
+stretch_short t (a ∷ old) [] = omega (arith, stretch_none t a old)
+stretch_short t (a ∷ old) (b ∷ new) =
+    let ih = stretch_short t old new in
+    by_test t (eqb a b) (λ e. omega (arith, stretch_more t a b old new e)) (λ e. omega (arith, stretch_stop t a b old new e))
 
 -- k bytes of a stretch at its front
-stretch-split : (t : Bool) (k : ℕ) (old new : List ℕ) → k ≤ stretch t old new → stretch t old new ≡ k + stretch t (drop k old) (drop k new)
-stretch-split t zero old new h = omega arith
-stretch-split t (suc k) [] new h = absurd (omega (arith, stretch-end t [] new refl))
-stretch-split t (suc k) (a ∷ old) [] h = absurd (omega (arith, stretch-none t a old))
-stretch-split t (suc k) (a ∷ old) (b ∷ new) h = by-test t (eqb a b) (go (stretch-split t k old new)) (λ e. absurd (omega (arith, stretch-stop t a b old new e)))
+stretch_split : (t : Bool) (k : ℕ) (old new : List ℕ) → k ≤ stretch t old new → stretch t old new ≡ k + stretch t (drop k old) (drop k new)
+stretch_split t zero old new h = omega arith
+stretch_split t (suc k) [] new h = absurd (omega (arith, stretch_end t [] new refl))
+stretch_split t (suc k) (a ∷ old) [] h = absurd (omega (arith, stretch_none t a old))
+stretch_split t (suc k) (a ∷ old) (b ∷ new) h = by_test t (eqb a b) (go (stretch_split t k old new)) (λ e. absurd (omega (arith, stretch_stop t a b old new e)))
   where
     go : (k ≤ stretch t old new → stretch t old new ≡ k + stretch t (drop k old) (drop k new)) → eqb a b ≡ t
         → stretch t (a ∷ old) (b ∷ new) ≡ suc k + stretch t (drop k old) (drop k new)
-    go ih e = let m = stretch-more t a b old new e in omega (arith, m, ih (omega arith))
+    go ih e = let m = stretch_more t a b old new e in omega (arith, m, ih (omega arith))
 
 -- the bytes of a stretch before and from a place of a block
-block-split : (t : Bool) (i at : ℕ) (old new : List ℕ) → i ≤ stretch t (drop at old) (drop at new) → stretch t (drop at old) (drop at new) ≡ i + stretch t (drop (at + i) old) (drop (at + i) new)
-block-split t i at old new k = rw (← (drop-drop i at old), ← (drop-drop i at new)) (stretch-split t i (drop at old) (drop at new) k)
+block_split : (t : Bool) (i at : ℕ) (old new : List ℕ) → i ≤ stretch t (drop at old) (drop at new) → stretch t (drop at old) (drop at new) ≡ i + stretch t (drop (at + i) old) (drop (at + i) new)
+block_split t i at old new k = rw (← (drop-drop i at old), ← (drop-drop i at new)) (stretch_split t i (drop at old) (drop at new) k)
 
 -- the byte at a place of two buffers
 module _ (t : Bool) (i : ℕ) (old new : List ℕ) (h : i < length old) (l : length old ≡ length new) where
@@ -80,58 +80,58 @@ module _ (t : Bool) (i : ℕ) (old new : List ℕ) (h : i < length old) (l : len
   front = rw (add-one i, drop-cons old i 0 h, drop-cons new i 0 (omega arith))
 
   at_more : eqb (get_or old i 0) (get_or new i 0) ≡ t → stretch t (drop i old) (drop i new) ≡ suc (stretch t (drop (i + 1) old) (drop (i + 1) new))
-  at_more e = front ∙ stretch-more t _ _ _ _ e
+  at_more e = front ∙ stretch_more t _ _ _ _ e
 
-  at-stop : eqb (get_or old i 0) (get_or new i 0) ≡ not t → stretch t (drop i old) (drop i new) ≡ 0
-  at-stop e = front ∙ stretch-stop t _ _ _ _ e
+  at_stop : eqb (get_or old i 0) (get_or new i 0) ≡ not t → stretch t (drop i old) (drop i new) ≡ 0
+  at_stop e = front ∙ stretch_stop t _ _ _ _ e
 
 -- the turns of a search
-pub scan-starts : {t : Bool} {old new : List ℕ} {from : ℕ} → from ≤ length old → Scanned t old new from from
-scan-starts h = record { inside = h; same = refl }
+pub scan_starts : {t : Bool} {old new : List ℕ} {from : ℕ} → from ≤ length old → Scanned t old new from from
+scan_starts h = record { inside = h; same = refl }
 
 module _ {t : Bool} {old new : List ℕ} {from i : ℕ} (w : Scanned t old new from i) (l : length old ≡ length new) where
-  pub scan-more : i < length old → eqb (get_or old i 0) (get_or new i 0) ≡ t → Scanned t old new from (i + 1)
-  scan-more h e = record { inside = omega arith; same = omega (arith, w.same, at_more t i old new h l e) }
+  pub scan_more : i < length old → eqb (get_or old i 0) (get_or new i 0) ≡ t → Scanned t old new from (i + 1)
+  scan_more h e = record { inside = omega arith; same = omega (arith, w.same, at_more t i old new h l e) }
 
-  pub scan-stops : i < length old → eqb (get_or old i 0) (get_or new i 0) ≡ not t → i ≡ from + stretch t (drop from old) (drop from new)
-  scan-stops h e = omega (arith, w.same, at-stop t i old new h l e)
+  pub scan_stops : i < length old → eqb (get_or old i 0) (get_or new i 0) ≡ not t → i ≡ from + stretch t (drop from old) (drop from new)
+  scan_stops h e = omega (arith, w.same, at_stop t i old new h l e)
 
-  pub scan-ends : length old ≤ i → i ≡ from + stretch t (drop from old) (drop from new)
-  scan-ends h = omega (arith, w.same, stretch-end t (drop i old) (drop i new) (simp length-drop (omega arith)))
+  pub scan_ends : length old ≤ i → i ≡ from + stretch t (drop from old) (drop from new)
+  scan_ends h = omega (arith, w.same, stretch_end t (drop i old) (drop i new) (simp length-drop (omega arith)))
 
-  pub scan-jumps : (k : ℕ) → k ≤ stretch t (drop i old) (drop i new) → Scanned t old new from (i + k)
-  scan-jumps k h =
-      let e = block-split t k i old new h in
-      record { inside = omega (arith, w.inside, stretch-short t (drop i old) (drop i new), length-drop i old); same = omega (arith, w.same, e) }
+  pub scan_jumps : (k : ℕ) → k ≤ stretch t (drop i old) (drop i new) → Scanned t old new from (i + k)
+  scan_jumps k h =
+      let e = block_split t k i old new h in
+      record { inside = omega (arith, w.inside, stretch_short t (drop i old) (drop i new), length-drop i old); same = omega (arith, w.same, e) }
 
 -- a search that goes on from where another came to
-pub scan-then : {t : Bool} {old new : List ℕ} {from i k : ℕ} → Scanned t old new from i → Scanned t old new i k → Scanned t old new from k
-scan-then w v = record { inside = v.inside; same = v.same ∙ w.same }
+pub scan_then : {t : Bool} {old new : List ℕ} {from i k : ℕ} → Scanned t old new from i → Scanned t old new i k → Scanned t old new from k
+scan_then w v = record { inside = v.inside; same = v.same ∙ w.same }
 
-pub scan-is : {t : Bool} {old new : List ℕ} {from i r : ℕ} → Scanned t old new from i → r ≡ i + stretch t (drop i old) (drop i new) → r ≡ from + stretch t (drop from old) (drop from new)
-scan-is w e = e ∙ w.same
+pub scan_is : {t : Bool} {old new : List ℕ} {from i r : ℕ} → Scanned t old new from i → r ≡ i + stretch t (drop i old) (drop i new) → r ≡ from + stretch t (drop from old) (drop from new)
+scan_is w e = e ∙ w.same
 
 -- whether a block goes on, byte by byte
-pub block-starts : (n : ℕ) → true ≡ leb 0 n
-block-starts n = sym (le-leb 0 n (omega arith))
+pub block_starts : (n : ℕ) → true ≡ leb 0 n
+block_starts n = sym (le-leb 0 n (omega arith))
 
 module _ (t : Bool) (i at : ℕ) (old new : List ℕ) (l : length old ≡ length new) (h : at + i < length old) where
   abbrev whole : ℕ
   whole = stretch t (drop at old) (drop at new)
 
-  block-stops : eqb (get_or old (at + i) 0) (get_or new (at + i) 0) ≡ not t → whole ≤ i
-  block-stops e = go (dec_lt i whole)
+  block_stops : eqb (get_or old (at + i) 0) (get_or new (at + i) 0) ≡ not t → whole ≤ i
+  block_stops e = go (dec_lt i whole)
     where
       go : Dec (i < whole) → whole ≤ i
-      go (yes k) = omega (arith, block-split t i at old new (omega arith), at-stop t (at + i) old new h l e)
+      go (yes k) = omega (arith, block_split t i at old new (omega arith), at_stop t (at + i) old new h l e)
       go (no k) = omega arith
 
   pub block_on : eqb (get_or old (at + i) 0) (get_or new (at + i) 0) ≡ t → leb i whole ≡ leb (i + 1) whole
   block_on e = go (dec_le i whole)
     where
       go : Dec (i ≤ whole) → leb i whole ≡ leb (i + 1) whole
-      go (yes k) = le-leb i whole k ∙ sym (le-leb (i + 1) whole (omega (arith, block-split t i at old new k, at_more t (at + i) old new h l e)))
+      go (yes k) = le-leb i whole k ∙ sym (le-leb (i + 1) whole (omega (arith, block_split t i at old new k, at_more t (at + i) old new h l e)))
       go (no k) = lt-leb i whole (omega arith) ∙ sym (lt-leb (i + 1) whole (omega arith))
 
-  pub block-off : eqb (get_or old (at + i) 0) (get_or new (at + i) 0) ≡ not t → false ≡ leb (i + 1) whole
-  block-off e = sym (lt-leb (i + 1) whole (omega (arith, block-stops e)))
+  pub block_off : eqb (get_or old (at + i) 0) (get_or new (at + i) 0) ≡ not t → false ≡ leb (i + 1) whole
+  block_off e = sym (lt-leb (i + 1) whole (omega (arith, block_stops e)))

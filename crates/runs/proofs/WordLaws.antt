@@ -10,18 +10,18 @@ use lib.Dec.{lit<, eqb}
 use lib.ListN.{length, replicate}
 use borrow.Author.Tests.{eqb-true}
 use Rattle.laws.specs.Bytes.{word_of, Bytes}
-use Rattle.laws.proofs.ResultLaws.{two-true}
-use Rattle.runs.specs.Word.{zeroBytes}
+use Rattle.laws.proofs.ResultLaws.{two_true}
+use Rattle.runs.specs.Word.{zero_bytes}
 
 -- the bytes of the word of two words under a bit operation
-pub xor-word : (xs ys : List ℕ) → length xs ≡ length ys → Bytes xs → Bytes ys → bit_xor (word_of xs) (word_of ys) ≡ word_of (zip_with bit_xor xs ys)
+pub xor_word : (xs ys : List ℕ) → length xs ≡ length ys → Bytes xs → Bytes ys → bit_xor (word_of xs) (word_of ys) ≡ word_of (zip_with bit_xor xs ys)
 unfolding word_of zip_with
-xor-word [] [] l hx hy = refl
-xor-word [] (y ∷ ys) l hx hy = absurd (omega arith)
-xor-word (x ∷ xs) [] l hx hy = absurd (omega arith)
-xor-word (x ∷ xs) (y ∷ ys) l hx hy =
+xor_word [] [] l hx hy = refl
+xor_word [] (y ∷ ys) l hx hy = absurd (omega arith)
+xor_word (x ∷ xs) [] l hx hy = absurd (omega arith)
+xor_word (x ∷ xs) (y ∷ ys) l hx hy =
     xor_block 8 (word_of xs) (word_of ys) x y (hx 0) (hy 0)
-    ∙ ap (λ (w : ℕ). w * 256 + bit_xor x y) (xor-word xs ys (omega arith) (λ i. hx (suc i)) (λ i. hy (suc i)))
+    ∙ ap (λ (w : ℕ). w * 256 + bit_xor x y) (xor_word xs ys (omega arith) (λ i. hx (suc i)) (λ i. hy (suc i)))
 
 pub xor_bytes : (xs ys : List ℕ) → Bytes xs → Bytes ys → Bytes (zip_with bit_xor xs ys)
 unfolding zip_with
@@ -30,16 +30,16 @@ xor_bytes (x ∷ xs) [] hx hy i = lit< tt
 xor_bytes (x ∷ xs) (y ∷ ys) hx hy zero = xor_lt 8 x y (hx 0) (hy 0)
 xor_bytes (x ∷ xs) (y ∷ ys) hx hy (suc i) = xor_bytes xs ys (λ k. hx (suc k)) (λ k. hy (suc k)) i
 
--- what zeroBytes makes of one byte
-unfoldable pub zeroByte : ℕ → ℕ
-zeroByte = zeroBytes 127 128
+-- what zero_bytes makes of one byte
+unfoldable pub zero_byte : ℕ → ℕ
+zero_byte = zero_bytes 127 128
 
 unfoldable pub words : ℕ → ℕ → ℕ
 words n b = word_of (replicate n b)
 
--- zeroBytes of a word goes byte by byte
-pub zero_word : (xs : List ℕ) → Bytes xs → zeroBytes (words (length xs) 127) (words (length xs) 128) (word_of xs) ≡ word_of (map zeroByte xs)
-unfolding zeroBytes zeroByte words word_of
+-- zero_bytes of a word goes byte by byte
+pub zero_word : (xs : List ℕ) → Bytes xs → zero_bytes (words (length xs) 127) (words (length xs) 128) (word_of xs) ≡ word_of (map zero_byte xs)
+unfolding zero_bytes zero_byte words word_of
 zero_word [] h = refl
 zero_word (x ∷ xs) h =
     let w : ℕ = word_of xs in
@@ -54,24 +54,24 @@ zero_word (x ∷ xs) h =
     rw (f, g, ← (zero_word xs (λ i. h (suc i)))) (omega (arith, and_le_r p high, and_le_r q 128))
 
 -- 128 for 0, and 0 for every other byte
-pub zero-of-zero : zeroByte 0 ≡ 128
-unfolding zeroByte zeroBytes
-zero-of-zero = refl
+pub zero_of_zero : zero_byte 0 ≡ 128
+unfolding zero_byte zero_bytes
+zero_of_zero = refl
 
 every : ℕ → (ℕ → Bool) → Bool
 every zero p = true
 every (suc n) p = p n && every n p
 
-every-at : (n : ℕ) (p : ℕ → Bool) → every n p ≡ true → (k : ℕ) → k < n → p k ≡ true
+every_at : (n : ℕ) (p : ℕ → Bool) → every n p ≡ true → (k : ℕ) → k < n → p k ≡ true
 unfolding every
-every-at zero p e k h = absurd (omega arith)
-every-at (suc n) p e k h = let w = two-true (p n) (every n p) e in go (dec_eq k n) w.0 (every-at n p w.1 k)
+every_at zero p e k h = absurd (omega arith)
+every_at (suc n) p e k h = let w = two_true (p n) (every n p) e in go (dec_eq k n) w.0 (every_at n p w.1 k)
   where
     go : Dec (k ≡ n) → p n ≡ true → (k < n → p k ≡ true) → p k ≡ true
     go (yes f) w ih = rw f w
     go (no f) w ih = ih (omega arith)
 
-pub zero-of-other : (x : ℕ) → 0 < x → x < 256 → zeroByte x ≡ 0
-unfolding zeroByte zeroBytes every
-zero-of-other zero l h = absurd (omega arith)
-zero-of-other (suc x) l h = eqb-true _ _ (every-at 255 (λ n. eqb (zeroByte (suc n)) 0) refl x (omega arith))
+pub zero_of_other : (x : ℕ) → 0 < x → x < 256 → zero_byte x ≡ 0
+unfolding zero_byte zero_bytes every
+zero_of_other zero l h = absurd (omega arith)
+zero_of_other (suc x) l h = eqb-true _ _ (every_at 255 (λ n. eqb (zero_byte (suc n)) 0) refl x (omega arith))

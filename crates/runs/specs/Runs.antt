@@ -22,10 +22,10 @@ changed a [] = record { gap = 0; bytes = a ∷ [] } ∷ []
 changed a (r ∷ rs) = elim (eqb r.gap 0) [ true ↦ record { gap = 0; bytes = a ∷ r.bytes } ∷ rs | false ↦ record { gap = 0; bytes = a ∷ [] } ∷ r ∷ rs ]
 
 -- the runs between what was and what is
-unfoldable pub runsOf : List ℕ → List ℕ → List Run
-runsOf [] new = []
-runsOf (a ∷ old) [] = []
-runsOf (a ∷ old) (b ∷ new) = elim (eqb a b) [ true ↦ kept (runsOf old new) | false ↦ changed a (runsOf old new) ]
+unfoldable pub runs_of : List ℕ → List ℕ → List Run
+runs_of [] new = []
+runs_of (a ∷ old) [] = []
+runs_of (a ∷ old) (b ∷ new) = elim (eqb a b) [ true ↦ kept (runs_of old new) | false ↦ changed a (runs_of old new) ]
 
 -- how many elements differ
 unfoldable pub differing : List ℕ → List ℕ → ℕ
@@ -38,18 +38,18 @@ pub record FirstRun : Type 0 where
   pub gap : ℕ
   pub count : ℕ
 
-unfoldable pub firstRun : List Run → Option FirstRun
-firstRun [] = none
-firstRun (r ∷ rs) = some (record { gap = r.gap; count = length r.bytes })
+unfoldable pub first_run : List Run → Option FirstRun
+first_run [] = none
+first_run (r ∷ rs) = some (record { gap = r.gap; count = length r.bytes })
 
 -- the next run from a place on; none for lists of two lengths
-unfoldable pub nextRun : List ℕ → List ℕ → ℕ → Option FirstRun
-nextRun old new at = given (eqb (length old) (length new)) >>? λ _. firstRun (runsOf (drop at old) (drop at new))
+unfoldable pub next_run : List ℕ → List ℕ → ℕ → Option FirstRun
+next_run old new at = given (eqb (length old) (length new)) >>? λ _. first_run (runs_of (drop at old) (drop at new))
 
 -- what the answer says of it
-abbrev pub changeOf : Change → Option FirstRun
-changeOf (Changed gap count) = some (record { gap = gap; count = count })
-changeOf Nothing = none
+abbrev pub change_of : Change → Option FirstRun
+change_of (Changed gap count) = some (record { gap = gap; count = count })
+change_of Nothing = none
 
 -- no old element equals the new one at its place
 unfoldable pub differ : List ℕ → List ℕ → Bool
@@ -58,9 +58,9 @@ differ (a ∷ old) [] = false
 differ (a ∷ old) (b ∷ new) = elim (eqb a b) [ true ↦ false | false ↦ differ old new ]
 
 -- no element of a run equals the one that it replaces
-unfoldable pub allDiffer : List Run → List ℕ → Bool
-allDiffer [] f = true
-allDiffer (r ∷ rs) f = differ r.bytes (drop r.gap f) && allDiffer rs (drop (r.gap + length r.bytes) f)
+unfoldable pub all_differ : List Run → List ℕ → Bool
+all_differ [] f = true
+all_differ (r ∷ rs) f = differ r.bytes (drop r.gap f) && all_differ rs (drop (r.gap + length r.bytes) f)
 
 -- a list with the elements of runs in their places
 unfoldable pub patch : List Run → List ℕ → List ℕ

@@ -1,6 +1,6 @@
 // The longest stretches of bytes that changed between two buffers, found one after the other.
 ghost use Rattle.std.specs.Prelude.{◌≡◌, ◌+◌, ◌<◌, ◌≤◌, leb, length, drop};
-ghost use Rattle.runs.specs.Runs.{nextRun, changeOf};
+ghost use Rattle.runs.specs.Runs.{next_run, change_of};
 ghost use Rattle.runs.specs.Stretch.{stretch, Scanned};
 
 mod word;
@@ -94,7 +94,7 @@ fn stretch_end(equal: bool, old: &[u8], new: &[u8], from: usize) -> usize
 
 // The next run of changed bytes from a place on. There is none between buffers of two lengths.
 pub fn next_run(old: &[u8], new: &[u8], at: usize) -> Change
-    ensures { changeOf result ≡ nextRun old.now new.now at }
+    ensures { change_of result ≡ next_run old.now new.now at }
 {
     if old.len() != new.len() {
         return Change::Nothing;

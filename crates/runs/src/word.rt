@@ -1,7 +1,7 @@
 // Eight bytes of two buffers, compared at once.
 ghost use Rattle.std.specs.Prelude.{◌≡◌, ◌+◌, ◌<◌, ◌≤◌, length, get_or, take, drop};
 ghost use Rattle.laws.specs.Bytes.{word_of, Bytes};
-ghost use Rattle.runs.specs.Word.{zeroBytes, Stop};
+ghost use Rattle.runs.specs.Word.{zero_bytes, Stop};
 
 // A word of bytes that are 127, and one of bytes that are 128.
 const LOW: u64 = 0x7f7f_7f7f_7f7f_7f7f;
@@ -35,7 +35,7 @@ fn word(s: &[u8], at: usize) -> u64
 
 // 128 in each byte of a word that is 0, and 0 in the others.
 fn zero_bytes(w: u64) -> u64
-    ensures { result ≡ zeroBytes 9187201950435737471 9259542123273814144 w }
+    ensures { result ≡ zero_bytes 9187201950435737471 9259542123273814144 w }
 {
     HIGH - ((((w & LOW) + LOW) | w) & HIGH)
 }

@@ -9,81 +9,81 @@ use lib.Dec.{ltb}
 use lib.ListN.{length, take, drop}
 use borrow.Author.Tests.{lt-ltb, le-ltb, ltb-true}
 use Rattle.laws.specs.Result.{Res.ok, Res.fault}
-use Rattle.laws.proofs.ResultLaws.{Each, Each.each, each-bind, each-need, each-is}
+use Rattle.laws.proofs.ResultLaws.{Each, Each.each, each_bind, each_need, each_is}
 use Rattle.state.specs.declared.State.{State}
-use Rattle.state.specs.State.{rowBytes, frameBytes, lentLength}
-use Rattle.state.proofs.StateLaws.{SoundState, lent-sound, row_inside}
-use Rattle.state.specs.World.{isOdd}
-use Rattle.shown.specs.Row.{rowPlace, row_of}
+use Rattle.state.specs.State.{row_bytes, frame_bytes, lent_length}
+use Rattle.state.proofs.StateLaws.{SoundState, lent_sound, row_inside}
+use Rattle.state.specs.World.{is_odd}
+use Rattle.shown.specs.Row.{row_place, row_of}
 
 -- the bytes of a row lie within either buffer
 pub record Lies (s : State) (a b at : ℕ) : Type 0 where
-  pub in_a : at + rowBytes s.sizes.width ≤ a
-  pub in_b : at + rowBytes s.sizes.width ≤ b
+  pub in_a : at + row_bytes s.sizes.width ≤ a
+  pub in_b : at + row_bytes s.sizes.width ≤ b
 
-rows-within : (p h P m B : ℕ) → p < P → m ≤ suc p * h → m * B ≤ P * (h * B)
-rows-within p h P m B i j =
+rows_within : (p h P m B : ℕ) → p < P → m ≤ suc p * h → m * B ≤ P * (h * B)
+rows_within p h P m B i j =
     let k : suc p * h ≤ P * h = mul-le-mul_right h i in
     let l : m * B ≤ P * h * B = mul-le-mul_right B (omega (arith, j, k)) in
     omega (arith, l, mul_assoc P h B)
 
-pub row_lies : (s : State) (a b plane row : ℕ) → Each (Lies s a b) (rowPlace s a b plane row)
-unfolding rowPlace
+pub row_lies : (s : State) (a b plane row : ℕ) → Each (Lies s a b) (row_place s a b plane row)
+unfolding row_place
 row_lies s a b plane row =
-    each-bind (lent-sound s a b) λ n k.
-    each-need (ltb plane s.sizes.planes) 14 _ λ p. each-need (ltb row s.sizes.height) 14 _ λ r.
+    each_bind (lent_sound s a b) λ n k.
+    each_need (ltb plane s.sizes.planes) 14 _ λ p. each_need (ltb row s.sizes.height) 14 _ λ r.
     let w = row_inside s.sizes n row plane k.state.sizes (ltb-true row s.sizes.height r) (ltb-true plane s.sizes.planes p) in
     each (record { in_a = omega (arith, w, k.left); in_b = omega (arith, w, k.right) })
 
 -- nothing overflows on the way to a row's place
 pub record Small (s : State) (plane row : ℕ) : Type 0 where
   pub lines : plane * s.sizes.height + row ≤ 9216
-  pub bytes : {B : ℕ} → B ≡ rowBytes s.sizes.width → (plane * s.sizes.height + row) * B ≤ 1_048_576
+  pub bytes : {B : ℕ} → B ≡ row_bytes s.sizes.width → (plane * s.sizes.height + row) * B ≤ 1_048_576
 
 pub row_small : (s : State) {n : ℕ} → SoundState s n → (plane row : ℕ) → plane < s.sizes.planes → row ≤ s.sizes.height → Small s plane row
-unfolding frameBytes
+unfolding frame_bytes
 row_small s k plane row i j =
-    let m : plane * s.sizes.height ≤ 8 * s.sizes.height = mul-le-mul_right s.sizes.height (omega (arith, k.sizes.planes-most)) in
-    let w = rows-within plane s.sizes.height s.sizes.planes (plane * s.sizes.height + row) (rowBytes s.sizes.width) i (omega (arith, j, suc-mul plane s.sizes.height)) in
-    record { lines = omega (arith, m, k.sizes.height-most); bytes = λ q. rw q (omega (arith, w, k.sizes.length, k.sizes.length_most)) }
+    let m : plane * s.sizes.height ≤ 8 * s.sizes.height = mul-le-mul_right s.sizes.height (omega (arith, k.sizes.planes_most)) in
+    let w = rows_within plane s.sizes.height s.sizes.planes (plane * s.sizes.height + row) (row_bytes s.sizes.width) i (omega (arith, j, suc-mul plane s.sizes.height)) in
+    record { lines = omega (arith, m, k.sizes.height_most); bytes = λ q. rw q (omega (arith, w, k.sizes.length, k.sizes.length_most)) }
 
 -- the order of the tests
 module _ (s : State) (a b plane row : ℕ) where
-  pub place-refused : {k : ℕ} → lentLength s a b ≡ fault k → fault k ≡ rowPlace s a b plane row
-  unfolding rowPlace
-  place-refused e = simp e
+  pub place_refused : {k : ℕ} → lent_length s a b ≡ fault k → fault k ≡ row_place s a b plane row
+  unfolding row_place
+  place_refused e = simp e
 
-  module _ {n : ℕ} (e : lentLength s a b ≡ ok n) where
-    pub no-plane : s.sizes.planes ≤ plane → fault 14 ≡ rowPlace s a b plane row
-    unfolding rowPlace
-    no-plane h = simp (e, le-ltb plane s.sizes.planes h)
+  module _ {n : ℕ} (e : lent_length s a b ≡ ok n) where
+    pub no_plane : s.sizes.planes ≤ plane → fault 14 ≡ row_place s a b plane row
+    unfolding row_place
+    no_plane h = simp (e, le-ltb plane s.sizes.planes h)
 
     module _ (p : plane < s.sizes.planes) where
-      pub no_row : s.sizes.height ≤ row → fault 14 ≡ rowPlace s a b plane row
-      unfolding rowPlace
+      pub no_row : s.sizes.height ≤ row → fault 14 ≡ row_place s a b plane row
+      unfolding row_place
       no_row h = simp (e, lt-ltb plane s.sizes.planes p, le-ltb row s.sizes.height h)
 
-      pub place_is : row < s.sizes.height → {B : ℕ} → B ≡ rowBytes s.sizes.width → ok ((plane * s.sizes.height + row) * B) ≡ rowPlace s a b plane row
-      unfolding rowPlace
+      pub place_is : row < s.sizes.height → {B : ℕ} → B ≡ row_bytes s.sizes.width → ok ((plane * s.sizes.height + row) * B) ≡ row_place s a b plane row
+      unfolding row_place
       place_is h q = simp (e, lt-ltb plane s.sizes.planes p, lt-ltb row s.sizes.height h, q)
 
 -- the part
 module _ (s : State) (a b : List ℕ) (plane row : ℕ) where
-  pub row-refused : {k : ℕ} → rowPlace s (length a) (length b) plane row ≡ fault k → [] ≡ row_of s a b plane row
+  pub row_refused : {k : ℕ} → row_place s (length a) (length b) plane row ≡ fault k → [] ≡ row_of s a b plane row
   unfolding row_of
-  row-refused e = rw e
+  row_refused e = rw e
 
-  module _ {at B : ℕ} (e : rowPlace s (length a) (length b) plane row ≡ ok at) (q : B ≡ rowBytes s.sizes.width) where
-    pub row-odd : isOdd s.frame ≡ true → take (at + B - at) (drop at a) ≡ row_of s a b plane row
+  module _ {at B : ℕ} (e : row_place s (length a) (length b) plane row ≡ ok at) (q : B ≡ row_bytes s.sizes.width) where
+    pub row_odd : is_odd s.frame ≡ true → take (at + B - at) (drop at a) ≡ row_of s a b plane row
     unfolding row_of
-    row-odd h = rw (e, h, add-sub_cancel_left at B, q)
+    row_odd h = rw (e, h, add-sub_cancel_left at B, q)
 
-    pub row-even : isOdd s.frame ≡ false → take (at + B - at) (drop at b) ≡ row_of s a b plane row
+    pub row_even : is_odd s.frame ≡ false → take (at + B - at) (drop at b) ≡ row_of s a b plane row
     unfolding row_of
-    row-even h = rw (e, h, add-sub_cancel_left at B, q)
+    row_even h = rw (e, h, add-sub_cancel_left at B, q)
 
-    pub lies-a : at + B ≤ length a
-    lies-a = rw q (each-is e (row_lies s (length a) (length b) plane row)).in_a
+    pub lies_a : at + B ≤ length a
+    lies_a = rw q (each_is e (row_lies s (length a) (length b) plane row)).in_a
 
-    pub lies-b : at + B ≤ length b
-    lies-b = rw q (each-is e (row_lies s (length a) (length b) plane row)).in_b
+    pub lies_b : at + B ≤ length b
+    lies_b = rw q (each_is e (row_lies s (length a) (length b) plane row)).in_b

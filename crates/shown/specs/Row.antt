@@ -3,19 +3,19 @@
 use Rattle.std.specs.Prelude.{ℕ, ◌+◌, ◌*◌, List, [], ltb, length, take, drop}
 use Rattle.laws.specs.Result.{Res, Res.ok, Res.fault, ◌>>=◌, need}
 use Rattle.refusal.specs.Number.{number_of}
-use Rattle.state.specs.State.{rowBytes, lentLength}
+use Rattle.state.specs.State.{row_bytes, lent_length}
 use Rattle.state.specs.declared.State.{State}
-use Rattle.state.specs.World.{shownOf}
+use Rattle.state.specs.World.{shown_of}
 use Rattle.shown.specs.declared.Place.{Place}
 use Rattle.shown.specs.declared.Place.TheVariants.{At, Refused}
 
 -- where the row stands in its buffer, by the lengths of A and B; or 11, 12, 14
-unfoldable pub rowPlace : State → ℕ → ℕ → ℕ → ℕ → Res ℕ
-rowPlace s a b plane row =
-    lentLength s a b >>= λ _.
+unfoldable pub row_place : State → ℕ → ℕ → ℕ → ℕ → Res ℕ
+row_place s a b plane row =
+    lent_length s a b >>= λ _.
     need (ltb plane s.sizes.planes) 14 >>= λ _.
     need (ltb row s.sizes.height) 14 >>= λ _.
-    ok ((plane * s.sizes.height + row) * rowBytes s.sizes.width)
+    ok ((plane * s.sizes.height + row) * row_bytes s.sizes.width)
 
 -- B bytes from that place on, or nothing
 abbrev pub part_at : List ℕ → ℕ → Res ℕ → List ℕ
@@ -24,7 +24,7 @@ part_at p B (fault n) = []
 
 -- the row
 unfoldable pub row_of : State → (a b : List ℕ) → ℕ → ℕ → List ℕ
-row_of s a b plane row = part_at (shownOf s.frame a b) (rowBytes s.sizes.width) (rowPlace s (length a) (length b) plane row)
+row_of s a b plane row = part_at (shown_of s.frame a b) (row_bytes s.sizes.width) (row_place s (length a) (length b) plane row)
 
 -- what an answer says in the paper's terms
 abbrev pub place_of : Place → Res ℕ

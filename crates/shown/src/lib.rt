@@ -1,6 +1,6 @@
 // One row of one plane of the shown picture.
 ghost use Rattle.std.specs.Prelude.{◌≡◌, length};
-ghost use Rattle.shown.specs.Row.{rowPlace, row_of, place_of};
+ghost use Rattle.shown.specs.Row.{row_place, row_of, place_of};
 
 use refusal::Refusal;
 use state::{Length, State};
@@ -14,7 +14,7 @@ pub enum Place {
 
 // Where a row of a plane stands in the buffer that is shown.
 pub fn row_place(state: State, a: &[u8], b: &[u8], plane: usize, row: usize) -> Place
-    ensures { place_of result ≡ rowPlace state (length a.now) (length b.now) plane row }
+    ensures { place_of result ≡ row_place state (length a.now) (length b.now) plane row }
 {
     let sizes = state.sizes;
     let l = state.lent_length(a.len(), b.len());

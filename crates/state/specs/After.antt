@@ -2,7 +2,7 @@
 -- and document 02, E6).
 use Rattle.std.specs.Prelude.{ℕ, List, []}
 use Rattle.std.proofs.Math.Option.{Option, none, some}
-use Rattle.laws.specs.Store.{withFront}
+use Rattle.laws.specs.Store.{with_front}
 use Rattle.state.specs.declared.Report.{Report}
 use Rattle.state.specs.declared.State.{State}
 use Rattle.state.specs.World.{World}
@@ -11,8 +11,8 @@ use Rattle.state.specs.World.{World}
 pub data Answer : Type 0 where
   refused : ℕ → Answer
   ended : Answer
-  tookOn : Report → Answer
-  tookBack : Answer
+  took_on : Report → Answer
+  took_back : Answer
 
 -- what a call comes to: its answer, A, B, the map and the state after it, a record that was written, and a frame that stands in the work
 -- buffer
@@ -36,10 +36,10 @@ abbrev pub lent : (a b map : List ℕ) (s : State) (work rec : List ℕ) → Len
 lent a b map s work rec = record { world = record { a = a; b = b; map = map; state = s }; work = work; rec = rec }
 
 -- a work buffer after a call
-abbrev pub workAfter : List ℕ → Option (List ℕ) → List ℕ
-workAfter work none = work
-workAfter work (some f) = f
+abbrev pub work_after : List ℕ → Option (List ℕ) → List ℕ
+work_after work none = work
+work_after work (some f) = f
 
 -- what a call that comes to o leaves in what it was lent: a record stands at the front of its buffer, and the bytes past it stay
-unfoldable pub lentAfter : Lent → After → Lent
-lentAfter l o = record { world = o.world; work = workAfter l.work o.work; rec = withFront l.rec o.bytes }
+unfoldable pub lent_after : Lent → After → Lent
+lent_after l o = record { world = o.world; work = work_after l.work o.work; rec = with_front l.rec o.bytes }

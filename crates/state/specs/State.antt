@@ -14,41 +14,41 @@ abbrev pub within : ℕ → ℕ → ℕ → Bool
 within least most x = leb least x && leb x most
 
 -- B, the bytes per row
-unfoldable pub rowBytes : ℕ → ℕ
-rowBytes width = 2 * ((width + 15) / 16)
+unfoldable pub row_bytes : ℕ → ℕ
+row_bytes width = 2 * ((width + 15) / 16)
 
 -- a frame is planes × height × B bytes
-unfoldable pub frameBytes : Sizes → ℕ
-frameBytes z = z.planes * (z.height * rowBytes z.width)
+unfoldable pub frame_bytes : Sizes → ℕ
+frame_bytes z = z.planes * (z.height * row_bytes z.width)
 
 -- the length of a frame of given sizes, or 11 for sizes outside the limits
-unfoldable pub frameLength : Sizes → Res ℕ
-frameLength z =
+unfoldable pub frame_length : Sizes → Res ℕ
+frame_length z =
     need (within 1 1024 z.width) 11 >>= λ _.
     need (within 1 1024 z.height) 11 >>= λ _.
     need (within 1 8 z.planes) 11 >>= λ _.
-    ok (frameBytes z)
+    ok (frame_bytes z)
 
 -- the same for a whole state: frame 1 to 1,000,000 and 12 ≤ next ≤ end ≤ 2,147,483,647 besides
-unfoldable pub stateLength : State → Res ℕ
-stateLength s =
+unfoldable pub state_length : State → Res ℕ
+state_length s =
     need (within 1 1_000_000 s.frame) 11 >>= λ _.
     need (within 12 s.end s.next) 11 >>= λ _.
     need (leb s.end 2_147_483_647) 11 >>= λ _.
-    frameLength s.sizes
+    frame_length s.sizes
 
 -- the same where A and B, of so many bytes, are lent: 12 for a buffer of another length than a frame's
-unfoldable pub lentLength : State → ℕ → ℕ → Res ℕ
-lentLength s a b =
-    stateLength s >>= λ n.
+unfoldable pub lent_length : State → ℕ → ℕ → Res ℕ
+lent_length s a b =
+    state_length s >>= λ n.
     need (eqb a n) 12 >>= λ _.
     need (eqb b n) 12 >>= λ _.
     ok n
 
 -- the same where a map, of so many bytes, is lent too: 12 for one that isn't 768 bytes long
-unfoldable pub stepLength : State → ℕ → ℕ → ℕ → Res ℕ
-stepLength s a b map =
-    lentLength s a b >>= λ n.
+unfoldable pub step_length : State → ℕ → ℕ → ℕ → Res ℕ
+step_length s a b map =
+    lent_length s a b >>= λ n.
     need (eqb map MAP) 12 >>= λ _.
     ok n
 
@@ -71,14 +71,14 @@ moved s frame place = record { sizes = s.sizes; frame = frame; next = place; end
 
 -- sizes within the limits, and what follows of the lengths
 pub record Sound (z : Sizes) (n : ℕ) : Type 0 where
-  pub width-least : 1 ≤ z.width
-  pub width-most : z.width ≤ 1024
-  pub height-least : 1 ≤ z.height
-  pub height-most : z.height ≤ 1024
-  pub planes-least : 1 ≤ z.planes
-  pub planes-most : z.planes ≤ 8
-  pub row-least : 2 ≤ rowBytes z.width
-  pub row-most : rowBytes z.width ≤ 128
-  pub plane-most : z.height * rowBytes z.width ≤ 1024 * 128
-  pub length : n ≡ frameBytes z
+  pub width_least : 1 ≤ z.width
+  pub width_most : z.width ≤ 1024
+  pub height_least : 1 ≤ z.height
+  pub height_most : z.height ≤ 1024
+  pub planes_least : 1 ≤ z.planes
+  pub planes_most : z.planes ≤ 8
+  pub row_least : 2 ≤ row_bytes z.width
+  pub row_most : row_bytes z.width ≤ 128
+  pub plane_most : z.height * row_bytes z.width ≤ 1024 * 128
+  pub length : n ≡ frame_bytes z
   pub length_most : n ≤ 8 * 1024 * 128

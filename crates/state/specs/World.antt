@@ -12,27 +12,27 @@ pub record World : Type 0 where
   pub state : State
 
 -- whether a number is odd
-unfoldable pub isOdd : ℕ → Bool
-isOdd n = eqb (n % 2) 1
+unfoldable pub is_odd : ℕ → Bool
+is_odd n = eqb (n % 2) 1
 
 -- which of A and B is shown at a frame: odd frames are shown in A, even ones in B
-abbrev pub shownOf : ℕ → (a b : List ℕ) → List ℕ
-shownOf frame a b = pick (isOdd frame) a b
+abbrev pub shown_of : ℕ → (a b : List ℕ) → List ℕ
+shown_of frame a b = pick (is_odd frame) a b
 
 -- the hidden one is the other
-abbrev pub hiddenOf : ℕ → (a b : List ℕ) → List ℕ
-hiddenOf frame a b = pick (isOdd frame) b a
+abbrev pub hidden_of : ℕ → (a b : List ℕ) → List ℕ
+hidden_of frame a b = pick (is_odd frame) b a
 
 -- the shown and the hidden picture
-unfoldable pub shownIn : World → List ℕ
-shownIn w = shownOf w.state.frame w.a w.b
+unfoldable pub shown_in : World → List ℕ
+shown_in w = shown_of w.state.frame w.a w.b
 
-unfoldable pub hiddenIn : World → List ℕ
-hiddenIn w = hiddenOf w.state.frame w.a w.b
+unfoldable pub hidden_in : World → List ℕ
+hidden_in w = hidden_of w.state.frame w.a w.b
 
 -- the same with another picture in the shown buffer, or in the hidden one, another map and another state
-unfoldable pub withShown : World → List ℕ → List ℕ → State → World
-withShown w p m s = record { a = pick (isOdd w.state.frame) p w.a; b = pick (isOdd w.state.frame) w.b p; map = m; state = s }
+unfoldable pub with_shown : World → List ℕ → List ℕ → State → World
+with_shown w p m s = record { a = pick (is_odd w.state.frame) p w.a; b = pick (is_odd w.state.frame) w.b p; map = m; state = s }
 
-unfoldable pub withHidden : World → List ℕ → List ℕ → State → World
-withHidden w p m s = record { a = pick (isOdd w.state.frame) w.a p; b = pick (isOdd w.state.frame) p w.b; map = m; state = s }
+unfoldable pub with_hidden : World → List ℕ → List ℕ → State → World
+with_hidden w p m s = record { a = pick (is_odd w.state.frame) w.a p; b = pick (is_odd w.state.frame) p w.b; map = m; state = s }

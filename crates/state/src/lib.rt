@@ -1,6 +1,6 @@
 // The player's state and the sizes of a picture: their limits, and how long a frame of those sizes is.
 ghost use Rattle.std.specs.Prelude.{◌≡◌};
-ghost use Rattle.state.specs.State.{rowBytes, within, length_of, frameLength, stateLength, lentLength, stepLength, opened, zeros, moved};
+ghost use Rattle.state.specs.State.{row_bytes, within, length_of, frame_length, state_length, lent_length, step_length, opened, zeros, moved};
 
 use refusal::Refusal;
 
@@ -51,14 +51,14 @@ fn within(least: usize, most: usize, x: usize) -> bool
 impl Sizes {
     // The bytes of one row of one plane.
     pub fn row_bytes(self) -> usize
-        ensures { result ≡ rowBytes self.width }
+        ensures { result ≡ row_bytes self.width }
     {
         2 * (self.width / 16 + (self.width % 16 + 15) / 16)
     }
 
     // The bytes of a frame of these sizes.
     pub fn frame_length(self) -> Length
-        ensures { length_of result ≡ frameLength self }
+        ensures { length_of result ≡ frame_length self }
     {
         if !within(1, State::MAX_WIDTH, self.width) {
             return Length::Refused(Refusal::OutsideLimits);
@@ -133,7 +133,7 @@ impl State {
 
     // The bytes of a frame, if the whole state is within the limits.
     pub fn frame_length(self) -> Length
-        ensures { length_of result ≡ stateLength self }
+        ensures { length_of result ≡ state_length self }
     {
         if !within(1, State::MAX_FRAME, self.frame) {
             return Length::Refused(Refusal::OutsideLimits);
@@ -150,7 +150,7 @@ impl State {
 
     // The bytes of a frame, if the whole state is within the limits and A and B have the length of one.
     pub fn lent_length(self, a: usize, b: usize) -> Length
-        ensures { length_of result ≡ lentLength self a b }
+        ensures { length_of result ≡ lent_length self a b }
     {
         let l = self.frame_length();
         match l {
@@ -169,7 +169,7 @@ impl State {
 
     // The same, if the map has its length too.
     pub fn step_length(self, a: usize, b: usize, map: usize) -> Length
-        ensures { length_of result ≡ stepLength self a b map }
+        ensures { length_of result ≡ step_length self a b map }
     {
         let l = self.lent_length(a, b);
         match l {

@@ -1,7 +1,7 @@
 // Stepping back: a record is put back, and the frame before is shown.
 ghost use Rattle.record.specs.Record.{restored};
-ghost use Rattle.restore.specs.Restored.{restoredOf};
-ghost use Rattle.state.specs.World.{shownIn};
+ghost use Rattle.restore.specs.Restored.{restored_of};
+ghost use Rattle.state.specs.World.{shown_in};
 ghost use Rattle.step_back.specs.Back.{MeetsBack};
 ghost use Rattle.step_back.specs.Parts.{RestoresShown};
 
@@ -26,8 +26,8 @@ pub struct SteppedBack {
 // Puts a record back into the map and the shown buffer, A at an odd frame and B at an even one.
 fn restore_shown(state: State, a: &mut [u8], b: &mut [u8], map: &mut [u8], bytes: &[u8]) -> Restored
     ensures { RestoresShown (record { a = a.entry.now; b = b.old; map = map.old; state = state })
-        (restored bytes.now (shownIn (record { a = a.entry.now; b = b.old; map = map.old; state = state }))
-        map.old state.frame state.next) (restoredOf result) a.exit.now b.new map.new }
+        (restored bytes.now (shown_in (record { a = a.entry.now; b = b.old; map = map.old; state = state }))
+        map.old state.frame state.next) (restored_of result) a.exit.now b.new map.new }
 {
     let frame = state.frame;
     let next = state.next;

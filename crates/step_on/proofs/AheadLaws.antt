@@ -7,16 +7,16 @@ use mathlib.Core.Path.{◌≡◌, refl, sym, ◌∙◌}
 use lib.Dec.{eqb}
 use lib.ListN.{length, take, length-take}
 use Rattle.laws.specs.Result.{Res.ok}
-use Rattle.laws.proofs.ResultLaws.{Each, Each.each, All, All.all-some, All.all_none, each-any, each-bind, each-self, pick-both}
-use Rattle.state.specs.State.{rowBytes}
-use Rattle.state.specs.World.{World, isOdd, shownIn, hiddenIn}
+use Rattle.laws.proofs.ResultLaws.{Each, Each.each, All, All.all_some, All.all_none, each_any, each_bind, each_self, pick_both}
+use Rattle.state.specs.State.{row_bytes}
+use Rattle.state.specs.World.{World, is_odd, shown_in, hidden_in}
 use Rattle.delta.specs.Reading.{shape_of}
-use Rattle.delta.specs.Delta.{readDelta}
-use Rattle.delta.proofs.DeltaLaws.{draw-length}
-use Rattle.frame.specs.Frame.{Frame, frameAt}
-use Rattle.frame.proofs.FrameLaws.{frame-rises}
-use Rattle.step_on.specs.Step.{basis, change, Built, build, look, lookAhead}
-use Rattle.step_on.proofs.ReadyLaws.{Passed, ready-passed}
+use Rattle.delta.specs.Delta.{read_delta}
+use Rattle.delta.proofs.DeltaLaws.{draw_length}
+use Rattle.frame.specs.Frame.{Frame, frame_at}
+use Rattle.frame.proofs.FrameLaws.{frame_rises}
+use Rattle.step_on.specs.Step.{basis, change, Built, build, look, look_ahead}
+use Rattle.step_on.proofs.ReadyLaws.{Passed, ready_passed}
 
 pub record BuiltAhead (file : List ℕ) (w : World) (work : ℕ) (x : Built) : Type 0 where
   pub passed : Passed (length file) w.state (length w.a) (length w.b) (length w.map) work
@@ -28,35 +28,35 @@ module _ (file : List ℕ) (w : World) {work : ℕ} (p : Passed (length file) w.
   abbrev Long : List ℕ → Type 0
   Long f = length f ≡ length w.a
 
-  right-long : Long w.b
-  right-long = sym p.onB.same ∙ p.onA.same
+  right_long : Long w.b
+  right_long = sym p.on_b.same ∙ p.on_a.same
 
-  shown-long : Long (shownIn w)
-  unfolding shownIn
-  shown-long = pick-both Long (isOdd w.state.frame) refl right-long
+  shown_long : Long (shown_in w)
+  unfolding shown_in
+  shown_long = pick_both Long (is_odd w.state.frame) refl right_long
 
-  hidden-long : Long (hiddenIn w)
-  unfolding hiddenIn
-  hidden-long = pick-both Long (isOdd w.state.frame) right-long refl
+  hidden_long : Long (hidden_in w)
+  unfolding hidden_in
+  hidden_long = pick_both Long (is_odd w.state.frame) right_long refl
 
-  build-ahead : (o : Option Frame) → frameAt (take w.state.end file) w.state.next (rowBytes w.state.sizes.width) ≡ ok o
-      → Each (All (BuiltAhead file w work)) (build w.state.sizes (shownIn w) (hiddenIn w) o)
+  build_ahead : (o : Option Frame) → frame_at (take w.state.end file) w.state.next (row_bytes w.state.sizes.width) ≡ ok o
+      → Each (All (BuiltAhead file w work)) (build w.state.sizes (shown_in w) (hidden_in w) o)
   unfolding change
-  build-ahead none e = each all_none
-  build-ahead (some x) e =
-      let k = frame-rises (take w.state.end file) (rowBytes w.state.sizes.width) w.state.next x e in
-      each-bind {P = λ (y : Built). BuiltAhead file w work y}
-      (each-any (readDelta (shape_of w.state.sizes x.header.items) x.dlta) λ ops.
+  build_ahead none e = each all_none
+  build_ahead (some x) e =
+      let k = frame_rises (take w.state.end file) (row_bytes w.state.sizes.width) w.state.next x e in
+      each_bind {P = λ (y : Built). BuiltAhead file w work y}
+      (each_any (read_delta (shape_of w.state.sizes x.header.items) x.dlta) λ ops.
       each (record {
         passed = p;
-        long = draw-length (shape_of w.state.sizes x.header.items) x.dlta ops (basis x.header (shownIn w) (hiddenIn w)) ∙ pick-both Long (eqb x.header.interleave 1) shown-long hidden-long;
+        long = draw_length (shape_of w.state.sizes x.header.items) x.dlta ops (basis x.header (shown_in w) (hidden_in w)) ∙ pick_both Long (eqb x.header.interleave 1) shown_long hidden_long;
         rises = k.rises;
         ends = omega (arith, k.ends, length-take w.state.end file);
       }))
-      λ y b. each (all-some b)
+      λ y b. each (all_some b)
 
-pub ahead-built : (file : List ℕ) (w : World) (work : ℕ) → Each (All (BuiltAhead file w work)) (lookAhead file w work)
-unfolding lookAhead look
-ahead-built file w work =
-    each-bind (ready-passed (length file) w.state (length w.a) (length w.b) (length w.map) work) λ _ p.
-    each-bind (each-self (frameAt (take w.state.end file) w.state.next (rowBytes w.state.sizes.width))) (build-ahead file w p)
+pub ahead_built : (file : List ℕ) (w : World) (work : ℕ) → Each (All (BuiltAhead file w work)) (look_ahead file w work)
+unfolding look_ahead look
+ahead_built file w work =
+    each_bind (ready_passed (length file) w.state (length w.a) (length w.b) (length w.map) work) λ _ p.
+    each_bind (each_self (frame_at (take w.state.end file) w.state.next (row_bytes w.state.sizes.width))) (build_ahead file w p)

@@ -4,19 +4,19 @@ use Rattle.std.specs.Prelude.{ℕ, suc, List, ◌≡◌, leb, ltb, eqb, length, 
 use Rattle.std.proofs.Math.Option.{Option, none, some}
 use Rattle.laws.specs.Result.{Res, Res.ok, Res.fault, ◌>>=◌, need, pick}
 use Rattle.refusal.specs.Number.{number_of}
-use Rattle.state.specs.State.{rowBytes, stepLength, moved}
+use Rattle.state.specs.State.{row_bytes, step_length, moved}
 use Rattle.state.specs.declared.Report.{Report}
 use Rattle.state.specs.declared.Sizes.{Sizes}
 use Rattle.state.specs.declared.State.{State}
-use Rattle.state.specs.World.{World, shownIn, hiddenIn, withHidden}
-use Rattle.state.specs.After.{Answer, Answer.refused, Answer.ended, Answer.tookOn, After, kept, Lent, workAfter, lentAfter}
+use Rattle.state.specs.World.{World, shown_in, hidden_in, with_hidden}
+use Rattle.state.specs.After.{Answer, Answer.refused, Answer.ended, Answer.took_on, After, kept, Lent, work_after, lent_after}
 use Rattle.runs.specs.Runs.{differing}
-use Rattle.record.specs.Record.{recordBytes}
+use Rattle.record.specs.Record.{record_bytes}
 use Rattle.anhd.specs.declared.FrameHeader.{FrameHeader}
-use Rattle.delta.specs.Reading.{shape_of, opsIn}
-use Rattle.delta.specs.Delta.{readDelta, draw}
+use Rattle.delta.specs.Reading.{shape_of, ops_in}
+use Rattle.delta.specs.Delta.{read_delta, draw}
 use Rattle.colours.specs.Colours.{coloured}
-use Rattle.frame.specs.Frame.{Frame, frameAt}
+use Rattle.frame.specs.Frame.{Frame, frame_at}
 use Rattle.step_on.specs.declared.Ahead.{Ahead}
 use Rattle.step_on.specs.declared.Ahead.TheVariants.{Built as AheadBuilt, End as AheadEnd, Refused as AheadRefused}
 use Rattle.step_on.specs.declared.On.{On}
@@ -27,7 +27,7 @@ use Rattle.step_on.specs.declared.SteppedOn.{SteppedOn}
 unfoldable pub ready : ℕ → State → ℕ → ℕ → ℕ → ℕ → Res (Unit {0})
 ready file s a b map work =
     need (leb s.end file) 11 >>= λ _.
-    stepLength s a b map >>= λ n.
+    step_length s a b map >>= λ n.
     need (eqb work n) 12 >>= λ _.
     need (ltb s.frame 1_000_000) 53
 
@@ -35,7 +35,7 @@ ready file s a b map work =
 abbrev pub basis : FrameHeader → List ℕ → List ℕ → List ℕ
 basis h shown hidden = pick (eqb h.interleave 1) shown hidden
 
--- a frame that was built: its picture, the place past it, its header, the number of its ops, as `opsIn` counts them, and its CMAP
+-- a frame that was built: its picture, the place past it, its header, the number of its ops, as `ops_in` counts them, and its CMAP
 pub record Built : Type 0 where
   pub picture : List ℕ
   pub next : ℕ
@@ -46,12 +46,12 @@ pub record Built : Type 0 where
 -- what a frame makes of the shown and the hidden picture
 unfoldable pub change : Sizes → Frame → List ℕ → List ℕ → Res Built
 change z x shown hidden =
-    readDelta (shape_of z x.header.items) x.dlta >>= λ ops.
+    read_delta (shape_of z x.header.items) x.dlta >>= λ ops.
     ok (record {
       picture = draw (shape_of z x.header.items) x.dlta ops (basis x.header shown hidden);
       next = x.next;
       header = x.header;
-      ops = opsIn (shape_of z x.header.items) ops;
+      ops = ops_in (shape_of z x.header.items) ops;
       cmap = x.cmap;
     })
 
@@ -62,36 +62,36 @@ build z shown hidden (some x) = change z x shown hidden >>= λ y. ok (some y)
 
 -- the frame at the next place of FORM ANIM is built
 unfoldable pub look : List ℕ → State → List ℕ → List ℕ → Res (Option Built)
-look anim s shown hidden = frameAt anim s.next (rowBytes s.sizes.width) >>= build s.sizes shown hidden
+look anim s shown hidden = frame_at anim s.next (row_bytes s.sizes.width) >>= build s.sizes shown hidden
 
 -- what lies ahead, with a work buffer of `work` bytes
-unfoldable pub lookAhead : List ℕ → World → ℕ → Res (Option Built)
-lookAhead file w work =
+unfoldable pub look_ahead : List ℕ → World → ℕ → Res (Option Built)
+look_ahead file w work =
     ready (length file) w.state (length w.a) (length w.b) (length w.map) work >>= λ _.
-    look (take w.state.end file) w.state (shownIn w) (hiddenIn w)
+    look (take w.state.end file) w.state (shown_in w) (hidden_in w)
 
 -- the record of a step to a frame whose picture is f, with this CMAP
-abbrev pub recordOf : World → List ℕ → List ℕ → List ℕ
-recordOf w f cmap = recordBytes (suc w.state.frame) w.state.next (hiddenIn w) f w.map (coloured w.map cmap)
+abbrev pub record_of : World → List ℕ → List ℕ → List ℕ
+record_of w f cmap = record_bytes (suc w.state.frame) w.state.next (hidden_in w) f w.map (coloured w.map cmap)
 
 -- what is reported of a step to a frame that was built
-abbrev pub reportOf : World → Built → Report
-reportOf w x = record {
+abbrev pub report_of : World → Built → Report
+report_of w x = record {
   method = x.header.method;
   time = x.header.time;
-  changed = differing (hiddenIn w) x.picture;
-  record_length = length (recordOf w x.picture x.cmap);
+  changed = differing (hidden_in w) x.picture;
+  record_length = length (record_of w x.picture x.cmap);
   ops = x.ops;
 }
 
 -- a step to a frame that was built: a record that doesn't fit is 51, and leaves the frame in the work buffer
 unfoldable pub commit : World → ℕ → Built → After
 commit w room x =
-    pick (leb (length (recordOf w x.picture x.cmap)) room)
+    pick (leb (length (record_of w x.picture x.cmap)) room)
     (record {
-      answer = tookOn (reportOf w x);
-      world = withHidden w x.picture (coloured w.map x.cmap) (moved w.state (suc w.state.frame) x.next);
-      bytes = recordOf w x.picture x.cmap;
+      answer = took_on (report_of w x);
+      world = with_hidden w x.picture (coloured w.map x.cmap) (moved w.state (suc w.state.frame) x.next);
+      bytes = record_of w x.picture x.cmap;
       work = some x.picture;
     })
     (kept w (refused 51) (some x.picture))
@@ -103,8 +103,8 @@ settle w room (ok none) = kept w ended none
 settle w room (ok (some x)) = commit w room x
 
 -- stepping on, with a work buffer of `work` bytes and a record buffer of `room` bytes
-unfoldable pub stepOn : List ℕ → World → ℕ → ℕ → After
-stepOn file w work room = settle w room (lookAhead file w work)
+unfoldable pub step_on : List ℕ → World → ℕ → ℕ → After
+step_on file w work room = settle w room (look_ahead file w work)
 
 -- what the answers say in the paper's terms; a frame that was built stands in the work buffer, and its CMAP is a part of FORM ANIM
 abbrev pub ahead_of : List ℕ → Ahead → List ℕ → Res (Option Built)
@@ -113,27 +113,27 @@ ahead_of anim (AheadBuilt next header ops start len) work =
 ahead_of anim AheadEnd work = ok none
 ahead_of anim (AheadRefused why) work = fault (number_of why)
 
-abbrev pub onOf : On → Answer
-onOf (Taken report) = tookOn report
-onOf End = ended
-onOf (Refused why) = refused (number_of why)
+abbrev pub on_of : On → Answer
+on_of (Taken report) = took_on report
+on_of End = ended
+on_of (Refused why) = refused (number_of why)
 
 -- the frame that stands in the work buffer
-abbrev pub drawnOf : Res (Option Built) → Option (List ℕ)
-drawnOf (ok (some x)) = some x.picture
-drawnOf (ok none) = none
-drawnOf (fault n) = none
+abbrev pub drawn_of : Res (Option Built) → Option (List ℕ)
+drawn_of (ok (some x)) = some x.picture
+drawn_of (ok none) = none
+drawn_of (fault n) = none
 
 -- what looking ahead in FORM ANIM answers and leaves in the work buffer, where q lies ahead
 pub record Looks (anim : List ℕ) (q : Res (Option Built)) (work : List ℕ) (r : Ahead) (work' : List ℕ) : Type 0 where
   pub answer : ahead_of anim r work' ≡ q
-  pub drawn : work' ≡ workAfter work (drawnOf q)
+  pub drawn : work' ≡ work_after work (drawn_of q)
 
 -- what a step on answers and leaves in what it was lent, where it comes to o
 pub record LeavesOn (o : After) (l : Lent) (r : SteppedOn) (l' : Lent) : Type 0 where
-  pub answer : onOf r.answer ≡ o.answer
-  pub left : l' ≡ lentAfter l o
+  pub answer : on_of r.answer ≡ o.answer
+  pub left : l' ≡ lent_after l o
 
 -- the contract of stepping on
 abbrev pub MeetsOn : (file : List ℕ) (l : Lent) (r : SteppedOn) (l' : Lent) → Type 0
-MeetsOn file l r l' = LeavesOn (stepOn file l.world (length l.work) (length l.rec)) l r l'
+MeetsOn file l r l' = LeavesOn (step_on file l.world (length l.work) (length l.rec)) l r l'

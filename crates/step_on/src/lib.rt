@@ -2,10 +2,10 @@
 ghost use Rattle.std.specs.Prelude.{◌≡◌, length, take};
 ghost use Rattle.state.specs.After.{lent};
 ghost use Rattle.colours.specs.Colours.{MAP};
-ghost use Rattle.record.specs.Record.{recordedOf};
-ghost use Rattle.delta.specs.Delta.{Applies, appliedOf};
-ghost use Rattle.step_on.specs.Step.{ready, basis, look, lookAhead, commit, Looks, LeavesOn, MeetsOn};
-ghost use Rattle.step_on.specs.Parts.{readyOf, Fits, CommitsHidden};
+ghost use Rattle.record.specs.Record.{recorded_of};
+ghost use Rattle.delta.specs.Delta.{Applies, applied_of};
+ghost use Rattle.step_on.specs.Step.{ready, basis, look, look_ahead, commit, Looks, LeavesOn, MeetsOn};
+ghost use Rattle.step_on.specs.Parts.{ready_of, Fits, CommitsHidden};
 
 use anhd::FrameHeader;
 use delta::Applied;
@@ -53,7 +53,7 @@ enum Begins {
 
 // The tests of a step on, by the lengths of the file, A, B, the map and the work buffer.
 fn ready(file: usize, state: State, a: usize, b: usize, map: usize, work: usize) -> Begins
-    ensures { readyOf result ≡ ready file state a b map work }
+    ensures { ready_of result ≡ ready file state a b map work }
 {
     if file < state.end {
         return Begins::Refused(Refusal::OutsideLimits);
@@ -83,7 +83,7 @@ fn apply_frame(
     work: &mut [u8],
 ) -> Applied
     ensures { Applies work.old (basis header shown.now hidden.now) dlta.now sizes
-        header.items (appliedOf result) work.new }
+        header.items (applied_of result) work.new }
 {
     let items = header.items;
     if header.interleave == 1 {
@@ -137,7 +137,7 @@ pub fn look_ahead(
     work: &mut [u8],
 ) -> Ahead
     ensures { Looks (take state.end file.now)
-        (lookAhead file.now (record { a = a.entry.now; b = b.now; map = map.now; state = state }) (length work.old))
+        (look_ahead file.now (record { a = a.entry.now; b = b.now; map = map.now; state = state }) (length work.old))
         work.old result work.new }
 {
     let t = ready(file.len(), state, a.len(), b.len(), map.len(), work.len());
@@ -166,7 +166,7 @@ fn commit_hidden(
 ) -> Recorded
     requires { Fits state (length a.old) (length work.now) }
     ensures { CommitsHidden (record { a = a.entry.now; b = b.old; map = map.old; state = state })
-        work.now cmap.now rec.old (recordedOf result) a.exit.now b.new map.new rec.new }
+        work.now cmap.now rec.old (recorded_of result) a.exit.now b.new map.new rec.new }
 {
     let frame = (state.frame + 1) as u32;
     let place = state.next as u32;

@@ -1,7 +1,7 @@
 // States as numbers of eight bytes, the lowest byte first, read from lent buffers.
 ghost use Rattle.std.specs.Prelude.{◌≡◌, ◌+◌, ◌<◌, ◌≤◌, length, get_or, take, drop};
 ghost use Rattle.laws.specs.Bytes.{word_of};
-ghost use Rattle.words.specs.Words.{le64, readState};
+ghost use Rattle.words.specs.Words.{le64, read_state};
 
 use state::{Sizes, State};
 
@@ -31,7 +31,7 @@ fn number64(s: &[u8], at: usize) -> usize
 
 // The state in a buffer of 48 bytes; any other holds six zeros.
 pub fn read_state(s: &[u8]) -> State
-    ensures { result ≡ readState s.now }
+    ensures { result ≡ read_state s.now }
 {
     if s.len() != 48 {
         return State::zeros();

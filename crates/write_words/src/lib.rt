@@ -1,14 +1,14 @@
 // States and reports as numbers of eight bytes, the lowest byte first, written into lent buffers.
 ghost use Rattle.std.specs.Prelude.{[], ◌∷◌, ◌≡◌, ◌+◌, ◌≤◌, length};
 ghost use Rattle.laws.specs.Put.{Put};
-ghost use Rattle.words.specs.Words.{le32Bytes, le64Bytes, stateWords, reportWords, lay};
+ghost use Rattle.words.specs.Words.{le32_bytes, le64_bytes, state_words, report_words, lay};
 
 use state::{Report, State};
 
 // Puts a number into four bytes, and answers the place after them.
 fn put32(out: &mut [u8], at: usize, n: usize) -> usize
     requires { at + 4 ≤ length out.old }
-    ensures { Put out.old at (le32Bytes n) out.new result × (result ≡ at + 4) }
+    ensures { Put out.old at (le32_bytes n) out.new result × (result ≡ at + 4) }
 {
     out[at] = (n % 256) as u8;
     out[at + 1] = (n / 256 % 256) as u8;
@@ -20,7 +20,7 @@ fn put32(out: &mut [u8], at: usize, n: usize) -> usize
 // Puts a number into eight bytes, and answers the place after them.
 fn put64(out: &mut [u8], at: usize, n: usize) -> usize
     requires { at + 8 ≤ length out.old }
-    ensures { Put out.old at (le64Bytes n) out.new result × (result ≡ at + 8) }
+    ensures { Put out.old at (le64_bytes n) out.new result × (result ≡ at + 8) }
 {
     let half = put32(out, at, n % 4294967296);
     put32(out, half, n / 4294967296)
@@ -28,7 +28,7 @@ fn put64(out: &mut [u8], at: usize, n: usize) -> usize
 
 // Writes a state into a buffer of 48 bytes.
 pub fn write_state(out: &mut [u8], state: State)
-    ensures { out.new ≡ lay out.old (stateWords state) }
+    ensures { out.new ≡ lay out.old (state_words state) }
 {
     if out.len() != 48 {
         return;
@@ -44,7 +44,7 @@ pub fn write_state(out: &mut [u8], state: State)
 
 // Writes a report into a buffer of 40 bytes.
 pub fn write_report(out: &mut [u8], report: Report)
-    ensures { out.new ≡ lay out.old (reportWords report) }
+    ensures { out.new ≡ lay out.old (report_words report) }
 {
     if out.len() != 40 {
         return;

@@ -3,11 +3,11 @@ mod plane;
 
 ghost use Rattle.std.specs.Prelude.{◌≡◌, ◌+◌, ◌*◌, ◌≤◌, length, eqb, ltb};
 ghost use Rattle.std.proofs.lemmas.List.Edits.{sets};
-ghost use Rattle.laws.specs.Bytes.{be32Bytes};
+ghost use Rattle.laws.specs.Bytes.{be32_bytes};
 ghost use Rattle.laws.specs.Result.{pick};
-ghost use Rattle.state.specs.State.{rowBytes};
+ghost use Rattle.state.specs.State.{row_bytes};
 ghost use Rattle.writer.specs.Planes.{Frames};
-ghost use Rattle.writer.specs.Write.{pointersBytes, listsBytes, deltaBytes, Writes, deltaOf};
+ghost use Rattle.writer.specs.Write.{pointers_bytes, lists_bytes, delta_bytes, Writes, delta_of};
 
 use crate::plane::{plane_length, write_plane};
 use buffer::fill;
@@ -24,7 +24,7 @@ pub enum Delta {
 // How many bytes the lists of all planes have.
 fn lists_length(old: &[u8], new: &[u8], row: usize, height: usize, planes: usize) -> usize
     requires { Frames old.now new.now row height planes }
-    ensures { (result ≡ length (listsBytes old.now new.now row height planes 0)) × (result ≤ (1 + 3 * 1024) * 128 * 8) }
+    ensures { (result ≡ length (lists_bytes old.now new.now row height planes 0)) × (result ≤ (1 + 3 * 1024) * 128 * 8) }
 {
     let size = height * row;
     let mut sum = 0;
@@ -41,7 +41,7 @@ fn lists_length(old: &[u8], new: &[u8], row: usize, height: usize, planes: usize
 // Whether the delta is longer than the room for it. If even the longest of these sizes is not, nothing is measured.
 fn too_long(room: usize, old: &[u8], new: &[u8], row: usize, height: usize, planes: usize) -> bool
     requires { Frames old.now new.now row height planes }
-    ensures { result ≡ ltb room (64 + length (listsBytes old.now new.now row height planes 0)) }
+    ensures { result ≡ ltb room (64 + length (lists_bytes old.now new.now row height planes 0)) }
 {
     let longest = 64 + planes * (row * (height + height / 2 + 2));
     if longest <= room {
@@ -53,7 +53,7 @@ fn too_long(room: usize, old: &[u8], new: &[u8], row: usize, height: usize, plan
 // Writes a number in four bytes, the highest first.
 fn write_number(out: &mut [u8], at: usize, n: usize)
     requires { at + 4 ≤ length out.old }
-    ensures { out.new ≡ sets out.old at (be32Bytes n) }
+    ensures { out.new ≡ sets out.old at (be32_bytes n) }
 {
     out[at] = (n / 16777216 % 256) as u8;
     out[at + 1] = (n / 65536 % 256) as u8;
@@ -64,7 +64,7 @@ fn write_number(out: &mut [u8], at: usize, n: usize)
 // Writes the pointer of a plane whose list lies between two places: 0 where there is none.
 fn write_pointer(out: &mut [u8], at: usize, place: usize, next: usize)
     requires { at + 4 ≤ length out.old }
-    ensures { out.new ≡ sets out.old at (be32Bytes (pick (eqb next place) 0 place)) }
+    ensures { out.new ≡ sets out.old at (be32_bytes (pick (eqb next place) 0 place)) }
 {
     if next == place {
         write_number(out, at, 0);
@@ -82,10 +82,10 @@ fn write_planes(
     height: usize,
     planes: usize,
 ) -> usize
-    requires { Frames old.now new.now row height planes × (64 + length (listsBytes old.now new.now row height planes 0) ≤ length out.old) }
-    ensures { (result ≡ 64 + length (listsBytes old.now new.now row height planes 0))
-        × (out.new ≡ sets (sets out.old 0 (pointersBytes old.now new.now row height planes 0 64)) 64
-        (listsBytes old.now new.now row height planes 0)) }
+    requires { Frames old.now new.now row height planes × (64 + length (lists_bytes old.now new.now row height planes 0) ≤ length out.old) }
+    ensures { (result ≡ 64 + length (lists_bytes old.now new.now row height planes 0))
+        × (out.new ≡ sets (sets out.old 0 (pointers_bytes old.now new.now row height planes 0 64)) 64
+        (lists_bytes old.now new.now row height planes 0)) }
 {
     let size = height * row;
     let mut pointer = 0;
@@ -105,10 +105,10 @@ fn write_planes(
 
 // Writes a delta where it fits, and answers its length.
 fn write_delta(out: &mut [u8], old: &[u8], new: &[u8], sizes: Sizes) -> usize
-    requires { Frames old.now new.now (rowBytes sizes.width) sizes.height sizes.planes
-        × (64 + length (listsBytes old.now new.now (rowBytes sizes.width) sizes.height sizes.planes 0) ≤ length out.old) }
-    ensures { (result ≡ 64 + length (listsBytes old.now new.now (rowBytes sizes.width) sizes.height sizes.planes 0))
-        × (out.new ≡ sets out.old 0 (deltaBytes old.now new.now sizes)) }
+    requires { Frames old.now new.now (row_bytes sizes.width) sizes.height sizes.planes
+        × (64 + length (lists_bytes old.now new.now (row_bytes sizes.width) sizes.height sizes.planes 0) ≤ length out.old) }
+    ensures { (result ≡ 64 + length (lists_bytes old.now new.now (row_bytes sizes.width) sizes.height sizes.planes 0))
+        × (out.new ≡ sets out.old 0 (delta_bytes old.now new.now sizes)) }
 {
     let start = 4 * sizes.planes;
     fill(&mut out[start..64], 0);
@@ -117,7 +117,7 @@ fn write_delta(out: &mut [u8], old: &[u8], new: &[u8], sizes: Sizes) -> usize
 
 // Writes the delta that turns the old frame into the new one: 11 for the sizes, 12 for the frames, 51 if it doesn't fit.
 pub fn write(out: &mut [u8], old: &[u8], new: &[u8], sizes: Sizes) -> Delta
-    ensures { Writes out.old old.now new.now sizes (deltaOf result) out.new }
+    ensures { Writes out.old old.now new.now sizes (delta_of result) out.new }
 {
     let l = sizes.frame_length();
     match l {

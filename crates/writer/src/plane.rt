@@ -2,12 +2,12 @@
 ghost use Rattle.std.specs.Prelude.{◌≡◌, ℕ, ◌+◌, ◌*◌, ◌<◌, ◌≤◌, length, take, drop};
 ghost use Rattle.laws.specs.Put.{Put};
 ghost use Rattle.writer.specs.Planes.{InFrame, Plane};
-ghost use Rattle.writer.specs.Write.{columnAt, columnIn, columnsBytes, planesEqual, planeBytes};
+ghost use Rattle.writer.specs.Write.{column_at, column_in, columns_bytes, planes_equal, plane_bytes};
 
 // Copies a column of a frame: its rows lie row bytes apart, from a place on.
 fn copy_column(column: &mut [u8], frame: &[u8], row: usize, at: usize)
     requires { (i : ℕ) → i < length column.old → at + i * row < length frame.now }
-    ensures { column.new ≡ columnAt frame.now row at (length column.old) }
+    ensures { column.new ≡ column_at frame.now row at (length column.old) }
 {
     let mut i = 0;
     while i < column.len() {
@@ -27,8 +27,8 @@ fn copy_columns(
     at: usize,
 )
     requires { (height ≤ length was.old) × (height ≤ length is.old) × InFrame old.now new.now row height at }
-    ensures { (take height was.new ≡ columnAt old.now row at height)
-        × (take height is.new ≡ columnAt new.now row at height) }
+    ensures { (take height was.new ≡ column_at old.now row at height)
+        × (take height is.new ≡ column_at new.now row at height) }
 {
     copy_column(&mut was[..height], old, row, at);
     copy_column(&mut is[..height], new, row, at);
@@ -45,7 +45,7 @@ fn length_in(
     at: usize,
 ) -> usize
     requires { (height ≤ length was.old) × (height ≤ length is.old) × InFrame old.now new.now row height at }
-    ensures { (result ≡ length (columnIn old.now new.now row height at)) × (result ≤ 1 + 3 * 1024) }
+    ensures { (result ≡ length (column_in old.now new.now row height at)) × (result ≤ 1 + 3 * 1024) }
 {
     copy_columns(was, is, old, new, row, height, at);
     let l = column_writer::column_length(&was[..height], &is[..height]);
@@ -58,7 +58,7 @@ fn length_in(
 // How many bytes the column is written in that starts at a place of the frames.
 fn length_at(old: &[u8], new: &[u8], row: usize, height: usize, at: usize) -> usize
     requires { InFrame old.now new.now row height at }
-    ensures { (result ≡ length (columnIn old.now new.now row height at)) × (result ≤ 1 + 3 * 1024) }
+    ensures { (result ≡ length (column_in old.now new.now row height at)) × (result ≤ 1 + 3 * 1024) }
 {
     let mut was = [0u8; 1024];
     let mut is = [0u8; 1024];
@@ -78,8 +78,8 @@ fn write_in(
     at: usize,
 ) -> usize
     requires { (height ≤ length was.old) × (height ≤ length is.old) × InFrame old.now new.now row height at
-        × (place + length (columnIn old.now new.now row height at) ≤ length out.old) }
-    ensures { Put out.old place (columnIn old.now new.now row height at) out.new result }
+        × (place + length (column_in old.now new.now row height at) ≤ length out.old) }
+    ensures { Put out.old place (column_in old.now new.now row height at) out.new result }
 {
     copy_columns(was, is, old, new, row, height, at);
     let p = column_writer::write(out, place, &was[..height], &is[..height]);
@@ -99,8 +99,8 @@ fn write_at(
     height: usize,
     at: usize,
 ) -> usize
-    requires { InFrame old.now new.now row height at × (place + length (columnIn old.now new.now row height at) ≤ length out.old) }
-    ensures { Put out.old place (columnIn old.now new.now row height at) out.new result }
+    requires { InFrame old.now new.now row height at × (place + length (column_in old.now new.now row height at) ≤ length out.old) }
+    ensures { Put out.old place (column_in old.now new.now row height at) out.new result }
 {
     let mut was = [0u8; 1024];
     let mut is = [0u8; 1024];
@@ -110,7 +110,7 @@ fn write_at(
 // How many bytes the columns of a plane are written in.
 fn columns_length(old: &[u8], new: &[u8], row: usize, height: usize, at: usize) -> usize
     requires { Plane old.now new.now row height at }
-    ensures { (result ≡ length (columnsBytes old.now new.now row height row at)) × (result ≤ (1 + 3 * 1024) * row) }
+    ensures { (result ≡ length (columns_bytes old.now new.now row height row at)) × (result ≤ (1 + 3 * 1024) * row) }
 {
     let mut sum = 0;
     let mut column = 0;
@@ -131,8 +131,8 @@ fn write_columns(
     height: usize,
     at: usize,
 ) -> usize
-    requires { Plane old.now new.now row height at × (from + length (columnsBytes old.now new.now row height row at) ≤ length out.old) }
-    ensures { Put out.old from (columnsBytes old.now new.now row height row at) out.new result }
+    requires { Plane old.now new.now row height at × (from + length (columns_bytes old.now new.now row height row at) ≤ length out.old) }
+    ensures { Put out.old from (columns_bytes old.now new.now row height row at) out.new result }
 {
     let mut place = from;
     let mut column = 0;
@@ -146,7 +146,7 @@ fn write_columns(
 // Whether two planes are equal. There is no early exit, so that many bytes are compared at once.
 fn planes_equal(old: &[u8], new: &[u8]) -> bool
     requires { length old.now ≡ length new.now }
-    ensures { result ≡ planesEqual old.now new.now }
+    ensures { result ≡ planes_equal old.now new.now }
 {
     let mut same = true;
     let mut i = 0;
@@ -162,7 +162,7 @@ fn planes_equal(old: &[u8], new: &[u8]) -> bool
 // Whether the plane that starts at a place is unchanged.
 fn unchanged(old: &[u8], new: &[u8], row: usize, height: usize, at: usize) -> bool
     requires { Plane old.now new.now row height at }
-    ensures { result ≡ planesEqual (take (height * row) (drop at old.now)) (take (height * row) (drop at new.now)) }
+    ensures { result ≡ planes_equal (take (height * row) (drop at old.now)) (take (height * row) (drop at new.now)) }
 {
     let end = at + height * row;
     planes_equal(&old[at..end], &new[at..end])
@@ -171,7 +171,7 @@ fn unchanged(old: &[u8], new: &[u8], row: usize, height: usize, at: usize) -> bo
 // How many bytes the list of a plane has.
 pub(crate) fn plane_length(old: &[u8], new: &[u8], row: usize, height: usize, at: usize) -> usize
     requires { Plane old.now new.now row height at }
-    ensures { (result ≡ length (planeBytes old.now new.now row height at)) × (result ≤ (1 + 3 * 1024) * 128) }
+    ensures { (result ≡ length (plane_bytes old.now new.now row height at)) × (result ≤ (1 + 3 * 1024) * 128) }
 {
     if unchanged(old, new, row, height, at) {
         return 0;
@@ -189,8 +189,8 @@ pub(crate) fn write_plane(
     height: usize,
     at: usize,
 ) -> usize
-    requires { Plane old.now new.now row height at × (place + length (planeBytes old.now new.now row height at) ≤ length out.old) }
-    ensures { Put out.old place (planeBytes old.now new.now row height at) out.new result }
+    requires { Plane old.now new.now row height at × (place + length (plane_bytes old.now new.now row height at) ≤ length out.old) }
+    ensures { Put out.old place (plane_bytes old.now new.now row height at) out.new result }
 {
     if unchanged(old, new, row, height, at) {
         return place;

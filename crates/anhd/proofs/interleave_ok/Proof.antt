@@ -9,5 +9,5 @@ returns c = rw c.if1.true refl
 returns-2 : tie.Need-returns-2
 returns-2 c = rw c.if1.false refl
 
-pub interleave-ok-spec : {M : Type 1} → statement M
-interleave-ok-spec = tie.close (tie.spec returns returns-2)
+pub interleave_ok_spec : {M : Type 1} → statement M
+interleave_ok_spec = tie.close (tie.spec returns returns-2)

@@ -18,5 +18,5 @@ returns-4 c = rw c.match.keys3
 returns-5 : tie.Need-returns-5
 returns-5 c = let r = c.before.match.rest in simp (ne_eqb _ _ r.0.0.1, ne_eqb _ _ r.0.1, ne_eqb _ _ r.1, ne_eqb _ _ c.if1.false)
 
-pub items-of-spec : {M : Type 1} → statement M
-items-of-spec = tie.close (tie.spec returns returns-2 returns-3 returns-4 returns-5)
+pub items_of_spec : {M : Type 1} → statement M
+items_of_spec = tie.close (tie.spec returns returns-2 returns-3 returns-4 returns-5)

@@ -15,5 +15,5 @@ returns-3 c = rw c.match.keys3
 returns-4 : tie.Need-returns-4
 returns-4 c = let r = c.match.rest in simp (ne_eqb _ _ r.0.0.1, ne_eqb _ _ r.0.1, ne_eqb _ _ r.1)
 
-pub method-ok-spec : {M : Type 1} → statement M
-method-ok-spec = tie.close (tie.spec returns returns-2 returns-3 returns-4)
+pub method_ok_spec : {M : Type 1} → statement M
+method_ok_spec = tie.close (tie.spec returns returns-2 returns-3 returns-4)

@@ -11,8 +11,8 @@ returns c = rw (told place_of c.before.before.before.before.row_in.ensures c.bef
 returns-2 : tie.Need-returns-2
 returns-2 c = rw (told place_of c.before.before.row_in.ensures c.enum_told.given.1)
 
-pub anim-row-refusal-spec : {M : Type 1} → statement M
-anim-row-refusal-spec =
+pub anim_row_refusal_spec : {M : Type 1} → statement M
+anim_row_refusal_spec =
     tie.close (tie.spec
     (λ c κs. search rules) (λ c. search rules) (λ c κs. search rules) (λ c. search rules)
     returns

@@ -13,9 +13,9 @@ returns-2 c = hands_on c.enum_told.given.1 refl refl refl
 
 returns-3 : tie.Need-returns-3
 returns-3 c =
-    let at-write-state = c.before.before.before.before.before.before in
-    let at-answer = at-write-state.before.before.before in
-    hands_on at-answer.answer2.given.1 refl at-write-state.write-state.ensures c.before.before.write-report.ensures
+    let at_write_state = c.before.before.before.before.before.before in
+    let at_answer = at_write_state.before.before.before in
+    hands_on at_answer.answer2.given.1 refl at_write_state.write-state.ensures c.before.before.write-report.ensures
 
 pub hand_on_spec : {M : Type 1} → statement M
 hand_on_spec =

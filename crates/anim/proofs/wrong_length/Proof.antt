@@ -6,7 +6,7 @@ use Rattle.anim.proofs.wrong_length.Tie as tie
 returns : tie.Need-returns
 returns c = c.number.ensures
 
-pub wrong-length-spec : {M : Type 1} → statement M
-wrong-length-spec = tie.close (tie.spec
+pub wrong_length_spec : {M : Type 1} → statement M
+wrong_length_spec = tie.close (tie.spec
     (λ c κs. search rules)
     returns)

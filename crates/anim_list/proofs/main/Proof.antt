@@ -7,8 +7,8 @@ use Rattle.anim_list.proofs.main.Tie as tie
 
 slice-aggregate-write-all : tie.Need-slice-aggregate-write-all
 slice-aggregate-write-all c =
-    let at-list = c.before.before.before.before.before.before.before in
-    sym (length-take-le _ _ at-list.list.ensures.most)
+    let at_list = c.before.before.before.before.before.before.before in
+    sym (length-take-le _ _ at_list.list.ensures.most)
 
 pub main_spec : {M : Type 1} → statement M
 main_spec =

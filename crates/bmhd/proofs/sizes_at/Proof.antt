@@ -6,7 +6,7 @@ use Rattle.bmhd.proofs.sizes_at.Tie as tie
 returns : tie.Need-returns
 returns c = rw (c.before.before.number16.ensures.0, c.before.number162.ensures.0, c.byte.ensures.0)
 
-pub sizes-at-spec : {M : Type 1} → statement M
-sizes-at-spec = tie.close (tie.spec
+pub sizes_at_spec : {M : Type 1} → statement M
+sizes_at_spec = tie.close (tie.spec
     (λ c κs. search rules) (λ c κs. search rules) (λ c κs. search rules)
     returns)

@@ -3,8 +3,8 @@ use mathlib.Core.Path.{refl, sym, ap, subst, ◌∙◌}
 use lib.ListN.{length-replicate}
 use Rattle.laws.proofs.ResultLaws.{told}
 use Rattle.laws.proofs.StoreLaws.{length_part}
-use Rattle.body.specs.Walk.{packetOf, Fits, took}
-use Rattle.body.proofs.WalkLaws.{took-is, puts-is, puts-fault, puts-empty, took-row, packet-counted}
+use Rattle.body.specs.Walk.{packet_of, Fits, took}
+use Rattle.body.proofs.WalkLaws.{took_is, puts_is, puts_fault, puts_empty, took_row, packet_counted}
 use native.Mathlib.Omega.{arith}
 use borrow.Author.Rules.{rules}
 use Rattle.body.proofs.take_packet.Statement.{statement}
@@ -15,42 +15,42 @@ draw-copy-requires c κs =
     let e = c.before.before.before.before.packet-at.ensures in
     let g = c.before.before.p2.given.1 in
     let f = subst (Fits _) g e.1 in
-    (omega (arith, (packet-counted _ _ _ (took-row (took-is _ (told (packetOf _) e.0 g) (length_part _ _ _ f)))).2), f)
+    (omega (arith, (packet_counted _ _ _ (took_row (took_is _ (told (packet_of _) e.0 g) (length_part _ _ _ f)))).2), f)
 
 draw-fill-requires : tie.Need-draw-fill-requires
 draw-fill-requires c κs =
     let e = c.before.before.before.before.packet-at.ensures in
     let g = c.before.before.p3.given in
-    omega (arith, (packet-counted _ _ _ (took-row (took-is g.0.1.0 (told (packetOf _) e.0 g.1) (length-replicate _ _)))).2)
+    omega (arith, (packet_counted _ _ _ (took_row (took_is g.0.1.0 (told (packet_of _) e.0 g.1) (length-replicate _ _)))).2)
 
 returns : tie.Need-returns
 returns c =
-    let k = told (packetOf _) c.before.before.packet-at.ensures.0 c.enum_told.given.1 in
-    (ap took (sym k), sym (puts-fault _ _ _ k))
+    let k = told (packet_of _) c.before.before.packet-at.ensures.0 c.enum_told.given.1 in
+    (ap took (sym k), sym (puts_fault _ _ _ k))
 
 returns-2 : tie.Need-returns-2
 returns-2 c =
-    let k = told (packetOf _) c.before.before.before.packet-at.ensures.0 c.before.p.given.1 in
-    (took-is 0 k refl, sym (puts-empty _ _ _ k refl))
+    let k = told (packet_of _) c.before.before.before.packet-at.ensures.0 c.before.p.given.1 in
+    (took_is 0 k refl, sym (puts_empty _ _ _ k refl))
 
 returns-3 : tie.Need-returns-3
 returns-3 c =
     let at_p = c.before.before.before.before.before in
-    let at-packet-at = at_p.before.before in
-    let e = at-packet-at.packet-at.ensures in
+    let at_packet_at = at_p.before.before in
+    let e = at_packet_at.packet-at.ensures in
     let g = at_p.p2.given.1 in
-    let k = told (packetOf _) e.0 g in
-    (took-is _ k (length_part _ _ _ (subst (Fits _) g e.1)), c.before.before.draw-copy.ensures ∙ sym (puts-is _ _ _ k))
+    let k = told (packet_of _) e.0 g in
+    (took_is _ k (length_part _ _ _ (subst (Fits _) g e.1)), c.before.before.draw-copy.ensures ∙ sym (puts_is _ _ _ k))
 
 returns-4 : tie.Need-returns-4
 returns-4 c =
     let at_p = c.before.before.before.before.before in
-    let at-packet-at = at_p.before.before in
-    let k = told (packetOf _) at-packet-at.packet-at.ensures.0 at_p.p3.given.1 in
-    (took-is _ k (length-replicate _ _), c.before.before.draw-fill.ensures ∙ sym (puts-is _ _ _ k))
+    let at_packet_at = at_p.before.before in
+    let k = told (packet_of _) at_packet_at.packet-at.ensures.0 at_p.p3.given.1 in
+    (took_is _ k (length-replicate _ _), c.before.before.draw-fill.ensures ∙ sym (puts_is _ _ _ k))
 
-pub take-packet-spec : {M : Type 1} → statement M
-take-packet-spec =
+pub take_packet_spec : {M : Type 1} → statement M
+take_packet_spec =
     tie.close
     (tie.spec
     (λ c κs. search rules) (λ c. search rules) (λ c. search rules) (λ c. search rules)

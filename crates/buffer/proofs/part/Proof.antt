@@ -21,8 +21,8 @@ returns-2 c =
 returns-3 : tie.Need-returns-3
 returns-3 c = simp add-sub_cancel_left
 
-pub part-spec : {M : Type 1} → statement M
-part-spec =
+pub part_spec : {M : Type 1} → statement M
+part_spec =
     tie.close
     (tie.spec
     (λ c. search rules)

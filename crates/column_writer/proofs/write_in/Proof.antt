@@ -1,7 +1,7 @@
 -- `column_writer::write_in`: the column's bytes are prepared, and put where they fit.
 use native.Mathlib.Omega.{arith}
-use Rattle.column_writer.proofs.FillLaws.{prepared-front, prepared-length, put-column}
-use Rattle.column_writer.proofs.PlaceLaws.{measured, no_room, is-written}
+use Rattle.column_writer.proofs.FillLaws.{prepared_front, prepared_length, put_column_lem}
+use Rattle.column_writer.proofs.PlaceLaws.{measured, no_room, is_written}
 use lib.ListN.{length-set}
 use borrow.Author.Rules.{rules}
 use Rattle.column_writer.proofs.write_in.Statement.{statement}
@@ -9,41 +9,41 @@ use Rattle.column_writer.proofs.write_in.Tie as tie
 
 returns : tie.Need-returns
 returns c =
-    let at-start = c.before.before.before.before.before.before.before.before.before in
-    no_room _ _ _ _ (measured _ _ at-start.requires.0 at-start.requires.1) (omega (arith, c.if1.true))
+    let at_start = c.before.before.before.before.before.before.before.before.before in
+    no_room _ _ _ _ (measured _ _ at_start.requires.0 at_start.requires.1) (omega (arith, c.if1.true))
 
 returns-2 : tie.Need-returns-2
 returns-2 c =
-    let at-prepare = c.before.before.before.before.before in
-    let at-start = at-prepare.before.before.before.before.before.before in
-    no_room _ _ _ _ (measured _ _ at-start.requires.0 at-start.requires.1) (omega (arith, c.if2.true, prepared-length at-prepare.prepare.ensures))
+    let at_prepare = c.before.before.before.before.before in
+    let at_start = at_prepare.before.before.before.before.before.before in
+    no_room _ _ _ _ (measured _ _ at_start.requires.0 at_start.requires.1) (omega (arith, c.if2.true, prepared_length at_prepare.prepare.ensures))
 
 part-copy-end : tie.Need-slice-bounds-copy-end
 part-copy-end c = rw length-set (omega (arith, c.before.before.before.before.if1.false, c.before.before.if2.false))
 
 slice-aggregate-copy : tie.Need-slice-aggregate-copy
 slice-aggregate-copy c =
-    let at-prepare = c.before.before.before.before.before.before.before.before.before in
-    prepared-front at-prepare.prepare.ensures
+    let at_prepare = c.before.before.before.before.before.before.before.before.before in
+    prepared_front at_prepare.prepare.ensures
 
 same-length-3 : tie.Need-same-length-3
 same-length-3 c =
-    let at-if = c.before.before.before.before.before.before.before in
-    let at-if-2 = at-if.before.before in
-    let at-prepare = at-if-2.before.before.before in
-    let at-start = at-prepare.before.before.before.before.before.before in
-    (put-column at-prepare.prepare.ensures at-start.args.out.now at-start.args.at _ (omega (arith, at-if-2.if1.false, at-if.if2.false)) c.before.before.copy.ensures).size
+    let at_if = c.before.before.before.before.before.before.before in
+    let at_if_2 = at_if.before.before in
+    let at_prepare = at_if_2.before.before.before in
+    let at_start = at_prepare.before.before.before.before.before.before in
+    (put_column_lem at_prepare.prepare.ensures at_start.args.out.now at_start.args.at _ (omega (arith, at_if_2.if1.false, at_if.if2.false)) c.before.before.copy.ensures).size
 
 returns-3 : tie.Need-returns-3
 returns-3 c =
-    let at-if = c.before.before.before.before.before.before.before in
-    let at-if-2 = at-if.before.before in
-    let at-prepare = at-if-2.before.before.before in
-    let at-start = at-prepare.before.before.before.before.before.before in
-    is-written _ _ _ _ at-start.requires.0 at-start.requires.1 (omega (arith, at-if-2.if1.false, at-if.if2.false, prepared-length at-prepare.prepare.ensures)) (put-column at-prepare.prepare.ensures at-start.args.out.now at-start.args.at _ (omega (arith, at-if-2.if1.false, at-if.if2.false)) c.before.before.copy.ensures)
+    let at_if = c.before.before.before.before.before.before.before in
+    let at_if_2 = at_if.before.before in
+    let at_prepare = at_if_2.before.before.before in
+    let at_start = at_prepare.before.before.before.before.before.before in
+    is_written _ _ _ _ at_start.requires.0 at_start.requires.1 (omega (arith, at_if_2.if1.false, at_if.if2.false, prepared_length at_prepare.prepare.ensures)) (put_column_lem at_prepare.prepare.ensures at_start.args.out.now at_start.args.at _ (omega (arith, at_if_2.if1.false, at_if.if2.false)) c.before.before.copy.ensures)
 
-pub write-in-spec : {M : Type 1} → statement M
-write-in-spec =
+pub write_in_spec : {M : Type 1} → statement M
+write_in_spec =
     tie.close
     (tie.spec
     (λ c κs. search rules) (λ c. search rules)

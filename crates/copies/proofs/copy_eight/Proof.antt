@@ -2,7 +2,7 @@
 use native.Mathlib.Omega.{arith}
 use mathlib.Core.Path.{refl}
 use lib.ListN.{length-set}
-use Rattle.laws.proofs.StoreLaws.{stored-eight}
+use Rattle.laws.proofs.StoreLaws.{stored_eight}
 use borrow.Author.Rules.{rules}
 use Rattle.copies.proofs.copy_eight.Statement.{statement}
 use Rattle.copies.proofs.copy_eight.Tie as tie
@@ -34,10 +34,10 @@ same_length c = simp length-set refl
 returns : tie.Need-returns
 returns c =
     let start = c.before.before.before.before.before.before.before.before in
-    stored-eight _ _ _ start.requires.1
+    stored_eight _ _ _ start.requires.1
 
-pub copy-eight-spec : {M : Type 1} → statement M
-copy-eight-spec =
+pub copy_eight_spec : {M : Type 1} → statement M
+copy_eight_spec =
     tie.close
     (tie.spec
     (λ c. search rules) (λ c. search rules) (λ c. search rules) (λ c. search rules) (λ c. search rules)

@@ -10,8 +10,8 @@ mul-t6 c = let h = rw (← c.row-bytes.ensures) at c.before.requires in omega ar
 returns : tie.Need-returns
 returns c = rw (← c.row-bytes.ensures)
 
-pub column-shape-spec : {M : Type 1} → statement M
-column-shape-spec = tie.close (tie.spec
+pub column_shape_spec : {M : Type 1} → statement M
+column_shape_spec = tie.close (tie.spec
     (λ c κs. search rules)
     mul-t6
     returns)

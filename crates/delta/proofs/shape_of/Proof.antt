@@ -18,8 +18,8 @@ returns-4 c = rw c.before.enum-told4.given.1 c.word-shape.ensures
 returns-5 : tie.Need-returns-5
 returns-5 c = rw c.before.enum-told5.given.1 c.word-shape2.ensures
 
-pub shape-of-spec : {M : Type 1} → statement M
-shape-of-spec =
+pub shape_of_spec : {M : Type 1} → statement M
+shape_of_spec =
     tie.close
     (tie.spec
     (λ c. search rules) (λ c κs. search rules) (λ c. search rules) (λ c κs. search rules) (λ c. search rules)

@@ -13,8 +13,8 @@ div-height c = c.before.before.requires.1
 returns : tie.Need-returns
 returns c = rw (← c.before.row-bytes.ensures)
 
-pub word-shape-spec : {M : Type 1} → statement M
-word-shape-spec = tie.close (tie.spec
+pub word_shape_spec : {M : Type 1} → statement M
+word_shape_spec = tie.close (tie.spec
     (λ c κs. search rules)
     mul-plane
     div-height

@@ -12,8 +12,8 @@ returns-2 c = rw c.enum_told.given.1
 returns-3 : tie.Need-returns-3
 returns-3 c = rw c.enum-told2.given.1
 
-pub or-empty-spec : {M : Type 1} → statement M
-or-empty-spec =
+pub or_empty_spec : {M : Type 1} → statement M
+or_empty_spec =
     tie.close (tie.spec
     (λ c. search rules) (λ c. search rules) (λ c. search rules)
     returns

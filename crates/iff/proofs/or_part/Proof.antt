@@ -16,8 +16,8 @@ returns-3 c = simp (eq-eqb _ _ c.before.before.if1.false, c.enum-told2.given.1)
 returns-4 : tie.Need-returns-4
 returns-4 c = simp (eq-eqb _ _ c.before.before.if1.false, c.enum-told3.given.1)
 
-pub or-part-spec : {M : Type 1} → statement M
-or-part-spec =
+pub or_part_spec : {M : Type 1} → statement M
+or_part_spec =
     tie.close (tie.spec
     returns
     (λ c. search rules) (λ c. search rules) (λ c. search rules)

@@ -6,11 +6,11 @@ use Rattle.lines.proofs.put_last.Tie as tie
 
 returns : tie.Need-returns
 returns c =
-    let at-put-field = c.before.before.before.before.before.before in
-    adds_then at-put-field.put-field.ensures c.before.before.put_byte.ensures
+    let at_put_field = c.before.before.before.before.before.before in
+    adds_then at_put_field.put-field.ensures c.before.before.put_byte.ensures
 
-pub put-last-spec : {M : Type 1} → statement M
-put-last-spec =
+pub put_last_spec : {M : Type 1} → statement M
+put_last_spec =
     tie.close
     (tie.spec
     (λ c κs. search rules) (λ c κs. search rules) (λ c. search rules)

@@ -1,48 +1,48 @@
 -- `lines::put_line`: a place past the end, then the line by its case.
-use Rattle.lines.specs.Lines.{endLine, refusedLine}
-use Rattle.lines.proofs.TextLaws.{adds-within, adds-past}
+use Rattle.lines.specs.Lines.{end_line, refused_line}
+use Rattle.lines.proofs.TextLaws.{adds_within, adds_past}
 use borrow.Author.Rules.{rules}
 use Rattle.lines.proofs.put_line.Statement.{statement}
 use Rattle.lines.proofs.put_line.Tie as tie
 
 returns : tie.Need-returns
-returns c = adds-past _ c.if1.true
+returns c = adds_past _ c.if1.true
 
 returns-2 : tie.Need-returns-2
 returns-2 c =
-    let at-enum-told = c.before.before.before.before.before in
-    let at-if = at-enum-told.before.before in
-    rw at-enum-told.enum_told.given.1 (adds-within at-if.if1.false c.before.before.put-text.ensures)
+    let at_enum_told = c.before.before.before.before.before in
+    let at_if = at_enum_told.before.before in
+    rw at_enum_told.enum_told.given.1 (adds_within at_if.if1.false c.before.before.put-text.ensures)
 
 returns-3 : tie.Need-returns-3
 returns-3 c =
-    let at-line = c.before.before.before.before.before in
-    let at-if = at-line.before.before in
-    rw at-line.line.given.1 (adds-within at-if.if1.false c.before.before.put-picture.ensures)
+    let at_line = c.before.before.before.before.before in
+    let at_if = at_line.before.before in
+    rw at_line.line.given.1 (adds_within at_if.if1.false c.before.before.put-picture.ensures)
 
 returns-4 : tie.Need-returns-4
 returns-4 c =
-    let at-line = c.before.before.before.before.before in
-    let at-if = at-line.before.before in
-    rw at-line.line2.given.1 (adds-within at-if.if1.false c.before.before.put-frame.ensures)
+    let at_line = c.before.before.before.before.before in
+    let at_if = at_line.before.before in
+    rw at_line.line2.given.1 (adds_within at_if.if1.false c.before.before.put-frame.ensures)
 
 returns-5 : tie.Need-returns-5
-unfolding endLine
+unfolding end_line
 returns-5 c =
-    let at-line = c.before.before.before.before.before.before in
-    let at-if = at-line.before.before in
-    rw at-line.line3.given.1 (adds-within at-if.if1.false c.before.before.put_last.ensures)
+    let at_line = c.before.before.before.before.before.before in
+    let at_if = at_line.before.before in
+    rw at_line.line3.given.1 (adds_within at_if.if1.false c.before.before.put_last.ensures)
 
 returns-6 : tie.Need-returns-6
-unfolding refusedLine
+unfolding refused_line
 returns-6 c =
-    let at-number = c.before.before.before.before.before in
-    let at-line = at-number.before.before in
-    let at-if = at-line.before.before in
-    rw at-line.line4.given.1 (adds-within at-if.if1.false (rw at-number.number.ensures at c.before.before.put-last2.ensures))
+    let at_number = c.before.before.before.before.before in
+    let at_line = at_number.before.before in
+    let at_if = at_line.before.before in
+    rw at_line.line4.given.1 (adds_within at_if.if1.false (rw at_number.number.ensures at c.before.before.put-last2.ensures))
 
-pub put-line-spec : {M : Type 1} → statement M
-put-line-spec =
+pub put_line_spec : {M : Type 1} → statement M
+put_line_spec =
     tie.close
     (tie.spec
     returns

@@ -1,7 +1,7 @@
 -- `listing::list_file`: the file's plan, then its line or its frames.
 use Rattle.laws.proofs.ResultLaws.{told}
 use Rattle.listing.specs.Listing.{plan_of}
-use Rattle.listing.proofs.FileLaws.{lists-single, lists-pictures, pictures-fit, holds-less}
+use Rattle.listing.proofs.FileLaws.{lists_single, lists_pictures, pictures_fit, holds_less}
 use borrow.Author.Rules.{rules}
 use Rattle.listing.proofs.list_file.Statement.{statement}
 use Rattle.listing.proofs.list_file.Tie as tie
@@ -9,9 +9,9 @@ use Rattle.listing.proofs.list_file.Tie as tie
 list-front-requires : tie.Need-list-front-requires
 list-front-requires c κs =
     let at_p = c.before.before.before.before.before.before.before in
-    let at-plan-for = at_p.before.before in
-    let at-start = at-plan-for.before.before.before.before.before.before.before.before in
-    holds-less (pictures-fit _ (told plan_of at-plan-for.plan-for.ensures at_p.p2.given.1)) at-start.requires
+    let at_plan_for = at_p.before.before in
+    let at_start = at_plan_for.before.before.before.before.before.before.before.before in
+    holds_less (pictures_fit _ (told plan_of at_plan_for.plan-for.ensures at_p.p2.given.1)) at_start.requires
 
 same_length : tie.Need-same-length
 same_length c = c.before.before.put-line.auto.0
@@ -19,8 +19,8 @@ same_length c = c.before.before.put-line.auto.0
 returns : tie.Need-returns
 returns c =
     let at_p = c.before.before.before.before.before in
-    let at-plan-for = at_p.before.before in
-    lists-single _ _ (told plan_of at-plan-for.plan-for.ensures at_p.p.given.1) c.before.before.put-line.ensures
+    let at_plan_for = at_p.before.before in
+    lists_single _ _ (told plan_of at_plan_for.plan-for.ensures at_p.p.given.1) c.before.before.put-line.ensures
 
 -- where the frames were listed
 abbrev listed : tie.After-slice-known13 → tie.After-list-front
@@ -47,11 +47,11 @@ same-length-7 c = (listed c).list-front.auto.1.1.1.1.1.1.1.0
 returns-2 : tie.Need-returns-2
 returns-2 c =
     let at_p = (listed c).before.before.before.before.before.before.before.before in
-    let at-plan-for = at_p.before.before in
-    lists-pictures _ _ (told plan_of at-plan-for.plan-for.ensures at_p.p2.given.1) (listed c).list-front.ensures
+    let at_plan_for = at_p.before.before in
+    lists_pictures _ _ (told plan_of at_plan_for.plan-for.ensures at_p.p2.given.1) (listed c).list-front.ensures
 
-pub list-file-spec : {M : Type 1} → statement M
-list-file-spec =
+pub list_file_spec : {M : Type 1} → statement M
+list_file_spec =
     tie.close
     (tie.spec
     (λ c κs. search rules) (λ c. search rules) (λ c κs. search rules) (λ c. search rules)

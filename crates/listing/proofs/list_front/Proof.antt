@@ -1,6 +1,6 @@
 -- `listing::list_front`: the front parts of the buffers are listed into, and the bytes behind them stay.
 use lib.Seq.{length-take-le, length_front}
-use Rattle.listing.proofs.FileLaws.{lists-front}
+use Rattle.listing.proofs.FileLaws.{lists_front}
 use mathlib.Core.Path.{sym}
 use borrow.Author.Rules.{rules}
 use Rattle.listing.proofs.list_front.Statement.{statement}
@@ -72,10 +72,10 @@ returns : tie.Need-returns
 returns c =
     let t = listed c in
     let k = (start t).args in
-    lists-front k.file.now (record { a = k.a.now; b = k.b.now; map = k.map.now; work = k.work.now; rec = k.rec.now }) {n = k.n} (start t).pre t.list-film.ensures
+    lists_front k.file.now (record { a = k.a.now; b = k.b.now; map = k.map.now; work = k.work.now; rec = k.rec.now }) {n = k.n} (start t).pre t.list-film.ensures
 
-pub list-front-spec : {M : Type 1} → statement M
-list-front-spec =
+pub list_front_spec : {M : Type 1} → statement M
+list_front_spec =
     tie.close
     (tie.spec
     slice-relend-prefix-list-film

@@ -18,5 +18,5 @@ returns-4 c = simp (le-leb _ _ c.before.before.before.if1.false, le-leb _ _ c.be
 returns-5 : tie.Need-returns-5
 returns-5 c = simp (le-leb _ _ c.before.before.before.if1.false, le-leb _ _ c.before.before.if2.false, le-leb _ _ c.before.if3.false, le-leb _ _ c.if4.false)
 
-pub long-enough-spec : {M : Type 1} → statement M
-long-enough-spec = tie.close (tie.spec returns returns-2 returns-3 returns-4 returns-5)
+pub long_enough_spec : {M : Type 1} → statement M
+long_enough_spec = tie.close (tie.spec returns returns-2 returns-3 returns-4 returns-5)

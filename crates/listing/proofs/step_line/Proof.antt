@@ -13,8 +13,8 @@ returns-2 c = rw c.enum_told.given.1 refl
 returns-3 : tie.Need-returns-3
 returns-3 c = rw c.before.answer2.given.1 refl
 
-pub step-line-spec : {M : Type 1} → statement M
-step-line-spec =
+pub step_line_spec : {M : Type 1} → statement M
+step_line_spec =
     tie.close
     (tie.spec
     (λ c. search rules) (λ c. search rules) (λ c. search rules)

@@ -7,16 +7,16 @@ use Rattle.listing_vectors.proofs.show.Tie as tie
 
 array-share-prefix-out : tie.Need-array-share-prefix-out
 array-share-prefix-out c =
-    let at-list = c.before.before.before.before.before.before in
-    at-list.list.ensures.most
+    let at_list = c.before.before.before.before.before.before in
+    at_list.list.ensures.most
 
 slice-aggregate-write-all : tie.Need-slice-aggregate-write-all
 slice-aggregate-write-all c =
-    let at-list = c.before.before.before.before.before.before.before in
-    sym (length-take-le _ _ at-list.list.ensures.most)
+    let at_list = c.before.before.before.before.before.before.before in
+    sym (length-take-le _ _ at_list.list.ensures.most)
 
-pub show-spec : {M : Type 1} → statement M
-show-spec =
+pub show_spec : {M : Type 1} → statement M
+show_spec =
     tie.close
     (tie.spec
     (λ c. search rules) (λ c κs. search rules) (λ c. search rules) (λ c. search rules) (λ c. search rules)

@@ -6,23 +6,23 @@ use mathlib.Core.Logic.{inr}
 use mathlib.Core.Path.{◌≡◌, refl, sym, ◌∙◌}
 use lib.ListN.{length, get_or, drop, drop_of_length-le}
 use lib.Seq.{drop-cons}
-use Rattle.number.specs.Number.{readNumber, ReadAt}
+use Rattle.number.specs.Number.{read_number, ReadAt}
 use Rattle.number.specs.declared.Parsed.TheVariants.{Number, Malformed}
-use Rattle.number.proofs.GroupLaws.{groups-end, groups-last, last_ok}
+use Rattle.number.proofs.GroupLaws.{groups_end, groups_last, last_ok}
 use borrow.Author.Rules.{rules}
 use native.Mathlib.Omega.{arith}
 use Rattle.number.proofs.read.Statement.{statement}
 use Rattle.number.proofs.read.Tie as tie
 
 past_end : (s : List ℕ) (at : ℕ) → length s ≤ at → ReadAt s at Malformed
-unfolding readNumber
-past_end s at h = record { is = rw (drop_of_length-le s {i = at} h) (sym (groups-end 5 1 0)); within = tt }
+unfolding read_number
+past_end s at h = record { is = rw (drop_of_length-le s {i = at} h) (sym (groups_end 5 1 0)); within = tt }
 
 one_byte : (s : List ℕ) (at : ℕ) → at < length s → get_or s at 0 < 128 → ReadAt s at (Number (get_or s at 0) (at + 1))
-unfolding readNumber
+unfolding read_number
 one_byte s at h l =
     let b : 0 + 1 * get_or s at 0 ≡ get_or s at 0 = omega arith in
-    let e = groups-last 4 1 0 (get_or s at 0) (drop (suc at) s) l ∙ last_ok 1 0 (get_or s at 0) (drop (suc at) s) (inr refl) (omega arith) in
+    let e = groups_last 4 1 0 (get_or s at 0) (drop (suc at) s) l ∙ last_ok 1 0 (get_or s at 0) (drop (suc at) s) (inr refl) (omega arith) in
     record { is = rw (add-one at, drop-cons s at 0 h) (sym (rw b at e)); within = omega arith }
 
 returns : tie.Need-returns

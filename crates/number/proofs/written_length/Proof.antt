@@ -20,5 +20,5 @@ returns-4 c = sym (length_more 2 _ (omega arith) c.before.if3.false c.if4.true)
 returns-5 : tie.Need-returns-5
 returns-5 c = sym (length_more 3 _ (omega arith) c.if4.false (omega arith))
 
-pub written-length-spec : {M : Type 1} → statement M
-written-length-spec = tie.close (tie.spec returns returns-2 returns-3 returns-4 returns-5)
+pub written_length_spec : {M : Type 1} → statement M
+written_length_spec = tie.close (tie.spec returns returns-2 returns-3 returns-4 returns-5)

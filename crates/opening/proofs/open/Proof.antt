@@ -4,19 +4,19 @@ use native.Mathlib.Omega.{arith}
 use mathlib.Core.Path.{refl}
 use Rattle.laws.proofs.ResultLaws.{told}
 use Rattle.opening.specs.Parts.{places_of}
-use Rattle.opening.proofs.OpenLaws.{chunks-inside, opens-nowhere, opens_at}
+use Rattle.opening.proofs.OpenLaws.{chunks_inside, opens_nowhere, opens_at}
 use borrow.Author.Rules.{rules}
 use Rattle.opening.proofs.open.Statement.{statement}
 use Rattle.opening.proofs.open.Tie as tie
 
 add-stop : tie.Need-overflow-add-stop
-add-stop c = omega (arith, chunks-inside _ (told places_of c.before.before.before.first-places.ensures c.before.p2.given.1))
+add-stop c = omega (arith, chunks_inside _ (told places_of c.before.before.before.first-places.ensures c.before.p2.given.1))
 
 part-open-picture-end : tie.Need-slice-bounds-open-picture-end
-part-open-picture-end c = omega (arith, chunks-inside _ (told places_of c.before.before.before.first-places.ensures c.before.p2.given.1))
+part-open-picture-end c = omega (arith, chunks_inside _ (told places_of c.before.before.before.first-places.ensures c.before.p2.given.1))
 
 returns : tie.Need-returns
-returns c = opens-nowhere _ _ _ _ (told places_of c.before.before.before.before.first-places.ensures c.before.before.p.given.1) c.refused.ensures
+returns c = opens_nowhere _ _ _ _ (told places_of c.before.before.before.before.first-places.ensures c.before.before.p.given.1) c.refused.ensures
 
 returns-2 : tie.Need-returns-2
 returns-2 c =

@@ -6,7 +6,7 @@ use Rattle.opening.proofs.refused.Tie as tie
 returns : tie.Need-returns
 returns c = rw c.zeros.ensures
 
-pub refused-spec : {M : Type 1} → statement M
-refused-spec = tie.close (tie.spec
+pub refused_spec : {M : Type 1} → statement M
+refused_spec = tie.close (tie.spec
     (λ c κs. search rules)
     returns)

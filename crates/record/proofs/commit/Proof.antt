@@ -5,15 +5,15 @@ use mathlib.Core.Bool.{true, false, not}
 use mathlib.Core.Path.{◌≡◌, sym, ◌∙◌}
 use lib.ListN.{length}
 use borrow.Author.Tests.{leb-true, leb-false, not-true, not-false}
-use Rattle.number.proofs.NumberLaws.{write-length}
-use Rattle.changes.proofs.CountLaws.{changed-counted}
+use Rattle.number.proofs.NumberLaws.{write_length}
+use Rattle.changes.proofs.CountLaws.{changed_counted}
 use Rattle.colours.specs.Colours.{coloured}
-use Rattle.runs.specs.Runs.{runsOf}
-use Rattle.record.specs.RunList.{runsBytes}
-use Rattle.record.specs.Record.{recordBytes}
+use Rattle.runs.specs.Runs.{runs_of}
+use Rattle.record.specs.RunList.{runs_bytes}
+use Rattle.record.specs.Record.{record_bytes}
 use Rattle.record.specs.Walk.{Counted, Laid}
-use Rattle.record.proofs.RecordLaws.{counted, head-length, two-lengths, too_long, no-map, no_room, is-written}
-use Rattle.record.proofs.MapLaws.{laid-fits, laid-over}
+use Rattle.record.proofs.RecordLaws.{counted, head_length, two_lengths, too_long, no_map, no_room, is_written}
+use Rattle.record.proofs.MapLaws.{laid_fits, laid_over}
 use borrow.Author.Rules.{rules}
 use Rattle.record.proofs.commit.Statement.{statement}
 use Rattle.record.proofs.commit.Tie as tie
@@ -21,13 +21,13 @@ use Rattle.record.proofs.commit.Tie as tie
 -- where the pictures are counted, and where the call begins
 abbrev begin : tie.After-count → tie.Start
 begin c =
-    let at-node = c.before.before.before.before.before.before.before.before.before.before.before in
-    at-node
+    let at_node = c.before.before.before.before.before.before.before.before.before.before.before in
+    at_node
 
 abbrev counting : tie.After-runs-fit → tie.After-count
 counting c =
-    let at-node = c.before.before.before.before.before.before.before.before.before in
-    at-node
+    let at_node = c.before.before.before.before.before.before.before.before.before in
+    at_node
 
 module _ (c : tie.After-count) where
   -- the pictures with the number of their runs
@@ -36,17 +36,17 @@ module _ (c : tie.After-count) where
 
   -- the part of the CMAP that lies on the map
   laid : Laid (begin c).args.map.now c.before.before.part.result.now
-  laid = laid-fits (begin c).args.map.now (begin c).args.cmap.now c.before.before.before.if3.false c.before.before.part.ensures
+  laid = laid_fits (begin c).args.map.now (begin c).args.cmap.now c.before.before.before.if3.false c.before.before.part.ensures
 
   over : coloured (begin c).args.map.now c.before.before.part.result.now ≡ coloured (begin c).args.map.now (begin c).args.cmap.now
-  over = laid-over (begin c).args.map.now (begin c).args.cmap.now c.before.before.before.if3.false c.before.before.part.ensures
+  over = laid_over (begin c).args.map.now (begin c).args.cmap.now c.before.before.before.if3.false c.before.before.part.ensures
 
 -- how long the runs and the whole record are
 abbrev bytes : tie.Start → ℕ
-bytes b = length (runsBytes (runsOf b.args.old.now b.args.new.now))
+bytes b = length (runs_bytes (runs_of b.args.old.now b.args.new.now))
 
 abbrev whole : tie.Start → ℕ
-whole b = length (recordBytes b.args.frame b.args.place b.args.old.now b.args.new.now b.args.map.now (coloured b.args.map.now b.args.cmap.now))
+whole b = length (record_bytes b.args.frame b.args.place b.args.old.now b.args.new.now b.args.map.now (coloured b.args.map.now b.args.cmap.now))
 
 -- what stands around the runs
 abbrev around : tie.After-map-length → ℕ
@@ -60,7 +60,7 @@ head c =
     let n = c.before.before in
     let k = n.before.before.before.before in
     let b = begin k in
-    omega (arith, head-length b.args.frame b.args.place b.args.old.now b.args.new.now b.args.map.now (coloured b.args.map.now b.args.cmap.now) (pictures k), n.before.before.before.written-length.ensures, n.before.before.written-length2.ensures, n.written-length3.ensures, rw (over k) at c.map-length.ensures.0)
+    omega (arith, head_length b.args.frame b.args.place b.args.old.now b.args.new.now b.args.map.now (coloured b.args.map.now b.args.cmap.now) (pictures k), n.before.before.before.written-length.ensures, n.before.before.written-length2.ensures, n.written-length3.ensures, rw (over k) at c.map-length.ensures.0)
 
 -- what the answer of `runs_fit` tells of the whole record
 module _ (c : tie.After-runs-fit) where
@@ -74,16 +74,16 @@ module _ (c : tie.After-runs-fit) where
   fits t = let h : bytes (begin (counting c)) ≤ room = leb-true _ room (sym c.Runs-Fit.ensures ∙ not-false _ t) in omega (arith, head c.before.before.before, h)
 
 returns : tie.Need-returns
-returns c = two-lengths _ _ _ _ _ _ _ c.if1.true
+returns c = two_lengths _ _ _ _ _ _ _ c.if1.true
 
 returns-2 : tie.Need-returns-2
 returns-2 c = too_long _ _ _ _ _ _ _ c.before.if1.false c.if2.true
 
 returns-3 : tie.Need-returns-3
-returns-3 c = no-map _ _ _ _ _ _ _ c.before.before.if1.false c.before.if2.false c.if3.true
+returns-3 c = no_map _ _ _ _ _ _ _ c.before.before.if1.false c.before.if2.false c.if3.true
 
 add-head : tie.Need-overflow-add-head
-add-head c = let b = begin c.before.before in omega (arith, write-length b.args.frame (omega arith), write-length b.args.place (omega arith))
+add-head c = let b = begin c.before.before in omega (arith, write_length b.args.frame (omega arith), write_length b.args.place (omega arith))
 
 cast-written-length : tie.Need-overflow-cast-written-length
 cast-written-length c = let k = pictures c.before.before.before in omega (arith, k.few, k.short)
@@ -94,7 +94,7 @@ numbers c =
     let k = c.before.before.before.before in
     let p = pictures k in
     let b = begin k in
-    omega (arith, write-length b.args.frame (omega arith), write-length b.args.place (omega arith), write-length k.count.result.runs (omega (arith, p.few, p.short)), c.before.before.before.written-length.ensures, c.before.before.written-length2.ensures, c.written-length3.ensures)
+    omega (arith, write_length b.args.frame (omega arith), write_length b.args.place (omega arith), write_length k.count.result.runs (omega (arith, p.few, p.short)), c.before.before.before.written-length.ensures, c.before.before.written-length2.ensures, c.written-length3.ensures)
 
 add-head-2 : tie.Need-overflow-add-head-2
 add-head-2 c = omega (arith, numbers c)
@@ -129,11 +129,11 @@ returns-6 c =
     let k = counting f in
     let t = k.before.before.before in
     let p = rw (over k) at put.put_record.ensures in
-    is-written _ _ _ _ _ _ _ t.before.before.if1.left t.before.if2.left t.if3.left _ _ _ _ _ (fits f put.before.before.before.before.if5.false)
-    (changed-counted _ _ t.before.before.if1.left k.count.ensures) p.0 p.1 p.2
+    is_written _ _ _ _ _ _ _ t.before.before.if1.left t.before.if2.left t.if3.left _ _ _ _ _ (fits f put.before.before.before.before.if5.false)
+    (changed_counted _ _ t.before.before.if1.left k.count.ensures) p.0 p.1 p.2
 
-pub commit-spec : {M : Type 1} → statement M
-commit-spec =
+pub commit_spec : {M : Type 1} → statement M
+commit_spec =
     tie.close
     (tie.spec
     returns

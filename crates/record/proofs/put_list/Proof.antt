@@ -12,7 +12,7 @@ put-runs-requires : tie.Need-put-runs-requires
 put-runs-requires c κs =
     let first = c.before.before.before.before in
     let p = first.before.before.before.before.before.requires in
-    (p.0.one-length, p.0.short, omega (arith, list_length p.0))
+    (p.0.one_length, p.0.short, omega (arith, list_length p.0))
 
 returns : tie.Need-returns
 returns c =
@@ -21,8 +21,8 @@ returns c =
     let p = first.before.before.before.before.before.requires in
     (list_put p.0 first.put-number.ensures runs.put-runs.ensures.0, runs.put-runs.ensures.1)
 
-pub put-list-spec : {M : Type 1} → statement M
-put-list-spec =
+pub put_list_spec : {M : Type 1} → statement M
+put_list_spec =
     tie.close
     (tie.spec
     (λ c. search rules)

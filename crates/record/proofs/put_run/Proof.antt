@@ -1,6 +1,6 @@
 -- `record::put_run`: the gap, the count and the old bytes are put one after the other.
 use native.Mathlib.Omega.{arith}
-use Rattle.record.proofs.RunLaws.{run-put}
+use Rattle.record.proofs.RunLaws.{run_put}
 use borrow.Author.Rules.{rules}
 use Rattle.record.proofs.put_run.Statement.{statement}
 use Rattle.record.proofs.put_run.Tie as tie
@@ -17,10 +17,10 @@ returns c =
     let second = c.before.before.before.before.before.before in
     let first = second.before.before.before.before in
     let start = first.before.before.before.before in
-    run-put start.args.gap start.args.start start.args.count _ start.requires.2 first.put-number.ensures second.put-number2.ensures c.before.before.replace.ensures
+    run_put start.args.gap start.args.start start.args.count _ start.requires.2 first.put-number.ensures second.put-number2.ensures c.before.before.replace.ensures
 
-pub put-run-spec : {M : Type 1} → statement M
-put-run-spec =
+pub put_run_spec : {M : Type 1} → statement M
+put_run_spec =
     tie.close
     (tie.spec
     (λ c. search rules) (λ c κs. search rules) (λ c. search rules) (λ c κs. search rules)

@@ -1,6 +1,6 @@
 -- `record::replace`: the part that is lent to the copy has the length of what is copied.
 use borrow.Author.Tests.{not-true, not-false}
-use Rattle.laws.proofs.StoreLaws.{lent-copy}
+use Rattle.laws.proofs.StoreLaws.{lent_copy}
 use borrow.Author.Rules.{rules}
 use Rattle.record.proofs.replace.Statement.{statement}
 use Rattle.record.proofs.replace.Tie as tie
@@ -12,13 +12,13 @@ returns-2 : tie.Need-returns-2
 returns-2 c =
     let tests = c.before.before.before.before.before.before in
     let a = tests.before.before.before in
-    simp (not-false a.args.wanted tests.if1.false) (lent-copy _ _ _ _ _ _ a.requires.0 a.requires.1 c.before.before.copy.ensures)
+    simp (not-false a.args.wanted tests.if1.false) (lent_copy _ _ _ _ _ _ a.requires.0 a.requires.1 c.before.before.copy.ensures)
 
 returns-3 : tie.Need-returns-3
 returns-3 c =
     let tests = c.before.before.before.before.before.before in
     let a = tests.before.before.before in
-    simp (not-false a.args.wanted tests.if1.false) (lent-copy _ _ _ _ _ _ a.requires.0 a.requires.1 c.before.before.copy-long.ensures)
+    simp (not-false a.args.wanted tests.if1.false) (lent_copy _ _ _ _ _ _ a.requires.0 a.requires.1 c.before.before.copy-long.ensures)
 
 pub replace_spec : {M : Type 1} → statement M
 replace_spec =

@@ -1,7 +1,7 @@
 -- `restore::check_lists`: the first list, the second list, and then the end of the record.
 use mathlib.Core.Path.{refl, subst}
 use Rattle.restore.specs.Walk.{Took}
-use Rattle.restore.proofs.RestoreLaws.{bad-first, bad-second, left_over, good-lists}
+use Rattle.restore.proofs.RestoreLaws.{bad_first, bad_second, left_over, good_lists}
 use borrow.Author.Rules.{rules}
 use Rattle.restore.proofs.check_lists.Statement.{statement}
 use Rattle.restore.proofs.check_lists.Tie as tie
@@ -26,7 +26,7 @@ returns-2 c =
     let t = c.before.before.before.before in
     let a = (begin t).args in
     let w = subst (Took _ _ _ _ _) c.enum_told.given.1 t.take-list.ensures in
-    (bad-first a.bytes.now a.shown.now a.map.now a.list w, w.kept refl, refl)
+    (bad_first a.bytes.now a.shown.now a.map.now a.list w, w.kept refl, refl)
 
 returns-3 : tie.Need-returns-3
 returns-3 c =
@@ -34,7 +34,7 @@ returns-3 c =
     let a = (begin (first t)).args in
     let w = subst (Took _ _ _ _ _) t.before.before.before.p.given.1 (first t).take-list.ensures in
     let m = subst (Took _ _ _ _ _) c.enum-told2.given.1 t.take-list2.ensures in
-    (bad-second a.bytes.now a.shown.now a.map.now a.list t.before.before.before.p.given.0.0 w m, w.left, m.kept refl)
+    (bad_second a.bytes.now a.shown.now a.map.now a.list t.before.before.before.p.given.0.0 w m, w.left, m.kept refl)
 
 returns-4 : tie.Need-returns-4
 returns-4 c =
@@ -42,10 +42,10 @@ returns-4 c =
     let a = (begin (first t)).args in
     let w = subst (Took _ _ _ _ _) t.before.before.before.p.given.1 (first t).take-list.ensures in
     let m = subst (Took _ _ _ _ _) c.before.before.m.given.1 t.take-list2.ensures in
-    (good-lists a.bytes.now a.shown.now a.map.now a.list t.before.before.before.p.given.0.0 w m c.if1.false, w.left, m.left)
+    (good_lists a.bytes.now a.shown.now a.map.now a.list t.before.before.before.p.given.0.0 w m c.if1.false, w.left, m.left)
 
-pub check-lists-spec : {M : Type 1} → statement M
-check-lists-spec =
+pub check_lists_spec : {M : Type 1} → statement M
+check_lists_spec =
     tie.close
     (tie.spec
     (λ c κs. search rules) (λ c. search rules) (λ c. search rules) (λ c κs. search rules) (λ c. search rules)

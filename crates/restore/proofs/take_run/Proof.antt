@@ -11,8 +11,8 @@ returns c =
 returns-2 : tie.Need-returns-2
 returns-2 c = let t = c.before.before.if1.false in record { is = simp t c.differs.ensures; left = simp t }
 
-pub take-run-spec : {M : Type 1} → statement M
-take-run-spec =
+pub take_run_spec : {M : Type 1} → statement M
+take_run_spec =
     tie.close
     (tie.spec
     (λ c κs. search rules) (λ c. search rules)

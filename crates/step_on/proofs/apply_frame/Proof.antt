@@ -8,15 +8,15 @@ use Rattle.step_on.proofs.apply_frame.Tie as tie
 returns : tie.Need-returns
 returns c =
     let i = c.before.before.before.before in
-    let at-start = i.before.before.before.before.before.before in
-    let k : at-start.args.header.interleave ≡ 1 = i.if1.true in
+    let at_start = i.before.before.before.before.before.before in
+    let k : at_start.args.header.interleave ≡ 1 = i.if1.true in
     rw (eq-eqb _ _ k) c.before.before.apply.ensures
 
 returns-2 : tie.Need-returns-2
 returns-2 c = rw (ne_eqb _ _ c.before.before.before.before.if1.false) c.before.before.apply2.ensures
 
-pub apply-frame-spec : {M : Type 1} → statement M
-apply-frame-spec =
+pub apply_frame_spec : {M : Type 1} → statement M
+apply_frame_spec =
     tie.close
     (tie.spec
     (λ c κs. search rules) (λ c. search rules)

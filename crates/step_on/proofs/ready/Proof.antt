@@ -33,8 +33,8 @@ returns-5 c =
     let l = c.before.before.before.before.before.before in
     simp (le-leb _ _ l.before.if1.false, told length_of l.step-length.ensures c.before.before.before.before.l2.given.1, eq-eqb _ _ c.before.before.if2.false, lt-ltb _ _ c.if3.false)
 
-pub ready-spec : {M : Type 1} → statement M
-ready-spec =
+pub ready_spec : {M : Type 1} → statement M
+ready_spec =
     tie.close
     (tie.spec
     returns

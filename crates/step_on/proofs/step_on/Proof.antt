@@ -1,5 +1,5 @@
 -- `step_on::step_on`: what lies ahead, and the step to it.
-use Rattle.step_on.proofs.StepLaws.{ahead-fits, on-refused, on-ended, on-built}
+use Rattle.step_on.proofs.StepLaws.{ahead_fits, on_refused, on_ended, on_built}
 use borrow.Author.Rules.{rules}
 use Rattle.step_on.proofs.step_on.Statement.{statement}
 use Rattle.step_on.proofs.step_on.Tie as tie
@@ -7,27 +7,27 @@ use Rattle.step_on.proofs.step_on.Tie as tie
 -- where the call begins
 abbrev begin : tie.After-look-ahead → tie.Start
 begin h =
-    let at-node = h.before.before.before.before.before.before.before.before.before.before.before in
-    at-node
+    let at_node = h.before.before.before.before.before.before.before.before.before.before.before in
+    at_node
 
 commit-requires : tie.Need-commit-requires
 commit-requires c κs =
     let at_x = c.before.before.before.before.before.before.before.before in
     let h = at_x.before.before.before.before in
     let k = (begin h).args in
-    ahead-fits k.file.now (record { a = k.a.now; b = k.b.now; map = k.map.now; state = k.state }) k.work.now (rw at_x.x2.given.1 at h.look-ahead.ensures) (search rules)
+    ahead_fits k.file.now (record { a = k.a.now; b = k.b.now; map = k.map.now; state = k.state }) k.work.now (rw at_x.x2.given.1 at h.look-ahead.ensures) (search rules)
 
 returns : tie.Need-returns
 returns c =
     let h = c.before.before.before.before.before in
     let k = (begin h).args in
-    on-refused k.file.now (record { a = k.a.now; b = k.b.now; map = k.map.now; state = k.state }) k.work.now k.rec.now (rw c.before.x.given.1 at h.look-ahead.ensures)
+    on_refused k.file.now (record { a = k.a.now; b = k.b.now; map = k.map.now; state = k.state }) k.work.now k.rec.now (rw c.before.x.given.1 at h.look-ahead.ensures)
 
 returns-2 : tie.Need-returns-2
 returns-2 c =
     let h = c.before.before.before.before in
     let k = (begin h).args in
-    on-ended k.file.now (record { a = k.a.now; b = k.b.now; map = k.map.now; state = k.state }) k.work.now k.rec.now (rw c.enum_told.given.1 at h.look-ahead.ensures)
+    on_ended k.file.now (record { a = k.a.now; b = k.b.now; map = k.map.now; state = k.state }) k.work.now k.rec.now (rw c.enum_told.given.1 at h.look-ahead.ensures)
 
 -- the work buffer is as long as it was
 same-length-12 : tie.Need-same-length-12
@@ -37,16 +37,16 @@ same-length-12 c =
 
 returns-3 : tie.Need-returns-3
 returns-3 c =
-    let at-commit = c.before.before.before.before.before.before.before.before in
-    let at_part = at-commit.before.before.before.before.before.before in
+    let at_commit = c.before.before.before.before.before.before.before.before in
+    let at_part = at_commit.before.before.before.before.before.before in
     let at_x = at_part.before.before.before in
     let h = at_x.before.before.before.before in
     let k = (begin h).args in
-    on-built k.file.now (record { a = k.a.now; b = k.b.now; map = k.map.now; state = k.state }) k.work.now k.rec.now (rw at_x.x2.given.1 at h.look-ahead.ensures)
-    (rw at_part.before.part.ensures at at_part.part2.ensures) at-commit.commit.ensures
+    on_built k.file.now (record { a = k.a.now; b = k.b.now; map = k.map.now; state = k.state }) k.work.now k.rec.now (rw at_x.x2.given.1 at h.look-ahead.ensures)
+    (rw at_part.before.part.ensures at at_part.part2.ensures) at_commit.commit.ensures
 
-pub step-on-spec : {M : Type 1} → statement M
-step-on-spec =
+pub step_on_spec : {M : Type 1} → statement M
+step_on_spec =
     tie.close
     (tie.spec
     (λ c κs. search rules) (λ c. search rules) (λ c. search rules) (λ c. search rules) (λ c κs. search rules)

@@ -11,8 +11,8 @@ cast-result c = omega (arith, c.shared-slice-known.given c.before.args.at)
 returns : tie.Need-returns
 returns c = (refl, omega (arith, c.shared-slice-known.given c.before.args.at))
 
-pub byte-at-spec : {M : Type 1} → statement M
-byte-at-spec = tie.close (tie.spec
+pub byte_at_spec : {M : Type 1} → statement M
+byte_at_spec = tie.close (tie.spec
     (λ c. search rules)
     cast-result
     returns)

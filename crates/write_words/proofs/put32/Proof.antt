@@ -19,8 +19,8 @@ slice-write-out-4 c = simp length-set (omega arith)
 returns : tie.Need-returns
 returns c = (put_four _, refl)
 
-pub put32-spec : {M : Type 1} → statement M
-put32-spec =
+pub put32_spec : {M : Type 1} → statement M
+put32_spec =
     tie.close
     (tie.spec
     (λ c. search rules) (λ c. search rules) (λ c. search rules) (λ c. search rules)

@@ -1,29 +1,29 @@
 -- `write_words::write_state`: the six numbers, one after the other.
-use Rattle.words.proofs.WordLaws.{put-none, put-more, laid, not-laid}
-use Rattle.words.specs.Words.{stateWords}
+use Rattle.words.proofs.WordLaws.{put_none, put_more, laid, not_laid}
+use Rattle.words.specs.Words.{state_words}
 use mathlib.Core.List.{[], ◌∷◌}
 use borrow.Author.Rules.{rules}
 use Rattle.write_words.proofs.write_state.Statement.{statement}
 use Rattle.write_words.proofs.write_state.Tie as tie
 
 returns : tie.Need-returns
-unfolding stateWords
-returns c = not-laid (_ ∷ _ ∷ _ ∷ _ ∷ _ ∷ _ ∷ []) c.if1.true
+unfolding state_words
+returns c = not_laid (_ ∷ _ ∷ _ ∷ _ ∷ _ ∷ _ ∷ []) c.if1.true
 
 returns-2 : tie.Need-returns-2
-unfolding stateWords
+unfolding state_words
 returns-2 c =
-    let at-put = c.before.before.before.before.before.before in
-    let at-put-2 = at-put.before.before.before.before in
-    let at-put-3 = at-put-2.before.before.before.before in
-    let at-put-4 = at-put-3.before.before.before.before in
-    let at-put-5 = at-put-4.before.before.before.before in
-    let at-if = at-put-5.before.before.before in
-    let at-start = at-if.before.before in
-    let k = at-start.args.state in laid (k.sizes.width ∷ k.sizes.height ∷ k.sizes.planes ∷ k.frame ∷ k.next ∷ k.end ∷ []) at-if.if1.false (put-more (k.sizes.width ∷ k.sizes.height ∷ k.sizes.planes ∷ k.frame ∷ k.next ∷ []) k.end (put-more (k.sizes.width ∷ k.sizes.height ∷ k.sizes.planes ∷ k.frame ∷ []) k.next (put-more (k.sizes.width ∷ k.sizes.height ∷ k.sizes.planes ∷ []) k.frame (put-more (k.sizes.width ∷ k.sizes.height ∷ []) k.sizes.planes (put-more (k.sizes.width ∷ []) k.sizes.height (put-more [] k.sizes.width put-none at-put-5.put64.ensures.0) at-put-4.put642.ensures.0) at-put-3.put643.ensures.0) at-put-2.put644.ensures.0) at-put.put645.ensures.0) c.before.before.put646.ensures.0)
+    let at_put = c.before.before.before.before.before.before in
+    let at_put_2 = at_put.before.before.before.before in
+    let at_put_3 = at_put_2.before.before.before.before in
+    let at_put_4 = at_put_3.before.before.before.before in
+    let at_put_5 = at_put_4.before.before.before.before in
+    let at_if = at_put_5.before.before.before in
+    let at_start = at_if.before.before in
+    let k = at_start.args.state in laid (k.sizes.width ∷ k.sizes.height ∷ k.sizes.planes ∷ k.frame ∷ k.next ∷ k.end ∷ []) at_if.if1.false (put_more (k.sizes.width ∷ k.sizes.height ∷ k.sizes.planes ∷ k.frame ∷ k.next ∷ []) k.end (put_more (k.sizes.width ∷ k.sizes.height ∷ k.sizes.planes ∷ k.frame ∷ []) k.next (put_more (k.sizes.width ∷ k.sizes.height ∷ k.sizes.planes ∷ []) k.frame (put_more (k.sizes.width ∷ k.sizes.height ∷ []) k.sizes.planes (put_more (k.sizes.width ∷ []) k.sizes.height (put_more [] k.sizes.width put_none at_put_5.put64.ensures.0) at_put_4.put642.ensures.0) at_put_3.put643.ensures.0) at_put_2.put644.ensures.0) at_put.put645.ensures.0) c.before.before.put646.ensures.0)
 
-pub write-state-spec : {M : Type 1} → statement M
-write-state-spec =
+pub write_state_spec : {M : Type 1} → statement M
+write_state_spec =
     tie.close
     (tie.spec
     returns

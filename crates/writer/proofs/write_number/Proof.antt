@@ -1,7 +1,7 @@
 -- `writer::write_number`: four stores.
 use lib.ListN.{length-set}
-use Rattle.laws.specs.Bytes.{be32Bytes}
-use Rattle.laws.proofs.StoreLaws.{stored-four}
+use Rattle.laws.specs.Bytes.{be32_bytes}
+use Rattle.laws.proofs.StoreLaws.{stored_four}
 use native.Mathlib.Omega.{arith}
 use borrow.Author.Rules.{rules}
 use Rattle.writer.proofs.write_number.Statement.{statement}
@@ -17,11 +17,11 @@ slice-write-out-4 : tie.Need-slice-write-out-4
 slice-write-out-4 c = simp length-set (omega arith)
 
 returns : tie.Need-returns
-unfolding be32Bytes
-returns c = stored-four c.args.out.now c.args.at _ _ _ _
+unfolding be32_bytes
+returns c = stored_four c.args.out.now c.args.at _ _ _ _
 
-pub write-number-spec : {M : Type 1} → statement M
-write-number-spec =
+pub write_number_spec : {M : Type 1} → statement M
+write_number_spec =
     tie.close
     (tie.spec
     (λ c. search rules) (λ c. search rules) (λ c. search rules) (λ c. search rules)

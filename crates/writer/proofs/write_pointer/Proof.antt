@@ -10,8 +10,8 @@ returns c = rw (eq-eqb _ _ c.before.before.before.before.if1.true) c.before.befo
 returns-2 : tie.Need-returns-2
 returns-2 c = rw (ne_eqb _ _ c.before.before.before.before.if1.false) c.before.before.write-number2.ensures
 
-pub write-pointer-spec : {M : Type 1} → statement M
-write-pointer-spec =
+pub write_pointer_spec : {M : Type 1} → statement M
+write_pointer_spec =
     tie.close
     (tie.spec
     (λ c κs. search rules) (λ c κs. search rules) (λ c. search rules)

@@ -2,78 +2,78 @@
 use Prim.Native.Nat.{◌-◌}
 use lib.ListN.{length}
 use Rattle.column_writer.proofs.FillLaws.{Measuring, starts, more, all}
-use Rattle.column_writer.proofs.PlanLaws.{length-few, length-many}
+use Rattle.column_writer.proofs.PlanLaws.{length_few, length_many}
 use native.Mathlib.Omega.{arith}
 use Rattle.column_writer.proofs.piece.measure.Statement.{statement}
 use Rattle.column_writer.proofs.piece.measure.Tie as tie
 
-abbrev invariant-loop : tie.invariant-loop
-invariant-loop old new row₀ ops₀ bytes₀ row ops bytes = Measuring old new row ops bytes
+abbrev invariant_loop : tie.invariant-loop
+invariant_loop old new row₀ ops₀ bytes₀ row ops bytes = Measuring old new row ops bytes
 
-abbrev decreases-loop : tie.decreases-loop
-decreases-loop old new row₀ ops₀ bytes₀ row ops bytes = length new - row
+abbrev decreases_loop : tie.decreases-loop
+decreases_loop old new row₀ ops₀ bytes₀ row ops bytes = length new - row
 
-loop-holds : tie.Need-loop-init invariant-loop decreases-loop
+loop-holds : tie.Need-loop-init invariant_loop decreases_loop
 loop-holds c = starts _ _
 
-next-piece-requires : tie.Need-next-piece-requires invariant-loop decreases-loop
+next-piece-requires : tie.Need-next-piece-requires invariant_loop decreases_loop
 next-piece-requires c κs = (c.before.before.before.before.requires.0, c.loop-test.true)
 
-piece-totals-requires : tie.Need-piece-totals-requires invariant-loop decreases-loop
+piece-totals-requires : tie.Need-piece-totals-requires invariant_loop decreases_loop
 piece-totals-requires c κs =
-    let at-start = c.before.before.before.before.before in
-    omega (arith, c.next-piece.ensures.inside, at-start.requires.1)
+    let at_start = c.before.before.before.before.before in
+    omega (arith, c.next-piece.ensures.inside, at_start.requires.1)
 
-add-ops : tie.Need-overflow-add-ops invariant-loop decreases-loop
+add-ops : tie.Need-overflow-add-ops invariant_loop decreases_loop
 add-ops c =
-    let at-start = c.before.before.before.before.before.before.before in
-    omega (arith, (more c.before.before.before.before.loop.invariant c.before.before.next-piece.ensures c.before.piece-totals.ensures.0 c.before.piece-totals.ensures.1).few, c.before.before.next-piece.ensures.inside, at-start.requires.1)
+    let at_start = c.before.before.before.before.before.before.before in
+    omega (arith, (more c.before.before.before.before.loop.invariant c.before.before.next-piece.ensures c.before.piece-totals.ensures.0 c.before.piece-totals.ensures.1).few, c.before.before.next-piece.ensures.inside, at_start.requires.1)
 
-add-bytes : tie.Need-overflow-add-bytes invariant-loop decreases-loop
+add-bytes : tie.Need-overflow-add-bytes invariant_loop decreases_loop
 add-bytes c =
-    let at-loop = c.before.before.before.before.before in
-    let at-start = at-loop.before.before.before in
-    omega (arith, (more at-loop.loop.invariant c.before.before.before.next-piece.ensures c.before.before.piece-totals.ensures.0 c.before.before.piece-totals.ensures.1).short, c.before.before.before.next-piece.ensures.inside, at-start.requires.1)
+    let at_loop = c.before.before.before.before.before in
+    let at_start = at_loop.before.before.before in
+    omega (arith, (more at_loop.loop.invariant c.before.before.before.next-piece.ensures c.before.before.piece-totals.ensures.0 c.before.before.piece-totals.ensures.1).short, c.before.before.before.next-piece.ensures.inside, at_start.requires.1)
 
-add_row : tie.Need-overflow-add-row invariant-loop decreases-loop
+add_row : tie.Need-overflow-add-row invariant_loop decreases_loop
 add_row c =
-    let at-start = c.before.before.before.before.before.before.before.before.before in
-    omega (arith, c.before.before.before.before.next-piece.ensures.inside, at-start.requires.1)
+    let at_start = c.before.before.before.before.before.before.before.before.before in
+    omega (arith, c.before.before.before.before.next-piece.ensures.inside, at_start.requires.1)
 
-loop-less : tie.Need-loop-smaller invariant-loop decreases-loop
+loop-less : tie.Need-loop-smaller invariant_loop decreases_loop
 loop-less c = omega (arith, c.before.before.before.before.next-piece.ensures.inside, c.before.before.before.before.next-piece.ensures.some)
 
-loop-again : tie.Need-loop-preserved invariant-loop decreases-loop
+loop-again : tie.Need-loop-preserved invariant_loop decreases_loop
 loop-again c =
-    let at-loop = c.before.before.before.before.before.before in
-    more at-loop.loop.invariant c.before.before.before.before.next-piece.ensures c.before.before.before.piece-totals.ensures.0 c.before.before.before.piece-totals.ensures.1
+    let at_loop = c.before.before.before.before.before.before in
+    more at_loop.loop.invariant c.before.before.before.before.next-piece.ensures c.before.before.before.piece-totals.ensures.0 c.before.before.before.piece-totals.ensures.1
 
-returns : tie.Need-returns invariant-loop decreases-loop
+returns : tie.Need-returns invariant_loop decreases_loop
 returns c =
-    let at-start = c.before.before.before.before.before in
-    length-few (all c.before.before.loop.invariant c.before.loop-test.false) at-start.requires.1 c.if1.true
+    let at_start = c.before.before.before.before.before in
+    length_few (all c.before.before.loop.invariant c.before.loop-test.false) at_start.requires.1 c.if1.true
 
-add-uniqs : tie.Need-overflow-add-uniqs invariant-loop decreases-loop
+add-uniqs : tie.Need-overflow-add-uniqs invariant_loop decreases_loop
 add-uniqs c =
-    let at-start = c.before.before.before.before.before in
-    omega (arith, at-start.requires.1)
+    let at_start = c.before.before.before.before.before in
+    omega (arith, at_start.requires.1)
 
-add-result : tie.Need-overflow-add-result invariant-loop decreases-loop
+add-result : tie.Need-overflow-add-result invariant_loop decreases_loop
 add-result c =
-    let at-start = c.before.before.before.before.before in
-    omega (arith, at-start.requires.1)
+    let at_start = c.before.before.before.before.before in
+    omega (arith, at_start.requires.1)
 
-returns-2 : tie.Need-returns-2 invariant-loop decreases-loop
+returns-2 : tie.Need-returns-2 invariant_loop decreases_loop
 returns-2 c =
-    let at-start = c.before.before.before.before.before in
-    length-many (all c.before.before.loop.invariant c.before.loop-test.false) at-start.requires.1 c.if1.false
+    let at_start = c.before.before.before.before.before in
+    length_many (all c.before.before.loop.invariant c.before.loop-test.false) at_start.requires.1 c.if1.false
 
-pub measure-spec : {M : Type 1} → statement M
-measure-spec =
+pub measure_spec : {M : Type 1} → statement M
+measure_spec =
     tie.close
     (tie.spec
-    invariant-loop
-    decreases-loop
+    invariant_loop
+    decreases_loop
     loop-holds
     next-piece-requires
     piece-totals-requires

@@ -12,8 +12,8 @@ returns-3 c = (rw c.enum-told3.given.1, rw c.enum-told3.given.1)
 returns-4 : tie.Need-returns-4
 returns-4 c = (rw c.enum-told4.given.1, rw c.enum-told4.given.1)
 
-pub piece-totals-spec : {M : Type 1} → statement M
-piece-totals-spec =
+pub piece_totals_spec : {M : Type 1} → statement M
+piece_totals_spec =
     tie.close
     (tie.spec
     (λ c. search rules) (λ c. search rules) (λ c. search rules) (λ c. search rules) (λ c. search rules)

@@ -16,8 +16,8 @@ add-t10 c = omega (arith, rw c.before.if1.false at c.before.before.before.before
 returns-2 : tie.Need-returns-2
 returns-2 c = rw c.before.if1.false
 
-pub after-fill-spec : {M : Type 1} → statement M
-after-fill-spec = tie.close (tie.spec
+pub after_fill_spec : {M : Type 1} → statement M
+after_fill_spec = tie.close (tie.spec
     (λ c. search rules) (λ c. search rules)
     add-t9
     returns

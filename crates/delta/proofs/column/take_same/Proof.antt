@@ -2,9 +2,9 @@
 use Prim.Native.Nat.{◌+◌}
 use native.Mathlib.Omega.{arith}
 use lib.ListN.{get_or}
-use Rattle.delta.specs.Column.{fill, OpKind.same, opAs}
+use Rattle.delta.specs.Column.{fill, OpKind.same, op_as}
 use Rattle.delta.specs.Walk.{reading}
-use Rattle.delta.proofs.DeltaLaws.{same_none, same-fill}
+use Rattle.delta.proofs.DeltaLaws.{same_none, same_fill}
 use Rattle.delta.proofs.FillLaws.{read_as}
 use borrow.Author.Rules.{rules}
 use Rattle.delta.proofs.column.take_same.Statement.{statement}
@@ -19,10 +19,10 @@ cast-count c = omega (arith, c.shared-slice-known2.given (c.before.before.before
 returns-2 : tie.Need-returns-2
 returns-2 c =
     let a = c.before.before.before.before.args in
-    read_as a.shape a.d.now 1 (λ base x. opAs a.shape a.d.now base x same) a.c (λ base x. fill a.shape a.d.now base x (a.c.op + 2) (get_or a.d.now (a.c.op + 1) 0) a.shape.item 0) c.take-fill.result c.take-fill.ensures (λ base ops. same-fill a.shape a.d.now base (reading a.c ops) (omega arith))
+    read_as a.shape a.d.now 1 (λ base x. op_as a.shape a.d.now base x same) a.c (λ base x. fill a.shape a.d.now base x (a.c.op + 2) (get_or a.d.now (a.c.op + 1) 0) a.shape.item 0) c.take-fill.result c.take-fill.ensures (λ base ops. same_fill a.shape a.d.now base (reading a.c ops) (omega arith))
 
-pub take-same-spec : {M : Type 1} → statement M
-take-same-spec =
+pub take_same_spec : {M : Type 1} → statement M
+take_same_spec =
     tie.close
     (tie.spec
     (λ c. search rules)

@@ -3,7 +3,7 @@ use Prim.Native.Nat.{◌≤◌}
 use native.Mathlib.Omega.{arith}
 use mathlib.Core.Path.{refl, subst}
 use Rattle.delta.specs.Walk.{Lies}
-use Rattle.delta.proofs.FillLaws.{rows_inside, place-fits}
+use Rattle.delta.proofs.FillLaws.{rows_inside, place_fits}
 use borrow.Author.Rules.{rules}
 use Rattle.delta.proofs.rows.draw_taken.Statement.{statement}
 use Rattle.delta.proofs.rows.draw_taken.Tie as tie
@@ -13,14 +13,14 @@ mul-place c =
     let b = c.before.before.before.before.before.before in
     let w = subst (Lies b.args.shape b.args.d.now) c.before.before.op3.given.1 b.requires.2 in
     let l : c.before.before.op3.given.0.0 ≤ b.args.shape.height = omega (arith, w.0) in
-    omega (arith, place-fits b.requires.1 l)
+    omega (arith, place_fits b.requires.1 l)
 
 add-place : tie.Need-overflow-add-place
 add-place c =
     let b = c.before.before.before.before.before.before in
     let w = subst (Lies b.args.shape b.args.d.now) c.before.before.op3.given.1 b.requires.2 in
     let l : c.before.before.op3.given.0.0 ≤ b.args.shape.height = omega (arith, w.0) in
-    omega (arith, place-fits b.requires.1 l)
+    omega (arith, place_fits b.requires.1 l)
 
 draw-rows-requires : tie.Need-draw-rows-requires
 draw-rows-requires c κs =
@@ -39,8 +39,8 @@ returns-3 c =
     let t = c.before.before.before.before.before.before in
     rw t.op3.given.1 (refl, c.before.before.draw-rows.ensures)
 
-pub draw-taken-spec : {M : Type 1} → statement M
-draw-taken-spec =
+pub draw_taken_spec : {M : Type 1} → statement M
+draw_taken_spec =
     tie.close
     (tie.spec
     (λ c. search rules) (λ c. search rules) (λ c. search rules)

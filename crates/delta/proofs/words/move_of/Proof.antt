@@ -11,8 +11,8 @@ returns c = rw (lt-ltb _ _ c.if1.true)
 returns-2 : tie.Need-returns-2
 returns-2 c = rw (le-ltb _ _ c.if1.false) (omega arith)
 
-pub move-of-spec : {M : Type 1} → statement M
-move-of-spec = tie.close (tie.spec
+pub move_of_spec : {M : Type 1} → statement M
+move_of_spec = tie.close (tie.spec
     (λ c. search rules)
     returns
     returns-2)

@@ -4,7 +4,7 @@ use native.Mathlib.Nat.{mul-le-mul_left}
 use native.Mathlib.Omega.{arith}
 use mathlib.Core.Logic.{⊎_elim}
 use mathlib.Core.Path.{◌≡◌}
-use Rattle.delta.proofs.WordLaws.{run_past, run_short, run-read}
+use Rattle.delta.proofs.WordLaws.{run_past, run_short, run_read}
 use borrow.Author.Rules.{rules}
 use Rattle.delta.proofs.words.take_run.Statement.{statement}
 use Rattle.delta.proofs.words.take_run.Tie as tie
@@ -27,10 +27,10 @@ returns-3 c =
     let a = b.args in
     let l : a.line + a.count ≤ a.shape.height = omega arith in
     let last : c.if3.new ≡ a.line + (a.count - 1) = ⊎_elim (λ w. omega arith) (λ w. omega arith) c.if3.branch in
-    run-read a.shape a.d.now a.c a.line a.from a.count l b.requires.2 (omega arith) b.requires.1 (rw last)
+    run_read a.shape a.d.now a.c a.line a.from a.count l b.requires.2 (omega arith) b.requires.1 (rw last)
 
-pub take-run-spec : {M : Type 1} → statement M
-take-run-spec =
+pub take_run_spec : {M : Type 1} → statement M
+take_run_spec =
     tie.close
     (tie.spec
     (λ c. search rules)

@@ -76,8 +76,8 @@ returns-23 c = ap number_of (sym c.enum-told23.given.1)
 returns-24 : tie.Need-returns-24
 returns-24 c = ap number_of (sym c.enum-told24.given.1)
 
-pub number-spec : {M : Type 1} → statement M
-number-spec =
+pub number_spec : {M : Type 1} → statement M
+number_spec =
     tie.close
     (tie.spec
     (λ c. search rules) (λ c. search rules) (λ c. search rules) (λ c. search rules) (λ c. search rules)
