@@ -1,4 +1,5 @@
 // The header of a frame, ANHD.
+#![tactic(auto)]
 ghost use Rattle.std.specs.Prelude.{◌≡◌};
 ghost use Rattle.anhd.specs.Anhd.{method_ok, interleave_ok, bits_ok, items_of, columns_ok, frame_header, anhd_of};
 

@@ -1,5 +1,6 @@
 // The C interface: each function calls one of the library's, on numbers and byte slices. The order of arguments is one: numbers,
 // the file, the state, A, B and the map, the work buffer, the record or the output, the report or the length.
+#![tactic(auto)]
 ghost use Rattle.std.specs.Prelude.{◌≡◌, ◌&&◌, eqb, length};
 ghost use Rattle.shown.specs.Row.{place_of};
 ghost use Rattle.anim.specs.Export.{OpensC, HandsOn, StepsOnC, StepsBackC, row_c, number_or, place_or, sizes_in, WritesC, SizesC};

@@ -1,5 +1,6 @@
 // Lists the ANIM file on standard input: its picture's sizes, a line for each frame, and how it ends. An input that can't be read
 // isn't listed; that is told on standard error, and so is an output that can't be written.
+#![tactic(auto)]
 ghost use Rattle.io.specs.Counts.{IsPrefixLen};
 
 use listing::list;

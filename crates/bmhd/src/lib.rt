@@ -1,4 +1,5 @@
 // The header of the first picture: the contents of its BMHD.
+#![tactic(auto)]
 ghost use Rattle.std.specs.Prelude.{◌≡◌};
 ghost use Rattle.bmhd.specs.Header.{sizes_at, bitmap_header, bmhd_of};
 

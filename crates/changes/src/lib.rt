@@ -1,4 +1,5 @@
 // How many runs of changed bytes there are between two buffers, and how many bytes changed.
+#![tactic(auto)]
 ghost use Rattle.std.specs.Prelude.{◌≡◌, ◌+◌, ◌<◌, ◌≤◌, length};
 ghost use Rattle.changes.specs.Count.{count, CountsBlock};
 

@@ -1,4 +1,5 @@
 // One column of a method 5 delta: the ops that turn a column's old rows into its new ones, measured and written.
+#![tactic(auto)]
 mod piece;
 
 ghost use Rattle.std.specs.Prelude.{◌≡◌, ◌+◌, ◌<◌, ◌≤◌, length, drop};

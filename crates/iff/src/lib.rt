@@ -1,4 +1,5 @@
 // Chunks of an IFF file: what stands at a place, and the first chunk of an id, whose contents are a part of the lent slice.
+#![tactic(auto)]
 ghost use Rattle.std.specs.Prelude.{◌≡◌, eqb};
 ghost use Rattle.laws.specs.Result.{pick};
 ghost use Rattle.iff.specs.Chunk.{chunk_at, standing_of, find, found_of, FindsThree, or_part, contents};

@@ -1,4 +1,5 @@
 // The listing of a file: what document 01 has the listing program write.
+#![tactic(auto)]
 ghost use Rattle.std.specs.Prelude.{◌&&◌, ◌≡◌, leb, length};
 ghost use Rattle.lines.specs.Lines.{line_of};
 ghost use Rattle.state.specs.After.{lent};

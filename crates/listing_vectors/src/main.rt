@@ -1,4 +1,5 @@
 // Lists the outside vectors, data/001.anim to data/168.anim, each under its name.
+#![tactic(auto)]
 use listing::list;
 
 // Lists one file.

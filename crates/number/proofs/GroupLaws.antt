@@ -180,6 +180,7 @@ cons_written k b n h l p =
 
 pub decoded_taken : {k m a : ℕ} {s : List ℕ} {v : Value} → Bytes s → Decoded (suc k) m a s v → Taken k m a s v
 decoded_taken {k = k} y (decoded_last {b = b} h p q) = record { number = b; shortest = p; sum = refl; split = rw (last_written k b h) }
+decoded_taken y (decoded_more {k = zero} h d) = elim d [ ]
 decoded_taken y (decoded_more {k = suc k} {b = b} h d) =
     let t = decoded_taken (λ i. y (suc i)) d in
     let p : 0 < t.number = ⊎_elim (λ p. p) (λ e. absurd (omega arith)) t.shortest in

@@ -30,7 +30,7 @@ unfolding read_runs runs_bytes Fit
 read_runs_lem [] least room s h f = refl
 read_runs_lem (r ∷ rs) least room s h f =
     simp (append_assoc, read_run_lem r least room (runs_bytes rs ++ s) h f.0 f.1 f.2)
-    (ap (λ (o : Option Runs). o >>? λ m. some (record { runs = r ∷ m.runs; rest = m.rest })) (read_runs_lem rs _ (room - (r.gap + length r.bytes)) s (omega arith) (fit_from rs (omega arith) f.3)))
+    (ap (λ (o : Option Runs). o >>? λ m. some (record { runs = r ∷ m.runs; rest = m.rest })) (read_runs_lem rs _ (room - (r.gap + length r.bytes)) s (omega arith) (fit_from _ _ _ rs (omega arith) f.3)))
 
 pub list_back : (old new s : List ℕ) → length old ≡ length new → length new < 2 ^ 32 → before_of (list_bytes (runs_of old new) ++ s) new ≡ some (record { buffer = old; rest = s })
 unfolding before_of read_list list_bytes runs_back

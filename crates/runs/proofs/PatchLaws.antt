@@ -126,7 +126,7 @@ unfolding patch
 same_of_none old new l e = sym (rw e at (patch_runs old new l))
 
 -- gaps from a number on are from every smaller one on
-pub fit_from : {least more room : ℕ} (rs : List Run) → least ≤ more → Fit more room rs → Fit least room rs
+pub fit_from : (least more room : ℕ) (rs : List Run) → least ≤ more → Fit more room rs → Fit least room rs
 unfolding Fit
-fit_from [] l h = tt
-fit_from (r ∷ rs) l h = (omega (arith, h.0), h.1, h.2, h.3)
+fit_from least more room [] l h = tt
+fit_from least more room (r ∷ rs) l h = (omega (arith, h.0), h.1, h.2, h.3)

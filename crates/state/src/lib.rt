@@ -1,4 +1,5 @@
 // The player's state and the sizes of a picture: their limits, and how long a frame of those sizes is.
+#![tactic(auto)]
 ghost use Rattle.std.specs.Prelude.{◌≡◌};
 ghost use Rattle.state.specs.State.{row_bytes, within, length_of, frame_length, state_length, lent_length, step_length, opened, zeros, moved};
 

@@ -1,4 +1,5 @@
 // Stepping back: a record is put back, and the frame before is shown.
+#![tactic(auto)]
 ghost use Rattle.record.specs.Record.{restored};
 ghost use Rattle.restore.specs.Restored.{restored_of};
 ghost use Rattle.state.specs.World.{shown_in};

@@ -1,4 +1,5 @@
 // The writer of method 5 deltas: what turns one frame into another.
+#![tactic(auto)]
 mod plane;
 
 ghost use Rattle.std.specs.Prelude.{◌≡◌, ◌+◌, ◌*◌, ◌≤◌, length, eqb, ltb};
