@@ -1,5 +1,6 @@
 // The header of a frame, ANHD.
 #![tactic(auto)]
+
 ghost use Rattle.std.specs.Prelude.{◌≡◌};
 ghost use Rattle.anhd.specs.Anhd.{method_ok, interleave_ok, bits_ok, items_of, columns_ok, frame_header, anhd_of};
 
@@ -8,7 +9,7 @@ use refusal::Refusal;
 
 // The items of a delta: bytes in an op list (method 5), shorts or longs in a data list (method 7), or the words of two bytes (method 3) or
 // four (method 2) of a list of words.
-#[derive(Drop)]
+#[derive(Clone, Copy)]
 pub enum Items {
     Bytes,
     Shorts,
@@ -18,7 +19,7 @@ pub enum Items {
 }
 
 // What ANHD says of a frame: the method, the time after the frame before, the interleave, and the items of its delta.
-#[derive(Drop)]
+#[derive(Clone, Copy)]
 pub struct FrameHeader {
     pub method: usize,
     pub time: usize,
@@ -27,7 +28,7 @@ pub struct FrameHeader {
 }
 
 // A frame's header, or why there is none.
-#[derive(Drop)]
+#[derive(Clone, Copy)]
 pub enum Anhd {
     Header(FrameHeader),
     Refused(Refusal),

@@ -8,7 +8,7 @@ use refusal::Refusal;
 use state::{Length, Sizes};
 
 // What BMHD says of a picture: its sizes, the length of a frame in bytes, and whether BODY is packed by ByteRun1.
-#[derive(Drop)]
+#[derive(Clone, Copy)]
 pub struct Header {
     pub sizes: Sizes,
     pub length: usize,
@@ -16,7 +16,7 @@ pub struct Header {
 }
 
 // A header, or why there is none.
-#[derive(Drop)]
+#[derive(Clone, Copy)]
 pub enum Bmhd {
     Picture(Header),
     Refused(Refusal),

@@ -14,14 +14,14 @@ use refusal::Refusal;
 use state::{Length, Sizes};
 
 // Whether a BODY was unpacked.
-#[derive(Drop)]
+#[derive(Clone, Copy)]
 pub enum Unpacked {
     Done,
     Refused(Refusal),
 }
 
 // One packet of ByteRun1 and the place after it.
-#[derive(Drop)]
+#[derive(Clone, Copy)]
 enum Packet {
     Copy {
         from: usize,
@@ -40,7 +40,7 @@ enum Packet {
 }
 
 // How many bytes of a row were unpacked, and the place after what they were packed in.
-#[derive(Drop)]
+#[derive(Clone, Copy)]
 enum Took {
     Bytes { count: usize, next: usize },
     Faulty,

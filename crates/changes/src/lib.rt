@@ -1,17 +1,18 @@
 // How many runs of changed bytes there are between two buffers, and how many bytes changed.
 #![tactic(auto)]
+
 ghost use Rattle.std.specs.Prelude.{◌≡◌, ◌+◌, ◌<◌, ◌≤◌, length};
 ghost use Rattle.changes.specs.Count.{count, CountsBlock};
 
 // How many runs there are, and how many bytes changed.
-#[derive(Drop)]
+#[derive(Clone, Copy)]
 pub struct Counts {
     pub runs: usize,
     pub changed: usize,
 }
 
 // The bytes of a block that changed, and those of them at which a run ends.
-#[derive(Drop)]
+#[derive(Clone, Copy)]
 struct Block {
     ends: u8,
     changed: u8,

@@ -1,5 +1,6 @@
 // One column of a method 5 delta: the ops that turn a column's old rows into its new ones, measured and written.
 #![tactic(auto)]
+
 mod piece;
 
 ghost use Rattle.std.specs.Prelude.{◌≡◌, ◌+◌, ◌<◌, ◌≤◌, length, drop};
@@ -14,14 +15,14 @@ use copies::copy;
 use refusal::Refusal;
 
 // How many bytes a column is written in.
-#[derive(Drop)]
+#[derive(Clone, Copy)]
 pub enum ColumnSize {
     Bytes(usize),
     Refused(Refusal),
 }
 
 // The place after a column that was written.
-#[derive(Drop)]
+#[derive(Clone, Copy)]
 pub enum Placed {
     Next(usize),
     Refused(Refusal),

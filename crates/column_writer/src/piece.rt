@@ -4,7 +4,7 @@ ghost use Rattle.column_writer.specs.Column.{column_bytes};
 ghost use Rattle.column_writer.specs.Piece.{Unchanged, GroupRows, UniqRows, NextPiece, ops_in, bytes_in};
 
 // The ops that rows of a column become. Rest is the unchanged rows after the last changed one, which write nothing.
-#[derive(Drop)]
+#[derive(Clone, Copy)]
 pub(crate) enum PieceKind {
     Rest,
     Skip,
@@ -13,14 +13,14 @@ pub(crate) enum PieceKind {
 }
 
 // Rows of a column that are written as ops of one kind.
-#[derive(Drop)]
+#[derive(Clone, Copy)]
 pub(crate) struct Piece {
     pub(crate) kind: PieceKind,
     pub(crate) rows: usize,
 }
 
 // How many ops there are, and the bytes of those.
-#[derive(Drop)]
+#[derive(Clone, Copy)]
 pub(crate) struct Totals {
     pub(crate) ops: usize,
     pub(crate) bytes: usize,

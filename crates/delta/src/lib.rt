@@ -19,7 +19,7 @@ use state::{Length, Sizes};
 use words::take_words;
 
 // Whether a delta was drawn, and how many ops its columns have; of lists of words none are counted.
-#[derive(Drop)]
+#[derive(Clone, Copy)]
 pub enum Applied {
     Drawn { ops: usize },
     Refused(Refusal),
@@ -27,7 +27,7 @@ pub enum Applied {
 
 // What a delta is read by: the bytes of an item or word, whether items stand in the op list, whether the lists are lists of words, bytes
 // per row, height, planes, bytes per plane, and the bytes of the pointers before the lists. For words a row is one word.
-#[derive(Drop)]
+#[derive(Clone, Copy)]
 pub struct Shape {
     pub item: usize,
     pub inline: bool,
@@ -40,7 +40,7 @@ pub struct Shape {
 }
 
 // Where reading stands: the place in the list, the place in the data list, the row, and the number of ops counted so far.
-#[derive(Drop)]
+#[derive(Clone, Copy)]
 struct Cursor {
     op: usize,
     item: usize,
@@ -49,14 +49,14 @@ struct Cursor {
 }
 
 // Where reading goes on, or why it doesn't.
-#[derive(Drop)]
+#[derive(Clone, Copy)]
 enum Step {
     Next(Cursor),
     Refused(Refusal),
 }
 
 // What an op does: count rows, the first of which is line, get items from a place of the delta on, step bytes apart; or it only goes down.
-#[derive(Drop)]
+#[derive(Clone, Copy)]
 enum Taken {
     Rows {
         line: usize,
@@ -70,7 +70,7 @@ enum Taken {
 }
 
 // Where a list starts, or that its pointer is bad.
-#[derive(Drop)]
+#[derive(Clone, Copy)]
 enum Pointer {
     At(usize),
     Bad,

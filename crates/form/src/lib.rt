@@ -9,14 +9,14 @@ use iff::{Standing, chunk_at};
 use refusal::Refusal;
 
 // Where FORM ANIM ends.
-#[derive(Drop)]
+#[derive(Clone, Copy)]
 pub enum Outer {
     Ends(usize),
     Refused(Refusal),
 }
 
 // The next frame in FORM ANIM.
-#[derive(Drop)]
+#[derive(Clone, Copy)]
 pub enum Form {
     // A FORM ILBM: len bytes of chunks from start on; next is past the FORM and its pad.
     Ilbm {

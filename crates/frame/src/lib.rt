@@ -12,7 +12,7 @@ use iff::ids::{ANHD, CMAP, DLTA};
 use refusal::Refusal;
 
 // The next frame: the place after it, its header, and where the contents of its DLTA and of its CMAP stand in FORM ANIM.
-#[derive(Drop)]
+#[derive(Clone, Copy)]
 pub enum Next {
     Later {
         next: usize,
@@ -27,7 +27,7 @@ pub enum Next {
 }
 
 // Where the contents of a chunk stand.
-#[derive(Drop)]
+#[derive(Clone, Copy)]
 struct Place {
     start: usize,
     len: usize,

@@ -150,7 +150,7 @@ module _ {s : List ℕ} {x y z at : ℕ} {t : Three} (h : Searches s x y z at t)
       let k : Within s at c = each_some e (chunk_within s at) in
       record {
         before = h.before ++ (c ∷ []);
-        going = turns h.going (ap (walk_on _) e) (omega (arith, k.rises, k.ends));
+        going = turns h.going (ap (walk_on (record { at = at; passed = h.before })) e) (omega (arith, k.rises, k.ends));
         one = p ∙ rw h.one (sym (first_more x h.before c));
         two = q ∙ rw h.two (sym (first_more y h.before c));
         three = r ∙ rw h.three (sym (first_more z h.before c));
@@ -159,12 +159,12 @@ module _ {s : List ℕ} {x y z at : ℕ} {t : Three} (h : Searches s x y z at t)
   pub search_ends : chunk_at s at ≡ ok none → FindsThree s x y z t
   unfolding find
   search_ends e =
-      let d : ok h.before ≡ chunks s = stops h.going (ap (walk_on _) e) in
+      let d : ok h.before ≡ chunks s = stops h.going (ap (walk_on (record { at = at; passed = h.before })) e) in
       record { first = rw (← d) h.one; second = rw (← d) h.two; third = rw (← d) h.three }
 
   pub search_breaks : {why : Refusal} → chunk_at s at ≡ fault (number_of why)
       → FindsThree s x y z (record { first = Refused why; second = Refused why; third = Refused why })
   unfolding find
   search_breaks {why} e =
-      let d : fault (number_of why) ≡ chunks s = stops h.going (ap (walk_on _) e) in
+      let d : fault (number_of why) ≡ chunks s = stops h.going (ap (walk_on (record { at = at; passed = h.before })) e) in
       record { first = rw (← d) refl; second = rw (← d) refl; third = rw (← d) refl }

@@ -1,5 +1,6 @@
 // Chunks of an IFF file: what stands at a place, and the first chunk of an id, whose contents are a part of the lent slice.
 #![tactic(auto)]
+
 ghost use Rattle.std.specs.Prelude.{◌≡◌, eqb};
 ghost use Rattle.laws.specs.Result.{pick};
 ghost use Rattle.iff.specs.Chunk.{chunk_at, standing_of, find, found_of, FindsThree, or_part, contents};
@@ -10,7 +11,7 @@ use buffer::number32;
 use refusal::Refusal;
 
 // What stands at a place of a parent.
-#[derive(Drop)]
+#[derive(Clone, Copy)]
 pub enum Standing {
     // A whole chunk: len bytes of contents from start on; next is past them and their pad.
     Whole {
@@ -24,7 +25,7 @@ pub enum Standing {
 }
 
 // What a search for a chunk finds: where its contents stand in the parent.
-#[derive(Drop)]
+#[derive(Clone, Copy)]
 pub enum Found {
     At { start: usize, len: usize },
     Missing,
@@ -32,7 +33,7 @@ pub enum Found {
 }
 
 // What a search for three chunks finds.
-#[derive(Drop)]
+#[derive(Clone, Copy)]
 pub struct Three {
     pub first: Found,
     pub second: Found,

@@ -8,7 +8,7 @@ use refusal::Refusal;
 use state::{Report, Sizes};
 
 // A line of a listing.
-#[derive(Drop)]
+#[derive(Clone, Copy)]
 pub enum Line {
     TooLarge,
     Picture(Sizes),

@@ -128,7 +128,7 @@ fn list_front(
 }
 
 // How a file is listed: by one line, or frame by frame with frames of so many bytes.
-#[derive(Drop)]
+#[derive(Clone, Copy)]
 enum Plan {
     Single(Line),
     Frames(usize),

@@ -5,14 +5,14 @@ ghost use Rattle.std.proofs.lemmas.List.Edits.{sets};
 ghost use Rattle.number.specs.Number.{ReadAt, write_number, laid, after, written_of};
 
 // What stands at a place: a number below 2^32 and the place after it, or no well-formed number.
-#[derive(Drop)]
+#[derive(Clone, Copy)]
 pub enum Parsed {
     Number { value: usize, next: usize },
     Malformed,
 }
 
 // The place after a number that was written, or that it doesn't fit.
-#[derive(Drop)]
+#[derive(Clone, Copy)]
 pub enum Written {
     Next(usize),
     NoRoom,

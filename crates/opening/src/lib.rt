@@ -21,28 +21,28 @@ use refusal::Refusal;
 use state::State;
 
 // What opening answers.
-#[derive(Drop)]
+#[derive(Clone, Copy)]
 pub enum Opening {
     Opened,
     Refused(Refusal),
 }
 
 // What opening answers, and the state after it: six zeros where it is refused.
-#[derive(Drop)]
+#[derive(Clone, Copy)]
 pub struct OpenedFile {
     pub answer: Opening,
     pub state: State,
 }
 
 // The length of the first picture's frame, or why there is none.
-#[derive(Drop)]
+#[derive(Clone, Copy)]
 pub enum Size {
     Bytes(usize),
     Refused(Refusal),
 }
 
 // Whether the first picture stands in a BODY, or else in a delta; or why there is none.
-#[derive(Drop)]
+#[derive(Clone, Copy)]
 enum HasBody {
     Picture { body: bool },
     Refused(Refusal),
@@ -50,7 +50,7 @@ enum HasBody {
 
 // Where the first picture stands: the end of FORM ANIM, the place past its FORM, the chunks of that, len bytes from start on, and
 // whether they have a BODY.
-#[derive(Drop)]
+#[derive(Clone, Copy)]
 enum Located {
     At {
         end: usize,

@@ -18,7 +18,7 @@ use refusal::Refusal;
 use state::Sizes;
 
 // Whether A was filled with the first picture.
-#[derive(Drop)]
+#[derive(Clone, Copy)]
 pub(crate) enum Filled {
     Done,
     Refused(Refusal),

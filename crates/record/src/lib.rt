@@ -20,7 +20,7 @@ use refusal::Refusal;
 use runs::{Change, next_run};
 
 // A record that was written: its length, and how many bytes of the picture changed.
-#[derive(Drop)]
+#[derive(Clone, Copy)]
 pub enum Recorded {
     Written { length: usize, changed: usize },
     Refused(Refusal),

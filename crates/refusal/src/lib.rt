@@ -1,9 +1,10 @@
 // The refusals of documents 01 and 02 and their numbers, but for 44, which is retired: no later one gets it.
 #![tactic(auto)]
+
 ghost use Rattle.std.specs.Prelude.{◌≡◌};
 ghost use Rattle.refusal.specs.Number.{number_of};
 
-#[derive(Drop)]
+#[derive(Clone, Copy)]
 pub enum Refusal {
     OutsideLimits,
     BufferLength,

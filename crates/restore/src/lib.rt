@@ -11,14 +11,14 @@ use number::Parsed;
 use refusal::Refusal;
 
 // A record that was put back: the next place before its step.
-#[derive(Drop)]
+#[derive(Clone, Copy)]
 pub enum Restored {
     Back(usize),
     Refused(Refusal),
 }
 
 // A run of a record: the unchanged bytes before it, its length, and where its old bytes stand.
-#[derive(Drop)]
+#[derive(Clone, Copy)]
 enum Stored {
     Whole {
         gap: usize,
@@ -98,7 +98,7 @@ fn take_run(
 }
 
 // Runs that were taken: the place after them.
-#[derive(Drop)]
+#[derive(Clone, Copy)]
 enum Taken {
     Ends(usize),
     Bad,
@@ -145,7 +145,7 @@ fn take_list(shown: &mut [u8], bytes: &[u8], at: usize, putting: bool) -> Taken
 }
 
 // What stands before a record's run lists: two numbers, and the place of the first list.
-#[derive(Drop)]
+#[derive(Clone, Copy)]
 enum Header {
     Numbers {
         frame: usize,
@@ -176,7 +176,7 @@ fn read_header(bytes: &[u8]) -> Header
 }
 
 // Two run lists that were checked: the place of the second.
-#[derive(Drop)]
+#[derive(Clone, Copy)]
 enum Checked {
     Good(usize),
     Wrong,
@@ -222,7 +222,7 @@ fn belongs(reached: usize, place: usize, frame: usize, next: usize) -> bool
 }
 
 // Whether a record leads back from a state: the next place before its step, and where its two run lists stand.
-#[derive(Drop)]
+#[derive(Clone, Copy)]
 enum Leads {
     To {
         place: usize,

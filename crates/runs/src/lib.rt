@@ -9,7 +9,7 @@ mod word;
 use word::stop;
 
 // A run of changed bytes: the unchanged bytes before it, and its length.
-#[derive(Drop)]
+#[derive(Clone, Copy)]
 pub enum Change {
     Run { gap: usize, count: usize },
     Nothing,

@@ -7,7 +7,7 @@ use refusal::Refusal;
 use state::{Length, State};
 
 // Where a row stands in A or B, or why it doesn't.
-#[derive(Drop)]
+#[derive(Clone, Copy)]
 pub enum Place {
     At(usize),
     Refused(Refusal),

@@ -1,12 +1,13 @@
 // The player's state and the sizes of a picture: their limits, and how long a frame of those sizes is.
 #![tactic(auto)]
+
 ghost use Rattle.std.specs.Prelude.{◌≡◌};
 ghost use Rattle.state.specs.State.{row_bytes, within, length_of, frame_length, state_length, lent_length, step_length, opened, zeros, moved};
 
 use refusal::Refusal;
 
 // The sizes of a picture.
-#[derive(Drop)]
+#[derive(Clone, Copy)]
 pub struct Sizes {
     pub width: usize,
     pub height: usize,
@@ -14,7 +15,7 @@ pub struct Sizes {
 }
 
 // The state of a player: the sizes, the frame number, the place where the file is read on, and the end of FORM ANIM.
-#[derive(Drop)]
+#[derive(Clone, Copy)]
 pub struct State {
     pub sizes: Sizes,
     pub frame: usize,
@@ -24,7 +25,7 @@ pub struct State {
 
 // What a taken step on reports: the method, the relative time, how many bytes of the picture changed, the record's length, and the number
 // of ops, 0 for lists of words.
-#[derive(Drop)]
+#[derive(Clone, Copy)]
 pub struct Report {
     pub method: usize,
     pub time: usize,
@@ -34,7 +35,7 @@ pub struct Report {
 }
 
 // How many bytes a frame has, or that the sizes or the state are outside the limits.
-#[derive(Drop)]
+#[derive(Clone, Copy)]
 pub enum Length {
     Bytes(usize),
     Refused(Refusal),

@@ -11,14 +11,14 @@ use restore::Restored;
 use state::{Length, State};
 
 // What stepping back answers.
-#[derive(Drop)]
+#[derive(Clone, Copy)]
 pub enum Back {
     Taken,
     Refused(Refusal),
 }
 
 // What stepping back answers, and the state after it.
-#[derive(Drop)]
+#[derive(Clone, Copy)]
 pub struct SteppedBack {
     pub answer: Back,
     pub state: State,

@@ -17,7 +17,7 @@ use state::{Length, Report, Sizes, State};
 
 // What lies ahead: a frame that stands in the work buffer, the place past it, its header, the number of its ops, and where the contents of
 // its CMAP stand in FORM ANIM; or none; or why there is none.
-#[derive(Drop)]
+#[derive(Clone, Copy)]
 pub enum Ahead {
     Built {
         next: usize,
@@ -31,7 +31,7 @@ pub enum Ahead {
 }
 
 // What stepping on answers.
-#[derive(Drop)]
+#[derive(Clone, Copy)]
 pub enum On {
     Taken(Report),
     End,
@@ -39,14 +39,14 @@ pub enum On {
 }
 
 // What stepping on answers, and the state after it.
-#[derive(Drop)]
+#[derive(Clone, Copy)]
 pub struct SteppedOn {
     pub answer: On,
     pub state: State,
 }
 
 // Whether state and buffers let a step on begin.
-#[derive(Drop)]
+#[derive(Clone, Copy)]
 enum Begins {
     Yes,
     Refused(Refusal),

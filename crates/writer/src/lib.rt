@@ -16,7 +16,7 @@ use refusal::Refusal;
 use state::{Length, Sizes};
 
 // A delta that was written: its length.
-#[derive(Drop)]
+#[derive(Clone, Copy)]
 pub enum Delta {
     Written(usize),
     Refused(Refusal),

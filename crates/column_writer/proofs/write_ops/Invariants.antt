@@ -1,0 +1,12 @@
+-- `column_writer::write_ops`: the pieces are counted and written, and what is left, from here, comes to the whole.
+use Rattle.column_writer.proofs.FillLaws.{Filling, filling, filling_room, filling_more, filling_last}
+use lib.ListN.{length}
+use Prim.Native.Nat.{◌-◌}
+use native.Mathlib.Omega.{arith}
+use Rattle.column_writer.proofs.write_ops.Given as goal
+
+abbrev pub invariant-loop-row : goal.invariant-loop-row
+invariant-loop-row l = Filling l.initial.room l.old l.new l.room l.ops l.place l.row
+
+abbrev pub decreases-loop-row : goal.decreases-loop-row
+decreases-loop-row l = length l.new - l.row
