@@ -1,5 +1,6 @@
 // The header of the first picture: the contents of its BMHD.
 #![tactic(auto)]
+
 ghost use Rattle.std.specs.Prelude.{◌≡◌};
 ghost use Rattle.bmhd.specs.Header.{sizes_at, bitmap_header, bmhd_of};
 

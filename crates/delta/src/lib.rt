@@ -1,5 +1,6 @@
 // The delta of a frame, DLTA of method 2, 3, 5 or 7: checked whole, then drawn.
 #![tactic(auto)]
+
 ghost use Rattle.std.specs.Prelude.{◌≡◌, ◌*◌, ◌<◌, ◌≤◌, length, replicate};
 ghost use Rattle.delta.specs.Reading.{bytes_in_plane, column_shape, word_shape, shape_of};
 ghost use Rattle.delta.specs.Column.{read_columns};

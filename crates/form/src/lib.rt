@@ -1,5 +1,6 @@
 // FORM ANIM: where it ends, and the frames in it.
 #![tactic(auto)]
+
 ghost use Rattle.std.specs.Prelude.{◌≡◌};
 ghost use Rattle.form.specs.Form.{anim_end, outer_of, next_form, form_of};
 

@@ -1,5 +1,6 @@
 // The next frame of an animation: its header, and where its delta and its colours stand.
 #![tactic(auto)]
+
 ghost use Rattle.std.specs.Prelude.{◌≡◌, ℕ, ◌+◌, ◌≤◌, length, List};
 ghost use Rattle.std.proofs.Math.Option.{some};
 ghost use Rattle.iff.specs.Chunk.{found_of};

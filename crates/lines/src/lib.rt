@@ -1,5 +1,6 @@
 // The lines of a listing, as text in a lent buffer.
 #![tactic(auto)]
+
 ghost use Rattle.std.specs.Prelude.{[], ◌∷◌, ◌++◌, ◌≤◌, min, length};
 ghost use Rattle.lines.specs.Lines.{decimal, newline, picture_line, frame_line, line_of, Adds};
 

@@ -4,6 +4,7 @@ use Prim.Native.Nat.{ℕ, zero, suc, ◌+◌, ◌-◌, ◌<◌, ◌≤◌}
 use native.Mathlib.Omega.{arith}
 use mathlib.Core.List.{List, [], ◌∷◌, ◌++◌, append_assoc, append-nil}
 use mathlib.Core.Path.{◌≡◌, refl, sym, ap, ◌∙◌}
+use lib.Dec.{leb, ltb}
 use lib.ListN.{length, take, drop, take-append-drop, drop_of_length-le}
 use lib.Seq.{length-take-le}
 use borrow.Author.Tests.{leb-true, ltb-true, eqb-true}
@@ -29,11 +30,11 @@ record ReadRun (least room : ℕ) (s : List ℕ) (f : FirstRun) : Type 0 where
 run_read : (least room : ℕ) (s : List ℕ) → Bytes s → All (ReadRun least room s) (read_run least room s)
 unfolding read_run run_bytes
 run_read least room s y =
-    all_bind (all_self _) λ g eg. all_given _ _ λ a.
-    all_bind (all_self _) λ n en. all_given _ _ λ b. all_given _ _ λ c. all_given _ _ λ d.
+    all_bind (all_self _) λ g eg. all_given (leb least g.value) _ λ a.
+    all_bind (all_self _) λ n en. all_given (ltb 0 n.value) _ λ b. all_given (leb (g.value + n.value) room) _ λ c. all_given (leb n.value (length n.rest)) _ λ d.
     let yg : Bytes g.rest = rest_bytes s g y eg in
     let l : length (take n.value n.rest) ≡ n.value = length-take-le n.value n.rest (leb-true _ _ d) in
-    all_some (record {
+    all_some {a = record { run = record { gap = g.value; bytes = take n.value n.rest }; rest = drop n.value n.rest }} (record {
       is = write_read s g y eg ∙ rw (l, append_assoc, append_assoc, take-append-drop n.value n.rest, ← (write_read g.rest n yg en));
       rest = bytes_drop n.value n.rest (rest_bytes g.rest n yg en);
       least_gap = leb-true _ _ a;

@@ -1,5 +1,6 @@
 // One row of one plane of the shown picture.
 #![tactic(auto)]
+
 ghost use Rattle.std.specs.Prelude.{◌≡◌, length};
 ghost use Rattle.shown.specs.Row.{row_place, row_of, place_of};
 

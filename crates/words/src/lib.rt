@@ -1,5 +1,6 @@
 // States as numbers of eight bytes, the lowest byte first, read from lent buffers.
 #![tactic(auto)]
+
 ghost use Rattle.std.specs.Prelude.{◌≡◌, ◌+◌, ◌<◌, ◌≤◌, length, get_or, take, drop};
 ghost use Rattle.laws.specs.Bytes.{word_of};
 ghost use Rattle.words.specs.Words.{le64, read_state};

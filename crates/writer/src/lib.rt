@@ -1,5 +1,6 @@
 // The writer of method 5 deltas: what turns one frame into another.
 #![tactic(auto)]
+
 mod plane;
 
 ghost use Rattle.std.specs.Prelude.{◌≡◌, ◌+◌, ◌*◌, ◌≤◌, length, eqb, ltb};

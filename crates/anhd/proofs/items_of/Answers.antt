@@ -3,7 +3,7 @@ use borrow.Author.Tests.{eq-eqb, ne_eqb}
 use Rattle.anhd.proofs.items_of.Goals as goal
 
 pub returns-then-bits-eq1 : goal.returns-then-bits-eq1
-returns-then-bits-eq1 c = simp (ne_eqb _ _ c.in_default-own.rest.0.0.1, ne_eqb _ _ c.in_default-own.rest.0.1, ne_eqb _ _ c.in_default-own.rest.1, eq-eqb _ _ c.if-bits-eq1.true)
+returns-then-bits-eq1 c = simp (ne_eqb _ _ c.in_default.in_default-own.rest.0.0.1, ne_eqb _ _ c.in_default.in_default-own.rest.0.1, ne_eqb _ _ c.in_default.in_default-own.rest.1, eq-eqb _ _ c.if-bits-eq1.true)
 
 pub returns-in-2 : goal.returns-in-2
 returns-in-2 c = rw c.in-2.is
@@ -15,4 +15,4 @@ pub returns-in-5 : goal.returns-in-5
 returns-in-5 c = rw c.in-5.is
 
 pub returns-else-bits-eq1 : goal.returns-else-bits-eq1
-returns-else-bits-eq1 c = simp (ne_eqb _ _ c.in_default-own.rest.0.0.1, ne_eqb _ _ c.in_default-own.rest.0.1, ne_eqb _ _ c.in_default-own.rest.1, ne_eqb _ _ c.if-bits-eq1.false)
+returns-else-bits-eq1 c = simp (ne_eqb _ _ c.in_default.in_default-own.rest.0.0.1, ne_eqb _ _ c.in_default.in_default-own.rest.0.1, ne_eqb _ _ c.in_default.in_default-own.rest.1, ne_eqb _ _ c.if-bits-eq1.false)

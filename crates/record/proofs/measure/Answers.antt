@@ -1,0 +1,58 @@
+-- `record::measure`: what is passed and what is left, from here, come to the whole.
+use Prim.Native.Nat.{ℕ, ◌+◌, ◌-◌, ◌*◌, ◌≤◌}
+use mathlib.Core.List.{List, []}
+use mathlib.Core.Path.{◌≡◌}
+use lib.ListN.{length, drop}
+use Rattle.number.specs.Number.{write_number}
+use Rattle.laws.proofs.ResultLaws.{told}
+use Rattle.runs.specs.Runs.{runs_of, change_of}
+use Rattle.runs.proofs.NextLaws.{RunAhead, ahead_of, none_ahead}
+use Rattle.record.specs.RunList.{runs_bytes}
+use Rattle.record.proofs.RunLaws.{ahead_bytes_length}
+use borrow.Author.Rules.{rules}
+use native.Mathlib.Omega.{arith}
+use Rattle.record.proofs.measure.Invariants.{Measuring}
+use Rattle.record.proofs.measure.Goals.{In-Run}
+use Rattle.record.proofs.measure.Goals as goal
+
+module _ {old new : List ℕ} {at bytes : ℕ} (m : Measuring old new at bytes) where
+  more : {gap count size : ℕ} → RunAhead old new at gap count → (size ≡ length (write_number gap) + length (write_number count) + count) × (size ≤ 10 + count)
+      → Measuring old new (at + (gap + count)) (bytes + size)
+  more a s = record {
+    inside = a.inside;
+    short = omega (arith, m.short, a.filled, s.1);
+    left = omega (arith, m.left, ahead_bytes_length a, s.0);
+  }
+
+  all : runs_of (drop at old) (drop at new) ≡ [] → bytes ≡ length (runs_bytes (runs_of old new))
+  unfolding runs_bytes
+  all e = omega (arith, rw e at m.left)
+
+ahead : (c : In-Run) → RunAhead c.args.old.now c.args.new.now c.loop-gap.at c.in-Run.gap c.in-Run.count
+ahead c = ahead_of _ _ _ _ _ (told change_of c.next_run-c.ensures c.in-Run.is)
+
+pub loop-gap-init : goal.loop-gap-init
+loop-gap-init c = record { inside = omega arith; short = omega arith; left = omega arith }
+
+pub returns-in-Nothing : goal.returns-in-Nothing
+returns-in-Nothing c =
+    all c.loop-gap.invariant (none_ahead _ _ _ c.requires.0 (told change_of c.next_run-c.ensures c.in-Nothing.is))
+
+pub run_length-bytes-requires : goal.run_length-bytes-requires
+run_length-bytes-requires c = omega (arith, (ahead (goal.at.run_length-bytes-requires c).In-Run).inside)
+
+pub overflow_add-bytes : goal.overflow_add-bytes
+overflow_add-bytes c = omega (arith, (ahead (goal.at.overflow_add-bytes c).In-Run).inside)
+
+pub overflow_add-at : goal.overflow_add-at
+overflow_add-at c = omega (arith, (ahead (goal.at.overflow_add-at c).In-Run).inside)
+
+pub overflow_add-at-in-Run : goal.overflow_add-at-in-Run
+overflow_add-at-in-Run c = omega (arith, (ahead (goal.at.overflow_add-at-in-Run c).In-Run).inside)
+
+pub loop-gap-smaller : goal.loop-gap-smaller
+loop-gap-smaller c = omega (arith, (ahead (goal.at.loop-gap-smaller c).In-Run).inside, (ahead (goal.at.loop-gap-smaller c).In-Run).filled)
+
+pub loop-gap-preserved : goal.loop-gap-preserved
+loop-gap-preserved c =
+    more c.loop-gap.invariant (ahead (goal.at.loop-gap-preserved c).In-Run) c.run_length-bytes.ensures

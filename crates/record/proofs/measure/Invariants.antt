@@ -1,0 +1,26 @@
+-- `record::measure`: what is passed and what is left, from here, come to the whole.
+use Prim.Native.Nat.{ℕ, ◌+◌, ◌-◌, ◌*◌, ◌≤◌}
+use mathlib.Core.List.{List, []}
+use mathlib.Core.Path.{◌≡◌}
+use lib.ListN.{length, drop}
+use Rattle.number.specs.Number.{write_number}
+use Rattle.laws.proofs.ResultLaws.{told}
+use Rattle.runs.specs.Runs.{runs_of, change_of}
+use Rattle.runs.proofs.NextLaws.{RunAhead, ahead_of, none_ahead}
+use Rattle.record.specs.RunList.{runs_bytes}
+use Rattle.record.proofs.RunLaws.{ahead_bytes_length}
+use borrow.Author.Rules.{rules}
+use native.Mathlib.Omega.{arith}
+use Rattle.record.proofs.measure.Given as goal
+
+-- the loop's invariant
+pub record Measuring (old new : List ℕ) (at bytes : ℕ) : Type 0 where
+  pub inside : at ≤ length old
+  pub short : bytes ≤ 11 * at
+  pub left : bytes + length (runs_bytes (runs_of (drop at old) (drop at new))) ≡ length (runs_bytes (runs_of old new))
+
+abbrev pub invariant-loop-gap : goal.invariant-loop-gap
+invariant-loop-gap l = Measuring l.old l.new l.at l.bytes
+
+abbrev pub decreases-loop-gap : goal.decreases-loop-gap
+decreases-loop-gap l = length l.old - l.at

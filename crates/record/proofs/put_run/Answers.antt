@@ -1,0 +1,13 @@
+-- `record::put_run`: the gap, the count and the old bytes are put one after the other.
+use native.Mathlib.Omega.{arith}
+use Rattle.record.proofs.RunLaws.{run_put}
+use borrow.Author.Rules.{rules}
+use Rattle.record.proofs.put_run.Goals as goal
+
+pub replace-requires : goal.replace-requires
+replace-requires c =
+    (omega (arith, c.requires.3, c.put_number-count_at.ensures.place, c.put_number-count_at.ensures.size, c.put_number-bytes_at.ensures.place, c.put_number-bytes_at.ensures.size), c.requires.2)
+
+pub returns : goal.returns
+returns c =
+    run_put c.args.gap c.args.start c.args.count _ c.requires.2 c.put_number-count_at.ensures c.put_number-bytes_at.ensures c.replace.ensures

@@ -1,0 +1,23 @@
+-- `writer::lists_length`: what is counted and what is left, from here, come to the whole.
+use native.Mathlib.Omega.{arith}
+use Prim.Native.Nat.{ℕ, ◌+◌, ◌-◌, ◌*◌, ◌≤◌, ◌<◌}
+use mathlib.Core.List.{List}
+use mathlib.Core.Path.{◌≡◌}
+use lib.ListN.{length}
+use Rattle.column_writer.proofs.CountLaws.{Counting, counting, counting_more, counting_last}
+use Rattle.writer.specs.Write.{plane_bytes, lists_bytes}
+use Rattle.writer.proofs.PlaneLaws.{Walking, walking, walking_more, walking_plane, lists_parts, lists_none}
+use borrow.Author.Rules.{rules}
+use Rattle.writer.proofs.lists_length.Given as goal
+
+-- the loop's invariant
+pub record Lists (old new : List ℕ) (row height planes sum at left : ℕ) : Type 0 where
+  pub walk : Walking row height planes at left
+  pub small : sum + left * 393344 ≤ 3146752
+  pub rest : Counting (lists_bytes old new row height planes 0) sum (lists_bytes old new row height left at)
+
+abbrev pub invariant-loop-left : goal.invariant-loop-left
+invariant-loop-left l = Lists l.old l.new l.row l.height l.planes l.sum l.at l.left
+
+abbrev pub decreases-loop-left : goal.decreases-loop-left
+decreases-loop-left l = l.left
