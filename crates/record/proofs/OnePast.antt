@@ -4,9 +4,10 @@ use Prim.Native.Nat.{ℕ}
 use mathlib.Core.List.{List}
 use mathlib.Core.Logic.{◌↔◌}
 use mathlib.Core.Path.{◌≡◌, sym, ap, ◌∙◌}
+use lib.Dec.{leb, ltb, eqb}
 use borrow.Author.Tests.{eqb-true}
 use Rattle.laws.specs.Bytes.{Bytes}
-use Rattle.laws.specs.Result.{Res, Res.ok, ◌>>=◌, or_refuse}
+use Rattle.laws.specs.Result.{Res, Res.ok, ◌>>=◌, need, or_refuse}
 use Rattle.laws.proofs.ResultLaws.{Each, Each.each, each_need, each_bind, each_of, each_is, ok_same}
 use Rattle.record.specs.Record.{record_bytes, Past, past_of, restored}
 use Rattle.record.proofs.ReadLaws.{record_read}
@@ -17,8 +18,11 @@ pub restored_read : (bytes shown map : List ℕ) (frame next : ℕ) → Bytes by
 unfolding restored
 restored_read bytes shown map frame next y =
     each_bind (each_of 61 (record_read bytes shown map y)) λ p r.
-    each_need _ 62 _ λ _. each_need _ 62 _ λ e. each_need _ 62 _ λ _. each_need _ 62 _ λ _.
-    each (r ∙ ap (λ (n : ℕ). record_bytes n p.place p.picture shown p.map map) (eqb-true _ _ e))
+    let placed : Unit {0} → Res Past = λ _. need (ltb p.place next) 62 >>= λ _. ok p in
+    let past : Unit {0} → Res Past = λ _. need (leb 12 p.place) 62 >>= placed in
+    let framed : Unit {0} → Res Past = λ _. need (eqb p.frame frame) 62 >>= past in
+    each_need (leb 2 p.frame) 62 framed λ _. each_need (eqb p.frame frame) 62 past λ e. each_need (leb 12 p.place) 62 placed λ _. each_need (ltb p.place next) 62 (λ _. ok p) λ _.
+    each {a = p} (r ∙ ap (λ (n : ℕ). record_bytes n p.place p.picture shown p.map map) (eqb-true p.frame frame e))
 
 module _ (shown map : List ℕ) (frame next : ℕ) {bytes bytes' : List ℕ} {p p' : Past} (y : Bytes bytes) (y' : Bytes bytes')
     (e : restored bytes shown map frame next ≡ ok p) (e' : restored bytes' shown map frame next ≡ ok p') where

@@ -4,7 +4,7 @@ use Prim.Native.Nat.{ℕ, zero, suc, ◌+◌, ◌-◌, ◌<◌, ◌≤◌}
 use native.Mathlib.Omega.{arith}
 use mathlib.Core.List.{List, [], ◌∷◌, ◌++◌, append_assoc, append-nil}
 use mathlib.Core.Path.{◌≡◌, refl, sym, ap, ◌∙◌}
-use lib.Dec.{leb, ltb}
+use lib.Dec.{leb, ltb, eqb}
 use lib.ListN.{length, take, drop, take-append-drop, drop_of_length-le}
 use lib.Seq.{length-take-le}
 use borrow.Author.Tests.{leb-true, ltb-true, eqb-true}
@@ -87,7 +87,7 @@ unfolding past_of record_bytes picture_bytes map_bytes
 record_read bytes shown map y =
     all_bind (all_self _) λ f ef. all_bind (all_self _) λ p ep.
     let yf : Bytes f.rest = rest_bytes bytes f y ef in
-    all_bind (led_back_lem p.rest shown (rest_bytes f.rest p yf ep)) λ b r. all_bind (led_back_lem b.rest map r.rest) λ c q. all_given _ _ λ z.
-    let e : c.rest ≡ [] = drop_of_length-le c.rest {i = 0} (omega (arith, eqb-true _ _ z)) in
+    all_bind (led_back_lem p.rest shown (rest_bytes f.rest p yf ep)) λ b r. all_bind (led_back_lem b.rest map r.rest) λ c q. all_given (eqb (length c.rest) 0) _ λ z.
+    let e : c.rest ≡ [] = drop_of_length-le c.rest {i = 0} (omega (arith, eqb-true (length c.rest) 0 z)) in
     let i : b.rest ≡ list_bytes (runs_of c.buffer map) = q.is ∙ rw (e, append-nil) in
     all_some (simp append_assoc (write_read bytes f y ef ∙ rw (← i, ← r.is, ← (write_read f.rest p yf ep))))

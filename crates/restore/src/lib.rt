@@ -1,5 +1,6 @@
 // Step records put back: read, checked whole, then restored into the shown picture and the map, all or nothing.
 #![tactic(auto)]
+
 ghost use Rattle.std.specs.Prelude.{◌≡◌, ◌+◌, ◌≤◌, length, take, drop};
 ghost use Rattle.runs.specs.Runs.{differ};
 ghost use Rattle.record.specs.RunList.{read_runs, read_list};

@@ -1,5 +1,6 @@
 // States and reports as numbers of eight bytes, the lowest byte first, written into lent buffers.
 #![tactic(auto)]
+
 ghost use Rattle.std.specs.Prelude.{[], ◌∷◌, ◌≡◌, ◌+◌, ◌≤◌, length};
 ghost use Rattle.laws.specs.Put.{Put};
 ghost use Rattle.words.specs.Words.{le32_bytes, le64_bytes, state_words, report_words, lay};

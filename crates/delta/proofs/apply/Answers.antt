@@ -11,7 +11,7 @@ shape_of-requires-in-Next c =
 
 pub take_delta-requires : goal.take_delta-requires
 take_delta-requires c =
-    planes_for c.check-checked.ensures c.in-Next.is c.shape_of.ensures c.copy_long.auto.0
+    planes_for c.check-checked.ensures c.in-Next.is c.shape_of.ensures c.copy_long.auto.dst
 
 pub returns-in-Refused : goal.returns-in-Refused
 returns-in-Refused c =
@@ -19,4 +19,4 @@ returns-in-Refused c =
 
 pub returns-in-Next : goal.returns-in-Next
 returns-in-Next c =
-    applies_drawn refl c.check-checked.ensures c.in-Next.is c.shape_of.ensures (λ _ n. c.copy_long.ensures ∙ over_whole _ _ (c.check-checked.auto.0 ∙ sym n)) c.take_delta.ensures
+    applies_drawn refl c.check-checked.ensures c.in-Next.is c.shape_of.ensures (λ _ n. c.copy_long.ensures ∙ over_whole _ _ (c.check-checked.auto.work ∙ sym n)) c.take_delta.ensures

@@ -12,7 +12,7 @@ shape_of-requires-in-Next c =
 
 pub take_delta-requires : goal.take_delta-requires
 take_delta-requires c =
-    planes_for c.check-checked.ensures c.in-Next.is c.shape_of.ensures c.fill.auto.0
+    planes_for c.check-checked.ensures c.in-Next.is c.shape_of.ensures c.fill.auto.dst
 
 pub returns-in-Refused : goal.returns-in-Refused
 returns-in-Refused c =

@@ -28,7 +28,7 @@ overflow_add-place c =
 
 pub loop-left-preserved : goal.loop-left-preserved
 loop-left-preserved c =
-    (omega arith, c.take_column-t.auto.0 ∙ c.loop-left.invariant.1, columns_next c.loop-left.invariant.2 c.loop-left-test.true, walked_more c.loop-left.invariant.3 (took_next c.take_column-t.ensures c.in-Next.is) (λ ops. columns_more c.args.shape c.args.d.now c.loop-left.left c.loop-left.place c.loop-left-test.true (reading c.loop-left.at ops)) (omega arith))
+    (omega arith, c.take_column-t.auto.frame ∙ c.loop-left.invariant.1, columns_next c.loop-left.invariant.2 c.loop-left-test.true, walked_more c.loop-left.invariant.3 (took_next c.take_column-t.ensures c.in-Next.is) (λ ops. columns_more c.args.shape c.args.d.now c.loop-left.left c.loop-left.place c.loop-left-test.true (reading c.loop-left.at ops)) (omega arith))
 
 pub returns : goal.returns
 returns c =

@@ -31,7 +31,7 @@ overflow_add-plane c =
 
 pub loop-plane-preserved : goal.loop-plane-preserved
 loop-plane-preserved c =
-    (omega arith, c.take_plane-t.auto.0 ∙ c.loop-plane.invariant.1, walked_more c.loop-plane.invariant.2 (took_next c.take_plane-t.ensures c.in-Next.is) (λ ops. planes_more c.args.shape c.args.d.now c.args.shape.planes c.loop-plane.plane c.loop-plane-test.true (reading c.loop-plane.at ops)) (omega arith))
+    (omega arith, c.take_plane-t.auto.frame ∙ c.loop-plane.invariant.1, walked_more c.loop-plane.invariant.2 (took_next c.take_plane-t.ensures c.in-Next.is) (λ ops. planes_more c.args.shape c.args.d.now c.args.shape.planes c.loop-plane.plane c.loop-plane-test.true (reading c.loop-plane.at ops)) (omega arith))
 
 pub returns : goal.returns
 returns c =

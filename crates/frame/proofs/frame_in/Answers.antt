@@ -17,7 +17,9 @@ finds : (f : After-find_three-p) → FindsThree (take f.args.len (drop f.args.st
 finds f = rw add-sub_cancel_left at f.find_three-p.ensures
 
 cmap : (m : After-or_empty-cmap) → or_empty (find (take m.args.len (drop m.args.start m.args.anim.now)) CMAP) ≡ record { start = m.or_empty-cmap.result.start; size = m.or_empty-cmap.result.len }
-cmap m = rw (finds m.before).third at m.or_empty-cmap.ensures
+cmap m =
+    let f : FindsThree (take m.args.len (drop m.args.start m.args.anim.now)) ANHD DLTA CMAP m.find_three-p.result = rw add-sub_cancel_left at m.find_three-p.ensures in
+    rw f.third at m.or_empty-cmap.ensures
 
 pub overflow_add-stop : goal.overflow_add-stop
 overflow_add-stop c =

@@ -28,7 +28,7 @@ returns-in-Refused c =
 
 pub loop-left-preserved : goal.loop-left-preserved
 loop-left-preserved c =
-    (omega arith, c.draw_taken-t.auto.0 ∙ c.loop-left.invariant.1, walked_more c.loop-left.invariant.2 (took_next (op_walked c.args.shape c.args.d.now 1 (read_op c.args.shape c.args.d.now) c.loop-left.at (rw c.requires.0.columns) c.args.drawing c.loop-left.frame c.args.base c.take_op-op.result c.take_op-op.ensures c.draw_taken-t.ensures) c.in-Next.is) (λ ops. ops_more c.args.shape c.args.d.now c.args.base c.loop-left.left c.loop-left-test.true (reading c.loop-left.at ops)) (omega arith))
+    (omega arith, c.draw_taken-t.auto.frame ∙ c.loop-left.invariant.1, walked_more c.loop-left.invariant.2 (took_next (op_walked c.args.shape c.args.d.now 1 (read_op c.args.shape c.args.d.now) c.loop-left.at (rw c.requires.0.columns) c.args.drawing c.loop-left.frame c.args.base c.take_op-op.result c.take_op-op.ensures c.draw_taken-t.ensures) c.in-Next.is) (λ ops. ops_more c.args.shape c.args.d.now c.args.base c.loop-left.left c.loop-left-test.true (reading c.loop-left.at ops)) (omega arith))
 
 pub returns : goal.returns
 returns c =

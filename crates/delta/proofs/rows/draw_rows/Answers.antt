@@ -37,6 +37,9 @@ overflow_add-to c = omega (arith, items_run (goal.at.overflow_add-to c).Then-cou
 pub slice_bounds-copy-end : goal.slice_bounds-copy-end
 slice_bounds-copy-end c = rows_run (goal.at.slice_bounds-copy-end c).Then-count-gt1
 
+pub slice_bounds-copy-end-then-count-gt1 : goal.slice_bounds-copy-end-then-count-gt1
+slice_bounds-copy-end-then-count-gt1 c = items_run (goal.at.slice_bounds-copy-end-then-count-gt1 c).Then-count-gt1
+
 pub returns-then-count-gt1 : goal.returns-then-count-gt1
 returns-then-count-gt1 c =
     rw (not-false c.args.drawing c.if-not-drawing.false-raw, c.if-row-item.true, c.if-step-item.true) (lent_copy _ _ _ _ _ _ (rows_run (goal.at.returns-then-count-gt1 c).Then-count-gt1) (items_run (goal.at.returns-then-count-gt1 c).Then-count-gt1) c.copy.ensures ∙ sym (put_beside c.args.shape.item c.args.d.now c.args.count c.args.from c.args.place c.args.frame.now (items_run (goal.at.returns-then-count-gt1 c).Then-count-gt1)))

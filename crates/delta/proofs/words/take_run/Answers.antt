@@ -2,10 +2,10 @@
 use Prim.Native.Nat.{◌+◌, ◌-◌, ◌≤◌}
 use native.Mathlib.Nat.{mul-le-mul_left}
 use native.Mathlib.Omega.{arith}
-use mathlib.Core.Logic.{⊎_elim}
 use mathlib.Core.Path.{◌≡◌}
 use Rattle.delta.proofs.WordLaws.{run_past, run_short, run_read}
 use borrow.Author.Rules.{rules}
+use Rattle.delta.proofs.words.take_run.Goals.{then-count-eq0, else-count-eq0}
 use Rattle.delta.proofs.words.take_run.Goals as goal
 
 pub returns-then-shape-line : goal.returns-then-shape-line
@@ -22,5 +22,5 @@ returns-then-d-from c =
 pub returns : goal.returns
 returns c =
     let l : c.args.line + c.args.count ≤ c.args.shape.height = omega arith in
-    let last : c.if-count-eq0.new ≡ c.args.line + (c.args.count - 1) = ⊎_elim (λ w. omega arith) (λ w. omega arith) c.if-count-eq0.branch in
+    let last : c.if-count-eq0.last ≡ c.args.line + (c.args.count - 1) = elim c.if-count-eq0.branch [ then-count-eq0 w ↦ omega arith | else-count-eq0 w ↦ omega arith ] in
     run_read c.args.shape c.args.d.now c.args.c c.args.line c.args.from c.args.count l c.requires.2 (omega arith) c.requires.1 (rw last)

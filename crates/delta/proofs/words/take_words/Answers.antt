@@ -46,4 +46,4 @@ pub loop-at-preserved : goal.loop-at-preserved
 loop-at-preserved c =
     let h : c.loop-at.at.op + 2 ≤ length c.args.d.now = omega (arith, c.loop-at.invariant.1, c.if-d-at-lt2.false) in
     let w = took_next (word_walked c.requires.4 c.args.base c.number16-offset.result c.loop-at.at c.args.drawing c.loop-at.frame c.take_op-op.result c.take_op-op.ensures c.draw_taken-t.ensures) c.in-Next.is in
-    (c.draw_taken-t.auto.0 ∙ c.loop-at.invariant.0, (word_further c.requires.4 c.args.base c.number16-offset.result c.loop-at.at w).1, walked_more c.loop-at.invariant.2 w (λ ops. words_more c.args.shape c.args.d.now c.args.base (reading c.loop-at.at ops) h c.number16-offset.ensures.0 c.if-offset-eq65535.false) (omega arith))
+    (c.draw_taken-t.auto.frame ∙ c.loop-at.invariant.0, (word_further c.requires.4 c.args.base c.number16-offset.result c.loop-at.at w).1, walked_more c.loop-at.invariant.2 w (λ ops. words_more c.args.shape c.args.d.now c.args.base (reading c.loop-at.at ops) h c.number16-offset.ensures.0 c.if-offset-eq65535.false) (omega arith))
