@@ -1,6 +1,7 @@
 // Opening: both picture buffers get the first picture of a file, and the map its colours. The length of its frame can be asked before, by
 // `frame_size`.
 #![tactic(auto)]
+
 ghost use Rattle.std.specs.Prelude.{◌≡◌, length};
 ghost use Rattle.opening.specs.declared.Opening.TheVariants.{Refused};
 ghost use Rattle.state.specs.State.{zeros};

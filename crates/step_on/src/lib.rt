@@ -1,5 +1,6 @@
 // Stepping on: what lies ahead is looked for and built, then recorded and shown.
 #![tactic(auto)]
+
 ghost use Rattle.std.specs.Prelude.{◌≡◌, length, take};
 ghost use Rattle.state.specs.After.{lent};
 ghost use Rattle.colours.specs.Colours.{MAP};

@@ -1,0 +1,17 @@
+-- `restore::take_runs`: each turn takes the next run of the definition's list.
+use native.Mathlib.Omega.{arith}
+use Prim.Native.Nat.{◌-◌}
+use lib.ListN.{length, drop}
+use mathlib.Core.Path.{subst}
+use borrow.Author.Tests.{not-true, not-false}
+use Rattle.record.specs.RunList.{read_runs}
+use Rattle.restore.specs.Walk.{RunAt, RunFound}
+use Rattle.restore.proofs.TakeLaws.{Taking, take_starts, take_ends, take_faulty, take_equal, take_more}
+use borrow.Author.Rules.{rules}
+use Rattle.restore.proofs.take_runs.Given as goal
+
+abbrev pub invariant-loop-left : goal.invariant-loop-left
+invariant-loop-left l = Taking l.putting l.bytes l.initial.shown (read_runs l.count 0 (length l.initial.shown) (drop l.from l.bytes)) l.shown l.at l.place l.least l.left
+
+abbrev pub decreases-loop-left : goal.decreases-loop-left
+decreases-loop-left l = l.left
