@@ -1,6 +1,7 @@
 // The C interface: each function calls one of the library's, on numbers and byte slices. The order of arguments is one: numbers,
 // the file, the state, A, B and the map, the work buffer, the record or the output, the report or the length.
 #![tactic(auto)]
+
 ghost use Rattle.std.specs.Prelude.{◌≡◌, ◌&&◌, eqb, length};
 ghost use Rattle.shown.specs.Row.{place_of};
 ghost use Rattle.anim.specs.Export.{OpensC, HandsOn, StepsOnC, StepsBackC, row_c, number_or, place_or, sizes_in, WritesC, SizesC};
@@ -58,8 +59,8 @@ pub extern "C" fn anim_open(
     b: &mut [u8],
     map: &mut [u8],
 ) -> u64
-    ensures { OpensC file.now (record { state = state.entry.now; a = a.old; b = b.old; map = map.old }) result
-        (record { state = state.exit.now; a = a.new; b = b.new; map = map.new }) }
+    ensures { OpensC file.now (record { state = state.old; a = a.old; b = b.old; map = map.old }) result
+        (record { state = state.new; a = a.new; b = b.new; map = map.new }) }
 {
     if state.len() != 48 {
         return wrong_length();
@@ -103,13 +104,13 @@ pub extern "C" fn anim_step_on(
 ) -> u64
     ensures { StepsOnC file.now
         (record {
-          world = record { state = state.entry.now; a = a.old; b = b.old; map = map.old };
+          world = record { state = state.old; a = a.old; b = b.old; map = map.old };
           work = work.old;
           rec = rec.old;
           report = report.old;
         }) result
         (record {
-          world = record { state = state.exit.now; a = a.new; b = b.new; map = map.new };
+          world = record { state = state.new; a = a.new; b = b.new; map = map.new };
           work = work.new;
           rec = rec.new;
           report = report.new;
@@ -131,8 +132,8 @@ pub extern "C" fn anim_step_back(
     map: &mut [u8],
     rec: &[u8],
 ) -> u64
-    ensures { StepsBackC (record { state = state.entry.now; a = a.old; b = b.old; map = map.old }) rec.now result
-        (record { state = state.exit.now; a = a.new; b = b.new; map = map.new }) }
+    ensures { StepsBackC (record { state = state.old; a = a.old; b = b.old; map = map.old }) rec.now result
+        (record { state = state.new; a = a.new; b = b.new; map = map.new }) }
 {
     if state.len() != 48 {
         return wrong_length();
@@ -193,8 +194,8 @@ pub extern "C" fn anim_write_delta(
     out: &mut [u8],
     len: &mut [u8],
 ) -> u64
-    ensures { WritesC (sizes_in width height planes) old.now new.now (record { out = out.entry.now; len = len.old }) result
-        (record { out = out.exit.now; len = len.new }) }
+    ensures { WritesC (sizes_in width height planes) old.now new.now (record { out = out.old; len = len.old }) result
+        (record { out = out.new; len = len.new }) }
 {
     if len.len() != 8 {
         return wrong_length();

@@ -1,5 +1,6 @@
 // The listing of a file: what document 01 has the listing program write.
 #![tactic(auto)]
+
 ghost use Rattle.std.specs.Prelude.{◌&&◌, ◌≡◌, leb, length};
 ghost use Rattle.lines.specs.Lines.{line_of};
 ghost use Rattle.state.specs.After.{lent};
@@ -58,9 +59,9 @@ fn list_frames(
     out: &mut [u8],
 ) -> usize
     ensures { Lists (list_frames file.now (length work.old) (length rec.old)
-        (begun (lent a.entry.now b.old map.old start work.old rec.old)))
+        (begun (lent a.old b.old map.old start work.old rec.old)))
         out.old result
-        (record { a = a.exit.now; b = b.new; map = map.new; work = work.new; rec = rec.new }) out.new }
+        (record { a = a.new; b = b.new; map = map.new; work = work.new; rec = rec.new }) out.new }
 {
     let mut state = start;
     let sizes = start.sizes;
@@ -86,9 +87,9 @@ fn list_film(
     out: &mut [u8],
 ) -> usize
     ensures { Lists (list_film file.now
-        (record { a = a.entry.now; b = b.old; map = map.old; work = work.old; rec = rec.old }))
+        (record { a = a.old; b = b.old; map = map.old; work = work.old; rec = rec.old }))
         out.old result
-        (record { a = a.exit.now; b = b.new; map = map.new; work = work.new; rec = rec.new }) out.new }
+        (record { a = a.new; b = b.new; map = map.new; work = work.new; rec = rec.new }) out.new }
 {
     let o = opening::open(file, a, b, map);
     let state = o.state;
@@ -112,9 +113,9 @@ fn list_front(
 ) -> usize
     requires { Holds n (length a.old) (length b.old) (length map.old) (length work.old) (length rec.old) }
     ensures { Lists (list_front file.now n
-        (record { a = a.entry.now; b = b.old; map = map.old; work = work.old; rec = rec.old }))
+        (record { a = a.old; b = b.old; map = map.old; work = work.old; rec = rec.old }))
         out.old result
-        (record { a = a.exit.now; b = b.new; map = map.new; work = work.new; rec = rec.new }) out.new }
+        (record { a = a.new; b = b.new; map = map.new; work = work.new; rec = rec.new }) out.new }
 {
     list_film(
         file,
@@ -165,9 +166,9 @@ fn list_file(
 ) -> usize
     requires { Holds 16384 (length a.old) (length b.old) (length map.old) (length work.old) (length rec.old) }
     ensures { Lists (list_file file.now
-        (record { a = a.entry.now; b = b.old; map = map.old; work = work.old; rec = rec.old }))
+        (record { a = a.old; b = b.old; map = map.old; work = work.old; rec = rec.old }))
         out.old result
-        (record { a = a.exit.now; b = b.new; map = map.new; work = work.new; rec = rec.new }) out.new }
+        (record { a = a.new; b = b.new; map = map.new; work = work.new; rec = rec.new }) out.new }
 {
     let p = plan_for(file);
     match p {
@@ -207,9 +208,9 @@ pub fn list(
     out: &mut [u8],
 ) -> usize
     ensures { MeetsList file.now
-        (record { a = a.entry.now; b = b.old; map = map.old; work = work.old; rec = rec.old })
+        (record { a = a.old; b = b.old; map = map.old; work = work.old; rec = rec.old })
         out.old result
-        (record { a = a.exit.now; b = b.new; map = map.new; work = work.new; rec = rec.new }) out.new }
+        (record { a = a.new; b = b.new; map = map.new; work = work.new; rec = rec.new }) out.new }
 {
     if !long_enough(a.len(), b.len(), map.len(), work.len(), rec.len()) {
         return 0;

@@ -183,8 +183,8 @@ fn open_picture(
     b: &mut [u8],
     map: &mut [u8],
 ) -> OpenedFile
-    ensures { OpensFirst (first_of chunks.now body (length a.entry.now) (length b.old) (length map.old)) next end
-        a.entry.now b.old map.old result (record { a = a.exit.now; b = b.new; map = map.new; state = result.state }) }
+    ensures { OpensFirst (first_of chunks.now body (length a.old) (length b.old) (length map.old)) next end
+        a.old b.old map.old result (record { a = a.new; b = b.new; map = map.new; state = result.state }) }
 {
     let h = first_header(chunks, body);
     match h {
@@ -217,8 +217,8 @@ fn open_picture(
 
 // Opens a file: A and B get its first picture and the map its colours, all or nothing.
 pub fn open(file: &[u8], a: &mut [u8], b: &mut [u8], map: &mut [u8]) -> OpenedFile
-    ensures { MeetsOpen file.now a.entry.now b.old map.old result
-        (record { a = a.exit.now; b = b.new; map = map.new; state = result.state }) }
+    ensures { MeetsOpen file.now a.old b.old map.old result
+        (record { a = a.new; b = b.new; map = map.new; state = result.state }) }
 {
     let p = first_places(file);
     match p {

@@ -81,12 +81,11 @@ pub record TookBack (w : World) (bytes : List ℕ) (o : After) : Type 0 where
   pub world : o.world ≡ with_shown w past.picture past.map (moved w.state (w.state.frame - 1) past.place)
 
 pub took_back_lem : (w : World) (bytes : List ℕ) → (step_back w bytes).answer ≡ took_back → TookBack w bytes (step_back w bytes)
-unfolding step_back retreat
+unfolding step_back retreat settle_back
 took_back_lem w bytes = go (step_length w.state (length w.a) (length w.b) (length w.map)) (restored_in w bytes) (step_sound w.state (length w.a) (length w.b) (length w.map)) refl
   where
     go : (s : Res ℕ) (q : Res Past) → Each (SoundStep w.state (length w.a) (length w.b) (length w.map)) s → restored_in w bytes ≡ q
         → (settle_back w (s >>= λ _. q)).answer ≡ took_back → TookBack w bytes (settle_back w (s >>= λ _. q))
-    unfolding settle_back
     go (ok n) (ok p) (each k) e h = record { past = p; frame_least = k.lent.state.frame_least; restores = e; world = refl }
     go (ok n) (fault m) k e h = never (cc)
     go (fault n) q k e h = never (cc)

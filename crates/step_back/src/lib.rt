@@ -1,5 +1,6 @@
 // Stepping back: a record is put back, and the frame before is shown.
 #![tactic(auto)]
+
 ghost use Rattle.record.specs.Record.{restored};
 ghost use Rattle.restore.specs.Restored.{restored_of};
 ghost use Rattle.state.specs.World.{shown_in};
@@ -26,9 +27,9 @@ pub struct SteppedBack {
 
 // Puts a record back into the map and the shown buffer, A at an odd frame and B at an even one.
 fn restore_shown(state: State, a: &mut [u8], b: &mut [u8], map: &mut [u8], bytes: &[u8]) -> Restored
-    ensures { RestoresShown (record { a = a.entry.now; b = b.old; map = map.old; state = state })
-        (restored bytes.now (shown_in (record { a = a.entry.now; b = b.old; map = map.old; state = state }))
-        map.old state.frame state.next) (restored_of result) a.exit.now b.new map.new }
+    ensures { RestoresShown (record { a = a.old; b = b.old; map = map.old; state = state })
+        (restored bytes.now (shown_in (record { a = a.old; b = b.old; map = map.old; state = state }))
+        map.old state.frame state.next) (restored_of result) a.new b.new map.new }
 {
     let frame = state.frame;
     let next = state.next;
@@ -46,8 +47,8 @@ pub fn step_back(
     map: &mut [u8],
     bytes: &[u8],
 ) -> SteppedBack
-    ensures { MeetsBack (record { a = a.entry.now; b = b.old; map = map.old; state = state }) bytes.now result
-        (record { a = a.exit.now; b = b.new; map = map.new; state = result.state }) }
+    ensures { MeetsBack (record { a = a.old; b = b.old; map = map.old; state = state }) bytes.now result
+        (record { a = a.new; b = b.new; map = map.new; state = result.state }) }
 {
     let l = state.step_length(a.len(), b.len(), map.len());
     match l {

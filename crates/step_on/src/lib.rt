@@ -139,7 +139,7 @@ pub fn look_ahead(
     work: &mut [u8],
 ) -> Ahead
     ensures { Looks (take state.end file.now)
-        (look_ahead file.now (record { a = a.entry.now; b = b.now; map = map.now; state = state }) (length work.old))
+        (look_ahead file.now (record { a = a.now; b = b.now; map = map.now; state = state }) (length work.old))
         work.old result work.new }
 {
     let t = ready(file.len(), state, a.len(), b.len(), map.len(), work.len());
@@ -167,8 +167,8 @@ fn commit_hidden(
     rec: &mut [u8],
 ) -> Recorded
     requires { Fits state (length a.old) (length work.now) }
-    ensures { CommitsHidden (record { a = a.entry.now; b = b.old; map = map.old; state = state })
-        work.now cmap.now rec.old (recorded_of result) a.exit.now b.new map.new rec.new }
+    ensures { CommitsHidden (record { a = a.old; b = b.old; map = map.old; state = state })
+        work.now cmap.now rec.old (recorded_of result) a.new b.new map.new rec.new }
 {
     let frame = (state.frame + 1) as u32;
     let place = state.next as u32;
@@ -193,10 +193,10 @@ fn commit(
 ) -> SteppedOn
     requires { Fits state (length a.old) (length work.now) × Fits state (length b.old) (length work.now) × (length map.old ≡ MAP) }
     ensures { LeavesOn
-        (commit (record { a = a.entry.now; b = b.old; map = map.old; state = state }) (length rec.old)
+        (commit (record { a = a.old; b = b.old; map = map.old; state = state }) (length rec.old)
         (record { picture = work.now; next = next; header = header; ops = ops; cmap = cmap.now }))
-        (lent a.entry.now b.old map.old state work.now rec.old) result
-        (lent a.exit.now b.new map.new result.state work.now rec.new) }
+        (lent a.old b.old map.old state work.now rec.old) result
+        (lent a.new b.new map.new result.state work.now rec.new) }
 {
     let w = commit_hidden(state, cmap, a, b, map, work, rec);
     match w {

@@ -1,13 +1,13 @@
 -- `restore::differs`: the flag stands while the bytes passed so far differ.
 use Prim.Native.Nat.{◌+◌, ◌-◌, ◌<◌, ◌≤◌}
 use native.Mathlib.Omega.{arith}
-use mathlib.Core.Logic.{⊎_elim}
 use mathlib.Core.Path.{◌≡◌, refl, ◌∙◌}
 use borrow.Author.Tests.{eq-eqb, ne_eqb}
 use lib.ListN.{length, take, drop}
 use Rattle.runs.specs.Runs.{differ}
 use Rattle.restore.proofs.ReadLaws.{differs_on, differs_off}
 use borrow.Author.Rules.{rules}
+use Rattle.restore.proofs.differs.Goals.{then-bytes-start, else-bytes-start}
 use Rattle.restore.proofs.differs.Goals as goal
 
 pub loop-i-init : goal.loop-i-init
@@ -19,10 +19,10 @@ loop-i-preserved c =
     let h : c.args.start + c.loop-i.i < length c.args.bytes.now = omega arith in
     let k : c.args.to + c.loop-i.i < length c.args.shown.now = omega arith in (
       omega arith,
-      ⊎_elim
-          (λ w. w.1 ∙ differs_off _ _ _ _ _ h k (eq-eqb _ _ w.0.taken))
-          (λ w. w.1 ∙ c.loop-i.invariant.1 ∙ differs_on _ _ _ _ _ h k (ne_eqb _ _ w.0.left))
-          c.if-bytes-start.branch,
+      elim c.if-bytes-start.branch [
+        | then-bytes-start w ↦ w.all-is ∙ differs_off _ _ _ _ _ h k (eq-eqb _ _ w.if-bytes-start.true)
+        | else-bytes-start w ↦ w.all-is ∙ c.loop-i.invariant.1 ∙ differs_on _ _ _ _ _ h k (ne_eqb _ _ w.if-bytes-start.false)
+      ],
     )
 
 pub returns : goal.returns

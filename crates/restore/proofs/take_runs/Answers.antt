@@ -22,7 +22,7 @@ pub returns-in-Faulty : goal.returns-in-Faulty
 returns-in-Faulty c = take_faulty c.loop-left.invariant c.loop-left-test.true (subst (RunAt _ _ _ _) c.in-Faulty.is c.read_run-s.ensures)
 
 pub overflow_add-to : goal.overflow_add-to
-overflow_add-to c = omega (arith, (found (goal.at.overflow_add-to c).In-Whole).ranges)
+overflow_add-to c = omega (arith, (found (goal.at.overflow_add-to c).In-Whole).fits)
 
 pub take_run-requires : goal.take_run-requires
 take_run-requires c = ((found (goal.at.take_run-requires c).In-Whole).inside, omega (arith, (found (goal.at.take_run-requires c).In-Whole).fits))
@@ -32,7 +32,7 @@ returns-then-not-take_run c =
     take_equal c.loop-left.invariant c.loop-left-test.true (found (goal.at.returns-then-not-take_run c).In-Whole) c.take_run.ensures (not-true _ c.if-not-take_run.true-raw)
 
 pub overflow_add-place : goal.overflow_add-place
-overflow_add-place c = omega (arith, (found (goal.at.overflow_add-place c).In-Whole).ranges)
+overflow_add-place c = omega (arith, (found (goal.at.overflow_add-place c).In-Whole).fits)
 
 pub overflow_add-at : goal.overflow_add-at
 overflow_add-at c = omega (arith, (found (goal.at.overflow_add-at c).In-Whole).inside)
