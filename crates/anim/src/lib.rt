@@ -33,8 +33,7 @@ fn lengths_ok(state: usize, report: usize) -> bool
 }
 
 // Asks how long A and B must be for a file.
-#[unsafe(no_mangle)]
-pub extern "C" fn anim_frame_size(file: &[u8], size: &mut [u8]) -> u64
+pub fn anim_frame_size(file: &[u8], size: &mut [u8]) -> u64
     ensures { SizesC file.now size.old result size.new }
 {
     if size.len() != 8 {
@@ -51,8 +50,7 @@ pub extern "C" fn anim_frame_size(file: &[u8], size: &mut [u8]) -> u64
 }
 
 // Opens a file: state gets the state after its first picture, A and B that picture, and the map its colours.
-#[unsafe(no_mangle)]
-pub extern "C" fn anim_open(
+pub fn anim_open(
     file: &[u8],
     state: &mut [u8],
     a: &mut [u8],
@@ -91,8 +89,7 @@ fn hand_on(s: SteppedOn, state: &mut [u8], report: &mut [u8]) -> u64
 }
 
 // Steps on from the state in its slice.
-#[unsafe(no_mangle)]
-pub extern "C" fn anim_step_on(
+pub fn anim_step_on(
     file: &[u8],
     state: &mut [u8],
     a: &mut [u8],
@@ -124,8 +121,7 @@ pub extern "C" fn anim_step_on(
 }
 
 // Steps back from the state in its slice with a record.
-#[unsafe(no_mangle)]
-pub extern "C" fn anim_step_back(
+pub fn anim_step_back(
     state: &mut [u8],
     a: &mut [u8],
     b: &mut [u8],
@@ -160,8 +156,7 @@ fn row_in(plane: u64, row: u64, state: &[u8], a: &[u8], b: &[u8]) -> Place
 }
 
 // The place of a row of a plane in A or B, 0 if it is refused.
-#[unsafe(no_mangle)]
-pub extern "C" fn anim_row_place(plane: u64, row: u64, state: &[u8], a: &[u8], b: &[u8]) -> u64
+pub fn anim_row_place(plane: u64, row: u64, state: &[u8], a: &[u8], b: &[u8]) -> u64
     ensures { result ≡ place_or (row_c plane row state.now (length a.now) (length b.now)) }
 {
     let p = row_in(plane, row, state, a, b);
@@ -172,8 +167,7 @@ pub extern "C" fn anim_row_place(plane: u64, row: u64, state: &[u8], a: &[u8], b
 }
 
 // The number of the refusal of such a row, 0 if it isn't refused.
-#[unsafe(no_mangle)]
-pub extern "C" fn anim_row_refusal(plane: u64, row: u64, state: &[u8], a: &[u8], b: &[u8]) -> u64
+pub fn anim_row_refusal(plane: u64, row: u64, state: &[u8], a: &[u8], b: &[u8]) -> u64
     ensures { result ≡ number_or (row_c plane row state.now (length a.now) (length b.now)) }
 {
     let p = row_in(plane, row, state, a, b);
@@ -184,8 +178,7 @@ pub extern "C" fn anim_row_refusal(plane: u64, row: u64, state: &[u8], a: &[u8],
 }
 
 // Writes the delta that turns the old frame into the new one, and its length.
-#[unsafe(no_mangle)]
-pub extern "C" fn anim_write_delta(
+pub fn anim_write_delta(
     width: u64,
     height: u64,
     planes: u64,

@@ -1,44 +1,30 @@
 // Lists the ANIM file on standard input: its picture's sizes, a line for each frame, and how it ends. An input that can't be read
-// isn't listed; that is told on standard error, and so is an output that can't be written.
+// isn't listed; `main` returns that error, and that of an output that can't be written.
 #![tactic(auto)]
-ghost use Rattle.io.specs.Counts.{IsPrefixLen};
+
+ghost use Rattle.std.specs.Prelude.{◌≤◌, length, IfOk};
 
 use listing::list;
+use std::io;
+use std::io::{Read, Write};
 
-// How many bytes were read, and whether a read failed.
-#[derive(Drop)]
-struct Input {
-    length: usize,
-    failed: bool,
-}
-
-// Reads standard input to its end, until the buffer is full, or until a read fails.
-fn read_input(buf: &mut [u8]) -> Input
-    ensures { IsPrefixLen result.length buf.new }
+// Reads the input to its end, or until the buffer is full, and answers how many bytes were read.
+fn read_input<R: Read>(input: &mut R, buf: &mut [u8]) -> io::Result<usize>
+    ensures { IfOk result (λ n. n ≤ length buf.new) }
 {
     let mut done = 0;
     while done < buf.len() {
-        let got = libc::read(libc::STDIN_FILENO, &mut buf[done..]);
-        if got < 0 {
-            return Input {
-                length: done,
-                failed: true,
-            };
-        }
-        let n = io::count(got, &buf[done..]);
+        let n = input.read(&mut buf[done..])?;
         if n == 0 {
             break;
         }
         done += n;
     }
-    Input {
-        length: done,
-        failed: false,
-    }
+    Ok(done)
 }
 
-// The file's buffer has a byte more than the longest file that is listed; the text's buffer holds every listing whole (`listing-short`).
-fn main() {
+// The file's buffer has a byte more than the longest file that is listed; the text's buffer holds every listing whole (`listing_short`).
+fn main(rt: HostRuntime) -> io::Result<()> {
     let mut file = [0u8; 65537];
     let mut a = [0u8; 16384];
     let mut b = [0u8; 16384];
@@ -46,12 +32,7 @@ fn main() {
     let mut work = [0u8; 16384];
     let mut rec = [0u8; 65536];
     let mut out = [0u8; 65536];
-    let input = read_input(&mut file);
-    if input.failed {
-        os::fail(b"standard input");
-        return;
-    }
-    let n = input.length;
+    let n = read_input(&mut rt.stdin(), &mut file)?;
     let k = list(
         &file[..n],
         &mut a,
@@ -61,7 +42,5 @@ fn main() {
         &mut rec,
         &mut out,
     );
-    if !io::write_all(libc::STDOUT_FILENO, &out[..k]) {
-        os::fail(b"standard output");
-    }
+    io::writer(&rt).write_all(&out[..k])
 }

@@ -1,6 +1,7 @@
 // Runs the examples on standard input, one to a line, and writes a line for each: its name and what comes out. A line is a name, a
 // colon, a word for the function that is called, and the bytes that it is called with, in hexadecimal with capital letters.
 #![tactic(auto)]
+
 mod chunks;
 mod frames;
 mod line;

@@ -1,9 +1,30 @@
-// Lists the outside vectors, data/001.anim to data/168.anim, each under its name.
+// Lists the outside vectors, 001.anim to 168.anim, each under its name.
 #![tactic(auto)]
+
+ghost use Rattle.std.specs.Prelude.{◌≤◌, length, IfOk};
+
 use listing::list;
+use std::fs::File;
+use std::io;
+use std::io::{Read, Write};
+
+// Reads a file to its end, or until the buffer is full, and answers how many bytes were read.
+fn read_full(file: &mut File, buf: &mut [u8]) -> io::Result<usize>
+    ensures { IfOk result (λ n. n ≤ length buf.new) }
+{
+    let mut done = 0;
+    while done < buf.len() {
+        let n = file.read(&mut buf[done..])?;
+        if n == 0 {
+            break;
+        }
+        done += n;
+    }
+    Ok(done)
+}
 
 // Lists one file.
-fn show(fd: i32) {
+fn show(rt: &HostRuntime, opened: &mut File) -> io::Result<()> {
     let mut file = [0u8; 65537];
     let mut a = [0u8; 16384];
     let mut b = [0u8; 16384];
@@ -11,7 +32,7 @@ fn show(fd: i32) {
     let mut work = [0u8; 16384];
     let mut rec = [0u8; 65536];
     let mut out = [0u8; 65536];
-    let n = io::read_full(fd, &mut file);
+    let n = read_full(opened, &mut file)?;
     let k = list(
         &file[..n],
         &mut a,
@@ -21,36 +42,20 @@ fn show(fd: i32) {
         &mut rec,
         &mut out,
     );
-    io::write_all(1, &out[..k]);
+    io::writer(rt).write_all(&out[..k])
 }
 
 // Opens one file by its number and lists it.
-fn open(number: u8) {
-    let name = [
-        48 + number / 100,
-        48 + number / 10 % 10,
-        48 + number % 10,
-        b'.',
-        b'a',
-        b'n',
-        b'i',
-        b'm',
-    ];
-    io::write_all(1, &name);
-    io::write_all(1, b"\n");
-    let fd = os::open_read(&name);
-    if fd < 0 {
-        os::fail(&name);
-        return;
-    }
-    show(fd);
-    libc::close(fd);
+fn open(rt: &HostRuntime, number: u8) -> io::Result<()> {
+    let name = format!(in rt.alloc(); "{number:03}.anim")?;
+    println!(rt; "{name}")?;
+    let mut file = File::open(rt, name.as_str())?;
+    show(rt, &mut file)
 }
 
-fn main() {
-    let mut number = 1;
-    while number < 169 {
-        open(number);
-        number += 1;
+fn main(rt: HostRuntime) -> io::Result<()> {
+    for number in 1..169 {
+        open(&rt, number)?;
     }
+    Ok(())
 }
