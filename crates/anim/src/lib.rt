@@ -50,13 +50,7 @@ pub fn anim_frame_size(file: &[u8], size: &mut [u8]) -> u64
 }
 
 // Opens a file: state gets the state after its first picture, A and B that picture, and the map its colours.
-pub fn anim_open(
-    file: &[u8],
-    state: &mut [u8],
-    a: &mut [u8],
-    b: &mut [u8],
-    map: &mut [u8],
-) -> u64
+pub fn anim_open(file: &[u8], state: &mut [u8], a: &mut [u8], b: &mut [u8], map: &mut [u8]) -> u64
     ensures { OpensC file.now (record { state = state.old; a = a.old; b = b.old; map = map.old }) result
         (record { state = state.new; a = a.new; b = b.new; map = map.new }) }
 {

@@ -1,5 +1,5 @@
 -- A film of 16 × 2 pixels and one plane: frame 1 is four zero bytes, and frame 2, whose FORM stands at 64, has a delta.
-use Rattle.std.specs.Prelude.{ℕ, ◌%◌, List, [], ◌∷◌, ◌++◌, length, replicate}
+use Rattle.std.specs.Prelude.{ℕ, ◌%◌, List, ◌∷◌, ◌++◌, length, replicate}
 use Rattle.laws.specs.Bytes.{be32_bytes}
 use Rattle.iff.specs.Ids.{FORM, ANIM, ILBM, BMHD, BODY, ANHD, DLTA}
 

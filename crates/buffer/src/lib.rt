@@ -1,5 +1,6 @@
 // Bytes in lent buffers: big-endian numbers, parts and fills. Each function takes any buffers; the definitions are those of the crate laws.
 #![tactic(auto)]
+
 ghost use Rattle.std.specs.Prelude.{◌≡◌, ◌<◌, length, get_or, take, drop, replicate};
 ghost use Rattle.laws.specs.Bytes.{be16, be32};
 

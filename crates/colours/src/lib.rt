@@ -1,5 +1,6 @@
 // The colour map: how long it is, and which CMAPs may change it.
 #![tactic(auto)]
+
 ghost use Rattle.std.specs.Prelude.{◌≡◌};
 ghost use Rattle.colours.specs.Colours.{good_length};
 

@@ -1,6 +1,7 @@
 // Copies from one lent buffer to another: as far as both go, of many bytes, and of a part. Each public function takes any buffers; the
 // definitions are those of the crate laws.
 #![tactic(auto)]
+
 ghost use Rattle.std.specs.Prelude.{◌≡◌, ◌+◌, ◌-◌, ◌≤◌, min, length, take, drop};
 ghost use Rattle.std.proofs.lemmas.List.Edits.{sets};
 ghost use Rattle.laws.specs.Result.{pick};

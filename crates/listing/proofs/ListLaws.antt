@@ -3,21 +3,16 @@ use Prim.Native.Nat.{ℕ, ◌-◌, ◌<◌, ◌≤◌, min}
 use native.Mathlib.Omega.{arith}
 use mathlib.Core.Bool.{Bool, true, false}
 use mathlib.Core.List.{List, ◌++◌}
-use mathlib.Core.Option.{Option, none, some}
 use mathlib.Core.Path.{◌≡◌, refl, sym, ap, ◌∙◌}
-use lib.ListN.{length, take, length-take}
-use Rattle.laws.specs.Result.{Res.ok}
-use Rattle.laws.proofs.ResultLaws.{Each, Each.each, All, All.all_some, All.all_none, each_bind, each_self, each_some, never}
+use lib.ListN.{length}
+use Rattle.laws.proofs.ResultLaws.{each_some, never}
 use Rattle.laws.specs.Loop.{Step.next, Step.done}
 use Rattle.laws.proofs.LoopLaws.{Going, starts, turns, stops}
 use Rattle.state.specs.declared.State.{State}
-use Rattle.state.specs.State.{row_bytes}
-use Rattle.frame.specs.Frame.{Frame, frame_at}
-use Rattle.frame.proofs.FrameLaws.{frame_rises}
 use Rattle.step_on.specs.declared.SteppedOn.{SteppedOn}
-use Rattle.state.specs.World.{World, shown_in, hidden_in, with_hidden}
+use Rattle.state.specs.World.{World, with_hidden}
 use Rattle.state.specs.After.{Answer, Lent, lent, After, lent_after}
-use Rattle.step_on.specs.Step.{Built, build, look, look_ahead, step_on, on_of, MeetsOn}
+use Rattle.step_on.specs.Step.{step_on, on_of, MeetsOn}
 use Rattle.step_on.proofs.CaseLaws.{on_case}
 use Rattle.step_on.proofs.AheadLaws.{ahead_built}
 use Rattle.lines.specs.Lines.{picture_line, Adds}

@@ -23,7 +23,7 @@ use Rattle.anhd.specs.Anhd.{frame_header}
 use Rattle.delta.specs.Reading.{shape_of}
 use Rattle.delta.specs.Delta.{read_delta}
 use Rattle.colours.specs.Colours.{MAP, colours}
-use Rattle.state.specs.State.{row_bytes, frame_bytes, frame_length, opened, Sound}
+use Rattle.state.specs.State.{row_bytes, frame_bytes, frame_length, Sound}
 use Rattle.state.proofs.StateLaws.{sizes_sound}
 use Rattle.opening.specs.Open.{Places, body_in, places_in, first_places, first_delta, first_body, first_picture, first_map, First, first_of, film_of, opening}
 use Rattle.opening.proofs.OpenLaws.{places_lie, header_same, first_long}

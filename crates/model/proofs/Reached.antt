@@ -7,7 +7,7 @@ use mathlib.Core.Option.{some}
 use mathlib.Core.Path.{◌≡◌, refl, ap, ◌∙◌}
 use lib.ListN.{length, take, length-take}
 use borrow.Author.Tests.{le-leb}
-use Rattle.laws.specs.Result.{Res.ok, answer, pick, or_keep}
+use Rattle.laws.specs.Result.{Res.ok, pick, or_keep}
 use Rattle.laws.proofs.ResultLaws.{pick_both}
 use Rattle.state.specs.State.{row_bytes, state_length}
 use Rattle.frame.specs.Frame.{Frame}

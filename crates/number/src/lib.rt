@@ -1,5 +1,6 @@
 // The numbers of step records: groups of seven bits, low group first.
 #![tactic(auto)]
+
 ghost use Rattle.std.specs.Prelude.{◌≡◌, ◌+◌, ◌≤◌, length};
 ghost use Rattle.std.proofs.lemmas.List.Edits.{sets};
 ghost use Rattle.number.specs.Number.{ReadAt, write_number, laid, after, written_of};

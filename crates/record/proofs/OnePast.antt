@@ -7,9 +7,9 @@ use mathlib.Core.Path.{◌≡◌, sym, ap, ◌∙◌}
 use lib.Dec.{leb, ltb, eqb}
 use borrow.Author.Tests.{eqb-true}
 use Rattle.laws.specs.Bytes.{Bytes}
-use Rattle.laws.specs.Result.{Res, Res.ok, ◌>>=◌, need, or_refuse}
+use Rattle.laws.specs.Result.{Res, Res.ok, ◌>>=◌, need}
 use Rattle.laws.proofs.ResultLaws.{Each, Each.each, each_need, each_bind, each_of, each_is, ok_same}
-use Rattle.record.specs.Record.{record_bytes, Past, past_of, restored}
+use Rattle.record.specs.Record.{record_bytes, Past, restored}
 use Rattle.record.proofs.ReadLaws.{record_read}
 
 -- a record that is accepted is the one that the step which it leads back over would write

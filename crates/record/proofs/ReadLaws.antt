@@ -1,9 +1,9 @@
 -- What reads well is what would be written: a run list that leads back is that of what it leads back to, and a record that leads back is that of
 -- the step that it leads back over.
-use Prim.Native.Nat.{ℕ, zero, suc, ◌+◌, ◌-◌, ◌<◌, ◌≤◌}
+use Prim.Native.Nat.{ℕ, zero, suc, ◌+◌, ◌<◌, ◌≤◌}
 use native.Mathlib.Omega.{arith}
-use mathlib.Core.List.{List, [], ◌∷◌, ◌++◌, append_assoc, append-nil}
-use mathlib.Core.Path.{◌≡◌, refl, sym, ap, ◌∙◌}
+use mathlib.Core.List.{List, [], ◌++◌, append_assoc, append-nil}
+use mathlib.Core.Path.{◌≡◌, refl, ap, ◌∙◌}
 use lib.Dec.{leb, ltb, eqb}
 use lib.ListN.{length, take, drop, take-append-drop, drop_of_length-le}
 use lib.Seq.{length-take-le}
@@ -11,7 +11,6 @@ use borrow.Author.Tests.{leb-true, ltb-true, eqb-true}
 use Rattle.laws.specs.Bytes.{Bytes}
 use Rattle.laws.proofs.BytesLaws.{bytes_drop}
 use Rattle.laws.proofs.ResultLaws.{All, All.all_some, all_self, all_bind, all_map, all_given}
-use Rattle.number.specs.Number.{read_number}
 use Rattle.number.proofs.NumberLaws.{write_read, rest_bytes}
 use Rattle.runs.specs.Runs.{runs_of}
 use Rattle.runs.proofs.PatchLaws.{Fit}

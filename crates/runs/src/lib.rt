@@ -1,5 +1,6 @@
 // The longest stretches of bytes that changed between two buffers, found one after the other.
 #![tactic(auto)]
+
 ghost use Rattle.std.specs.Prelude.{◌≡◌, ◌+◌, ◌<◌, ◌≤◌, leb, length, drop};
 ghost use Rattle.runs.specs.Runs.{next_run, change_of};
 ghost use Rattle.runs.specs.Stretch.{stretch, Scanned};

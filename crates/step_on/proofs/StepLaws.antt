@@ -11,7 +11,6 @@ use Rattle.laws.specs.Result.{Res, Res.ok, Res.fault, ◌>>=◌, need, leaves}
 use Rattle.laws.proofs.ResultLaws.{Each, each_is, each_bind, each_map, each_self, pick_both, never}
 use Rattle.refusal.specs.Number.{number_of}
 use Rattle.refusal.specs.declared.Refusal.{Refusal}
-use Rattle.state.specs.declared.Sizes.{Sizes}
 use Rattle.state.specs.declared.State.{State}
 use Rattle.state.specs.State.{row_bytes, moved}
 use Rattle.state.specs.World.{World, is_odd, shown_in, hidden_in, with_hidden}

@@ -1,5 +1,4 @@
 -- `anhd::columns_ok`: the cases are the definition's.
-use borrow.Author.Rules.{rules}
 use Rattle.anhd.proofs.columns_ok.Goals as goal
 
 pub returns-in-Longs : goal.returns-in-Longs

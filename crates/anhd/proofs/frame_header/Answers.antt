@@ -10,7 +10,6 @@ use Rattle.anhd.specs.Anhd.{frame_header, method_ok, interleave_ok, bits_ok, ite
 use Rattle.anhd.specs.declared.FrameHeader.{FrameHeader}
 use borrow.Author.Tests.{le-leb, lt-leb}
 use Rattle.laws.proofs.ResultLaws.{told_true, told_false}
-use borrow.Author.Rules.{rules}
 use Rattle.anhd.proofs.frame_header.Goals.{After-number32-bits}
 use Rattle.anhd.proofs.frame_header.Goals as goal
 

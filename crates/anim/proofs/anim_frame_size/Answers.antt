@@ -1,7 +1,6 @@
 -- `anim::anim_frame_size`: what opening says of the frame's length, in bytes.
 use Rattle.anim.proofs.ExportLaws.{size_unsized, size_sized}
 use mathlib.Core.Path.{refl}
-use borrow.Author.Rules.{rules}
 use Rattle.anim.proofs.anim_frame_size.Goals as goal
 
 pub returns-then-size-ne8 : goal.returns-then-size-ne8

@@ -1,7 +1,6 @@
 -- `anim::anim_open`: what opening answers, and its state in bytes.
 use Rattle.anim.proofs.ExportLaws.{open_unsized, open_sized}
 use mathlib.Core.Path.{refl}
-use borrow.Author.Rules.{rules}
 use Rattle.anim.proofs.anim_open.Goals as goal
 
 pub returns-then-state-ne48 : goal.returns-then-state-ne48

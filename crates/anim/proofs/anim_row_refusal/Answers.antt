@@ -1,7 +1,6 @@
 -- `anim::anim_row_refusal`: the refusal's number, or 0.
 use Rattle.shown.specs.Row.{place_of}
 use Rattle.laws.proofs.ResultLaws.{told}
-use borrow.Author.Rules.{rules}
 use Rattle.anim.proofs.anim_row_refusal.Goals as goal
 
 pub returns-in-Refused : goal.returns-in-Refused

@@ -1,7 +1,6 @@
 -- `anim::anim_step_back`: what stepping back answers; the state in bytes where it is taken.
 use Rattle.anim.proofs.ExportLaws.{back_unsized, back_sized}
 use mathlib.Core.Path.{refl}
-use borrow.Author.Rules.{rules}
 use Rattle.anim.proofs.anim_step_back.Goals as goal
 
 pub returns-then-state-ne48 : goal.returns-then-state-ne48

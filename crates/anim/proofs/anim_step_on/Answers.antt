@@ -1,7 +1,6 @@
 -- `anim::anim_step_on`: the test of the two slices, then what is handed over of the step.
 use borrow.Author.Tests.{not-true, not-false}
 use Rattle.anim.proofs.ExportLaws.{on_unsized, on_sized}
-use borrow.Author.Rules.{rules}
 use Rattle.anim.proofs.anim_step_on.Goals as goal
 
 pub returns-then-not-lengths_ok : goal.returns-then-not-lengths_ok

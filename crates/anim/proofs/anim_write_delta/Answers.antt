@@ -2,7 +2,6 @@
 use Rattle.anim.specs.Export.{sizes_in}
 use Rattle.anim.proofs.ExportLaws.{write_unsized, write_sized}
 use mathlib.Core.Path.{refl}
-use borrow.Author.Rules.{rules}
 use Rattle.anim.proofs.anim_write_delta.Goals as goal
 
 pub returns-then-len-ne8 : goal.returns-then-len-ne8

@@ -1,7 +1,6 @@
 -- `anim::hand_on`: the number of each answer; state and report in bytes where the step is taken.
 use Rattle.anim.proofs.ExportLaws.{hands_on}
 use mathlib.Core.Path.{refl}
-use borrow.Author.Rules.{rules}
 use Rattle.anim.proofs.hand_on.Goals as goal
 
 pub returns-in-Refused : goal.returns-in-Refused

@@ -1,6 +1,5 @@
 -- `anim::row_in`: the state's slice, then the row.
 use Rattle.anim.proofs.ExportLaws.{row_unsized, row_sized}
-use borrow.Author.Rules.{rules}
 use Rattle.anim.proofs.row_in.Goals as goal
 
 pub returns-then-state-ne48 : goal.returns-then-state-ne48

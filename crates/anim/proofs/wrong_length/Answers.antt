@@ -1,5 +1,4 @@
 -- `anim::wrong_length`: the refusal's number.
-use borrow.Author.Rules.{rules}
 use Rattle.anim.proofs.wrong_length.Goals as goal
 
 pub returns : goal.returns

@@ -6,7 +6,6 @@ use borrow.Author.Tests.{le-leb, lt-leb, eq-eqb, ne_eqb}
 use Rattle.laws.proofs.ResultLaws.{told}
 use Rattle.state.specs.State.{length_of}
 use Rattle.bmhd.specs.Header.{bitmap_header}
-use borrow.Author.Rules.{rules}
 use Rattle.bmhd.proofs.bitmap_header.Goals as goal
 
 pub returns-then-s-ne20 : goal.returns-then-s-ne20

@@ -1,5 +1,4 @@
 -- `bmhd::sizes_at`: each field is the number that was read.
-use borrow.Author.Rules.{rules}
 use Rattle.bmhd.proofs.sizes_at.Goals as goal
 
 pub returns : goal.returns

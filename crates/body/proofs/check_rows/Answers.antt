@@ -2,14 +2,12 @@
 use Rattle.body.proofs.WalkLaws.{took_row, took_row_fault, rows_on, rows_stop, rows_none}
 use Rattle.body.specs.Walk.{took_of}
 use Rattle.body.proofs.PlainLaws.{plain_checked}
-use Rattle.body.specs.Body.{rows_from}
 use Rattle.laws.proofs.ResultLaws.{told}
 use Rattle.laws.specs.Result.{answer}
 use borrow.Author.Tests.{not-true}
 use lib.ListN.{length}
 use mathlib.Core.Path.{◌≡◌, refl, sym, ap, ◌∙◌}
 use native.Mathlib.Omega.{arith}
-use borrow.Author.Rules.{rules}
 use Rattle.body.proofs.check_rows.Goals as goal
 
 pub overflow_mul-result : goal.overflow_mul-result

@@ -1,15 +1,7 @@
 -- `body::check_rows`: a plain BODY is there if it is long enough; of a packed one, whether the rows that are left are there is whether all are.
-use Rattle.body.proofs.WalkLaws.{took_row, took_row_fault, rows_on, rows_stop, rows_none}
-use Rattle.body.specs.Walk.{took_of}
-use Rattle.body.proofs.PlainLaws.{plain_checked}
 use Rattle.body.specs.Body.{rows_from}
-use Rattle.laws.proofs.ResultLaws.{told}
 use Rattle.laws.specs.Result.{answer}
-use borrow.Author.Tests.{not-true}
-use lib.ListN.{length}
-use mathlib.Core.Path.{◌≡◌, refl, sym, ap, ◌∙◌}
-use native.Mathlib.Omega.{arith}
-use borrow.Author.Rules.{rules}
+use mathlib.Core.Path.{◌≡◌}
 use Rattle.body.proofs.check_rows.Given as goal
 
 abbrev pub invariant-loop-left : goal.invariant-loop-left

@@ -1,7 +1,6 @@
 -- `body::draw_copy`: the part of the frame that is lent to the copy has the length of what is copied.
 use borrow.Author.Tests.{not-true, not-false}
 use Rattle.laws.proofs.StoreLaws.{lent_copy}
-use borrow.Author.Rules.{rules}
 use Rattle.body.proofs.draw_copy.Goals as goal
 
 pub returns-then-not-drawing : goal.returns-then-not-drawing

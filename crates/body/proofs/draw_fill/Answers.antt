@@ -1,7 +1,6 @@
 -- `body::draw_fill`: the part of the frame that is lent is filled whole.
 use borrow.Author.Tests.{not-true, not-false}
 use Rattle.laws.proofs.StoreLaws.{lent_fill}
-use borrow.Author.Rules.{rules}
 use Rattle.body.proofs.draw_fill.Goals as goal
 
 pub returns-then-not-drawing : goal.returns-then-not-drawing

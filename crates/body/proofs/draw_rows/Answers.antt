@@ -1,12 +1,10 @@
 -- `body::draw_rows`: line, plane and place are those of the row that comes next, and drawing what is left comes to drawing all.
-use Prim.Native.Nat.{◌+◌, ◌-◌, ◌*◌}
+use Prim.Native.Nat.{◌+◌}
 use native.Mathlib.Omega.{arith}
-use mathlib.Core.Path.{◌≡◌, refl, sym, ◌∙◌}
-use lib.ListN.{length}
+use mathlib.Core.Path.{refl, sym, ◌∙◌}
 use Rattle.laws.proofs.ResultLaws.{told}
 use Rattle.body.specs.Walk.{took_of}
-use Rattle.body.proofs.WalkLaws.{took_row, took_row_fault, Walking, walking_starts, lines_small, walking_fits, walking_down, walking_on, walking_stop, walking_end, spot_before}
-use borrow.Author.Rules.{rules}
+use Rattle.body.proofs.WalkLaws.{took_row, took_row_fault, walking_starts, lines_small, walking_fits, walking_down, walking_on, walking_stop, walking_end, spot_before}
 use Rattle.body.proofs.draw_rows.Goals as goal
 
 pub overflow_mul-down : goal.overflow_mul-down

@@ -1,12 +1,8 @@
 -- `body::draw_rows`: line, plane and place are those of the row that comes next, and drawing what is left comes to drawing all.
 use Prim.Native.Nat.{◌+◌, ◌-◌, ◌*◌}
-use native.Mathlib.Omega.{arith}
-use mathlib.Core.Path.{◌≡◌, refl, sym, ◌∙◌}
+use mathlib.Core.Path.{◌≡◌}
 use lib.ListN.{length}
-use Rattle.laws.proofs.ResultLaws.{told}
-use Rattle.body.specs.Walk.{took_of}
-use Rattle.body.proofs.WalkLaws.{took_row, took_row_fault, Walking, walking_starts, lines_small, walking_fits, walking_down, walking_on, walking_stop, walking_end, spot_before}
-use borrow.Author.Rules.{rules}
+use Rattle.body.proofs.WalkLaws.{Walking}
 use Rattle.body.proofs.draw_rows.Given as goal
 
 abbrev pub invariant-loop-line : goal.invariant-loop-line

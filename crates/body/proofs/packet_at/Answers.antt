@@ -5,7 +5,6 @@ use lib.ListN.{length, get_or}
 use borrow.Author.Tests.{lt-ltb, le-ltb, le-leb, lt-leb, ne_eqb}
 use Rattle.body.specs.ByteRun.{packet_at}
 use native.Mathlib.Omega.{arith}
-use borrow.Author.Rules.{rules}
 use Rattle.body.proofs.packet_at.Goals as goal
 
 pub returns-then-s-at : goal.returns-then-s-at

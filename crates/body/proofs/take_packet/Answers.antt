@@ -6,7 +6,6 @@ use Rattle.laws.proofs.StoreLaws.{length_part}
 use Rattle.body.specs.Walk.{packet_of, Fits, took}
 use Rattle.body.proofs.WalkLaws.{took_is, puts_is, puts_fault, puts_empty, took_row, packet_counted}
 use native.Mathlib.Omega.{arith}
-use borrow.Author.Rules.{rules}
 use Rattle.body.proofs.take_packet.Goals as goal
 
 pub draw_copy-requires : goal.draw_copy-requires

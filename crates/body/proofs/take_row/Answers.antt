@@ -7,7 +7,6 @@ use Rattle.body.proofs.BodyLaws.{row_packed, row_plain, row_short}
 use Rattle.body.proofs.WalkLaws.{took_is, drawn_kept, drawn_row}
 use Rattle.laws.proofs.StoreLaws.{length_part}
 use native.Mathlib.Omega.{arith}
-use borrow.Author.Rules.{rules}
 use Rattle.body.proofs.take_row.Goals as goal
 
 pub returns-then-packed : goal.returns-then-packed

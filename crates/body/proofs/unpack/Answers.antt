@@ -11,7 +11,6 @@ use Rattle.laws.proofs.ResultLaws.{each_is, told}
 use Rattle.state.specs.State.{length_of, Sound}
 use Rattle.state.proofs.StateLaws.{sizes_sound, row_inside}
 use Rattle.body.proofs.BodyLaws.{picture_sizes, picture_length, picture_body, body_drawn}
-use borrow.Author.Rules.{rules}
 use Rattle.body.proofs.unpack.Goals.{Else-frame-length}
 use Rattle.body.proofs.unpack.Goals as goal
 

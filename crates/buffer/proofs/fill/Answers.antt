@@ -1,9 +1,7 @@
 -- `buffer::fill`: after i turns the first i bytes are the value.
-use Prim.Native.Nat.{◌-◌, ◌≤◌}
-use mathlib.Core.Path.{◌≡◌, refl}
-use lib.ListN.{length, length-set}
-use Rattle.laws.proofs.StoreLaws.{Filled, filled_none, filled_more, filled_all}
-use borrow.Author.Rules.{rules}
+use mathlib.Core.Path.{refl}
+use lib.ListN.{length-set}
+use Rattle.laws.proofs.StoreLaws.{filled_none, filled_more, filled_all}
 use native.Mathlib.Omega.{arith}
 use Rattle.buffer.proofs.fill.Goals as goal
 

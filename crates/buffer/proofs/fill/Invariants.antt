@@ -1,10 +1,8 @@
 -- `buffer::fill`: after i turns the first i bytes are the value.
 use Prim.Native.Nat.{◌-◌, ◌≤◌}
-use mathlib.Core.Path.{◌≡◌, refl}
-use lib.ListN.{length, length-set}
-use Rattle.laws.proofs.StoreLaws.{Filled, filled_none, filled_more, filled_all}
-use borrow.Author.Rules.{rules}
-use native.Mathlib.Omega.{arith}
+use mathlib.Core.Path.{◌≡◌}
+use lib.ListN.{length}
+use Rattle.laws.proofs.StoreLaws.{Filled}
 use Rattle.buffer.proofs.fill.Given as goal
 
 abbrev pub invariant-loop-i : goal.invariant-loop-i

@@ -3,7 +3,6 @@ use Rattle.laws.proofs.BytesLaws.{be16_past}
 use native.Mathlib.Omega.{arith}
 use mathlib.Core.Path.{sym}
 use Rattle.laws.specs.Bytes.{be16}
-use borrow.Author.Rules.{rules}
 use Rattle.buffer.proofs.number16.Goals as goal
 
 pub returns-then-s-at : goal.returns-then-s-at

@@ -3,7 +3,6 @@ use mathlib.Core.Path.{sym}
 use Rattle.laws.specs.Bytes.{be32}
 use Rattle.laws.proofs.BytesLaws.{be32_past}
 use native.Mathlib.Omega.{arith}
-use borrow.Author.Rules.{rules}
 use Rattle.buffer.proofs.number32.Goals as goal
 
 pub returns-then-s-at : goal.returns-then-s-at

@@ -5,7 +5,6 @@ use native.Mathlib.Omega.{arith}
 use mathlib.Core.Path.{sym, ◌∙◌}
 use lib.ListN.{length, drop, drop_of_length-le, length-drop}
 use lib.Seq.{take_all, take-nil}
-use borrow.Author.Rules.{rules}
 use Rattle.buffer.proofs.part.Goals as goal
 
 pub returns-then-s-start : goal.returns-then-s-start

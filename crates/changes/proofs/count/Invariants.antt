@@ -1,11 +1,7 @@
 -- `changes::count`: block by block, then the last byte.
-use Prim.Native.Nat.{◌+◌, ◌-◌, ◌<◌}
-use mathlib.Core.Path.{◌≡◌}
-use native.Mathlib.Omega.{arith}
+use Prim.Native.Nat.{◌-◌, ◌<◌}
 use lib.ListN.{length}
 use Rattle.changes.specs.Count.{CountsBlock}
-use Rattle.changes.proofs.CountLaws.{count_two, count_none, count_starts, count_then, all_kept, all_changed}
-use borrow.Author.Rules.{rules}
 use Rattle.changes.proofs.count.Given as goal
 
 abbrev pub invariant-loop-at : goal.invariant-loop-at

@@ -1,11 +1,6 @@
 -- `changes::count_block`: each turn counts one byte, with a look at the one after it.
 use Prim.Native.Nat.{◌+◌, ◌-◌, ◌≤◌}
-use mathlib.Core.Path.{◌≡◌}
-use native.Mathlib.Omega.{arith}
-use native.Mathlib.Nat.{add-zero, add_assoc}
 use Rattle.changes.specs.Count.{CountsBlock}
-use Rattle.changes.proofs.CountLaws.{byte_most, count_starts, count_then, count_byte}
-use borrow.Author.Rules.{rules}
 use Rattle.changes.proofs.count_block.Given as goal
 
 abbrev pub invariant-loop-i : goal.invariant-loop-i

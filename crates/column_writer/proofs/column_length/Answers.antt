@@ -3,7 +3,6 @@ use mathlib.Core.Path.{sym, ap, ◌∙◌}
 use Rattle.laws.specs.Result.{Res.ok}
 use Rattle.column_writer.proofs.PlaceLaws.{two_lengths, too_many, measured}
 use native.Mathlib.Omega.{arith}
-use borrow.Author.Rules.{rules}
 use Rattle.column_writer.proofs.column_length.Goals as goal
 
 pub returns-then-old-new : goal.returns-then-old-new

@@ -2,7 +2,6 @@
 use Rattle.column_writer.proofs.CutLaws.{uniq_count, uniq_bytes}
 use native.Mathlib.Omega.{arith}
 use Rattle.column_writer.proofs.FillLaws.{prepared_few, prepared_many, past_rows}
-use borrow.Author.Rules.{rules}
 use Rattle.column_writer.proofs.prepare.Goals as goal
 
 pub returns-then-totals-le255 : goal.returns-then-totals-le255

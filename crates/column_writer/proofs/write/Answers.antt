@@ -1,6 +1,5 @@
 -- `column_writer::write`: the checks in the definition's order, then the column with room for its ops.
 use Rattle.column_writer.proofs.PlaceLaws.{two_lengths, too_many, not_measured}
-use borrow.Author.Rules.{rules}
 use Rattle.column_writer.proofs.write.Goals as goal
 
 pub returns-then-old-new : goal.returns-then-old-new

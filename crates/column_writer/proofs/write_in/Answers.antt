@@ -3,7 +3,6 @@ use native.Mathlib.Omega.{arith}
 use Rattle.column_writer.proofs.FillLaws.{prepared_front, prepared_length, put_column_lem}
 use Rattle.column_writer.proofs.PlaceLaws.{measured, no_room, is_written}
 use lib.ListN.{length-set}
-use borrow.Author.Rules.{rules}
 use Rattle.column_writer.proofs.write_in.Goals as goal
 
 pub returns-then-out-at : goal.returns-then-out-at

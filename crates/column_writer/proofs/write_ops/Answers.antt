@@ -1,7 +1,5 @@
 -- `column_writer::write_ops`: the pieces are counted and written, and what is left, from here, comes to the whole.
-use Rattle.column_writer.proofs.FillLaws.{Filling, filling, filling_room, filling_more, filling_last}
-use lib.ListN.{length}
-use Prim.Native.Nat.{◌-◌}
+use Rattle.column_writer.proofs.FillLaws.{filling, filling_room, filling_more, filling_last}
 use native.Mathlib.Omega.{arith}
 use Rattle.column_writer.proofs.write_ops.Goals as goal
 

@@ -1,8 +1,7 @@
 -- `column_writer::write_ops`: the pieces are counted and written, and what is left, from here, comes to the whole.
-use Rattle.column_writer.proofs.FillLaws.{Filling, filling, filling_room, filling_more, filling_last}
+use Rattle.column_writer.proofs.FillLaws.{Filling}
 use lib.ListN.{length}
 use Prim.Native.Nat.{◌-◌}
-use native.Mathlib.Omega.{arith}
 use Rattle.column_writer.proofs.write_ops.Given as goal
 
 abbrev pub invariant-loop-row : goal.invariant-loop-row

@@ -10,7 +10,6 @@ use Rattle.column_writer.specs.Column.{WrittenOp.skip, WrittenOp.same, WrittenOp
 use Rattle.column_writer.specs.Piece.{piece_ops}
 use Rattle.column_writer.specs.declared.piece.PieceKind.{PieceKind}
 use Rattle.column_writer.specs.declared.piece.PieceKind.TheVariants.{Rest, Skip, Same, Uniq}
-use borrow.Author.Rules.{rules}
 use Rattle.column_writer.proofs.write_piece.Goals as goal
 
 module _ {kind : PieceKind} (rows : ℕ) (new : List ℕ) (row : ℕ) where

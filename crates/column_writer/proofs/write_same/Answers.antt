@@ -8,7 +8,6 @@ use lib.ListN.{set, length-set}
 use Rattle.laws.specs.Put.{Put}
 use Rattle.laws.proofs.PutLaws.{put_is}
 use Rattle.column_writer.specs.Column.{WrittenOp.same, op_bytes}
-use borrow.Author.Rules.{rules}
 use Rattle.column_writer.proofs.write_same.Goals as goal
 
 three : (out : List ℕ) (at rows value : ℕ) → Put out at (op_bytes (same rows value)) (set (set (set out at 0) (at + 1) rows) (at + 2) value) (at + 3)

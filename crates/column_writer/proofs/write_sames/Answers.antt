@@ -1,11 +1,8 @@
 -- `column_writer::write_sames`: the Sames of what is left, from here, come to the whole.
 use mathlib.Core.Path.{refl}
 use native.Mathlib.Omega.{arith}
-use Rattle.laws.proofs.PutLaws.{Putting, putting, putting_room, putting_more, putting_last}
-use Rattle.column_writer.specs.Column.{WrittenOp.same, cut, ops_bytes}
+use Rattle.laws.proofs.PutLaws.{putting, putting_room, putting_more, putting_last}
 use Rattle.column_writer.proofs.CutLaws.{same_more, same_last, same_none}
-use Prim.Native.Nat.{◌-◌}
-use borrow.Author.Rules.{rules}
 use Rattle.column_writer.proofs.write_sames.Goals as goal
 
 pub loop-left-init : goal.loop-left-init

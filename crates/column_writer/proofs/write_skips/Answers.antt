@@ -1,10 +1,8 @@
 -- `column_writer::write_skips`: the Skips of what is left, from here, come to the whole.
 use mathlib.Core.Path.{refl}
 use native.Mathlib.Omega.{arith}
-use Rattle.laws.proofs.PutLaws.{Putting, putting, put_byte, putting_room, putting_more, putting_last}
-use Rattle.column_writer.specs.Column.{WrittenOp.skip, cut, ops_bytes}
+use Rattle.laws.proofs.PutLaws.{putting, put_byte, putting_room, putting_more, putting_last}
 use Rattle.column_writer.proofs.CutLaws.{skip_more, skip_last, skip_none}
-use borrow.Author.Rules.{rules}
 use Rattle.column_writer.proofs.write_skips.Goals as goal
 
 pub loop-left-init : goal.loop-left-init

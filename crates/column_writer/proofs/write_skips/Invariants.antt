@@ -1,10 +1,6 @@
 -- `column_writer::write_skips`: the Skips of what is left, from here, come to the whole.
-use mathlib.Core.Path.{refl}
-use native.Mathlib.Omega.{arith}
-use Rattle.laws.proofs.PutLaws.{Putting, putting, put_byte, putting_room, putting_more, putting_last}
+use Rattle.laws.proofs.PutLaws.{Putting}
 use Rattle.column_writer.specs.Column.{WrittenOp.skip, cut, ops_bytes}
-use Rattle.column_writer.proofs.CutLaws.{skip_more, skip_last, skip_none}
-use borrow.Author.Rules.{rules}
 use Rattle.column_writer.proofs.write_skips.Given as goal
 
 abbrev pub invariant-loop-left : goal.invariant-loop-left

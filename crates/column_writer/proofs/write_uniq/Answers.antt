@@ -8,7 +8,6 @@ use Rattle.laws.specs.Put.{Put}
 use Rattle.laws.proofs.PutLaws.{put_byte, put_then, put_copy}
 use Rattle.laws.specs.Store.{over}
 use Rattle.column_writer.specs.Column.{WrittenOp.uniq, op_bytes}
-use borrow.Author.Rules.{rules}
 use Rattle.column_writer.proofs.write_uniq.Goals as goal
 
 module _ (out : List ℕ) (at : ℕ) (rows : List ℕ) (h : at + length (op_bytes (uniq rows)) ≤ length out) where

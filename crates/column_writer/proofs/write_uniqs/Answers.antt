@@ -5,10 +5,9 @@ use mathlib.Core.List.{List, []}
 use mathlib.Core.Path.{◌≡◌, refl}
 use lib.ListN.{length, take, drop, length-drop, length-take}
 use lib.Seq.{drop-drop, take_all}
-use Rattle.laws.proofs.PutLaws.{Putting, Parts, putting, putting_room, putting_more, putting_last}
+use Rattle.laws.proofs.PutLaws.{Parts, putting, putting_room, putting_more, putting_last}
 use Rattle.column_writer.specs.Column.{WrittenOp.uniq, cut, op_bytes, ops_bytes}
 use Rattle.column_writer.proofs.CutLaws.{uniq_more, uniq_last, uniq_none}
-use borrow.Author.Rules.{rules}
 use Rattle.column_writer.proofs.write_uniqs.Goals as goal
 
 module _ (rows : List ℕ) (from : ℕ) (h : from ≤ length rows) where

@@ -1,6 +1,5 @@
 -- `copies::copy`: as many bytes as both have.
 use Rattle.laws.proofs.StoreLaws.{copied_all}
-use borrow.Author.Rules.{rules}
 use Rattle.copies.proofs.copy.Goals as goal
 
 pub returns : goal.returns

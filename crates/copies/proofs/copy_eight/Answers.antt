@@ -3,7 +3,6 @@ use native.Mathlib.Omega.{arith}
 use mathlib.Core.Path.{refl}
 use lib.ListN.{length-set}
 use Rattle.laws.proofs.StoreLaws.{stored_eight}
-use borrow.Author.Rules.{rules}
 use Rattle.copies.proofs.copy_eight.Goals as goal
 
 pub bounds-dst-at-2 : goal.bounds-dst-at-2

@@ -1,11 +1,8 @@
 -- `copies::copy_front`: after i turns the first i bytes of dst are those of src.
 use native.Mathlib.Omega.{arith}
-use Prim.Native.Nat.{◌-◌, ◌≤◌}
-use mathlib.Core.Path.{◌≡◌, refl}
-use lib.ListN.{length, length-set}
-use Rattle.laws.specs.Store.{Copied}
+use mathlib.Core.Path.{refl}
+use lib.ListN.{length-set}
 use Rattle.laws.proofs.StoreLaws.{copied_none, copied_more, copied_to}
-use borrow.Author.Rules.{rules}
 use Rattle.copies.proofs.copy_front.Goals as goal
 
 pub loop-i-init : goal.loop-i-init

@@ -1,11 +1,8 @@
 -- `copies::copy_front`: after i turns the first i bytes of dst are those of src.
-use native.Mathlib.Omega.{arith}
 use Prim.Native.Nat.{◌-◌, ◌≤◌}
-use mathlib.Core.Path.{◌≡◌, refl}
-use lib.ListN.{length, length-set}
+use mathlib.Core.Path.{◌≡◌}
+use lib.ListN.{length}
 use Rattle.laws.specs.Store.{Copied}
-use Rattle.laws.proofs.StoreLaws.{copied_none, copied_more, copied_to}
-use borrow.Author.Rules.{rules}
 use Rattle.copies.proofs.copy_front.Given as goal
 
 abbrev pub invariant-loop-i : goal.invariant-loop-i

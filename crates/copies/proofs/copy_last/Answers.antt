@@ -1,6 +1,5 @@
 -- `copies::copy_last`: four blocks of eight bytes.
 use Rattle.laws.proofs.StoreLaws.{copied_last}
-use borrow.Author.Rules.{rules}
 use Rattle.copies.proofs.copy_last.Goals as goal
 
 pub returns : goal.returns

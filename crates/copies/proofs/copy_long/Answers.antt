@@ -2,7 +2,6 @@
 use native.Mathlib.Omega.{arith}
 use Prim.Native.Nat.{◌-◌}
 use Rattle.laws.proofs.StoreLaws.{copied_front, copied_then, copied_all}
-use borrow.Author.Rules.{rules}
 use Rattle.copies.proofs.copy_long.Goals as goal
 
 pub returns-then-count-lt32 : goal.returns-then-count-lt32

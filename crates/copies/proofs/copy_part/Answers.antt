@@ -3,7 +3,6 @@ use native.Mathlib.Omega.{arith}
 use mathlib.Core.Path.{◌∙◌}
 use borrow.Author.Tests.{not-true, not-false}
 use Rattle.laws.proofs.StoreLaws.{lent_copy, copied_most}
-use borrow.Author.Rules.{rules}
 use Rattle.copies.proofs.copy_part.Goals as goal
 
 pub returns-then-not-wanted : goal.returns-then-not-wanted

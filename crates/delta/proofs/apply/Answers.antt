@@ -2,7 +2,6 @@
 use mathlib.Core.Path.{refl, sym, ◌∙◌}
 use Rattle.laws.proofs.StoreLaws.{over_whole}
 use Rattle.delta.proofs.ApplyLaws.{plane_for, planes_for, applies_refused, applies_drawn}
-use borrow.Author.Rules.{rules}
 use Rattle.delta.proofs.apply.Goals as goal
 
 pub shape_of-requires-in-Next : goal.shape_of-requires-in-Next

@@ -3,7 +3,6 @@ use mathlib.Core.Path.{refl, sym, ◌∙◌}
 use lib.ListN.{length-replicate}
 use Prim.Native.Nat.{ℕ}
 use Rattle.delta.proofs.ApplyLaws.{plane_for, planes_for, applies_refused, applies_drawn}
-use borrow.Author.Rules.{rules}
 use Rattle.delta.proofs.apply_first.Goals as goal
 
 pub shape_of-requires-in-Next : goal.shape_of-requires-in-Next

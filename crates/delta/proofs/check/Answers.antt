@@ -4,7 +4,6 @@ use Rattle.laws.proofs.ResultLaws.{told, told_false, told_true, each_is}
 use Rattle.state.specs.State.{length_of}
 use Rattle.state.proofs.StateLaws.{sizes_sound}
 use Rattle.delta.proofs.ApplyLaws.{planes_sound, frame_limits, frame_picture, frame_work, frame_columns, frame_delta, check_stops, check_walked}
-use borrow.Author.Rules.{rules}
 use Rattle.delta.proofs.check.Goals as goal
 
 pub returns-then-bytes-frame : goal.returns-then-bytes-frame

@@ -1,6 +1,5 @@
 -- `delta::column_shape`: the fields are the definition's.
 use native.Mathlib.Omega.{arith}
-use borrow.Author.Rules.{rules}
 use Rattle.delta.proofs.column_shape.Goals as goal
 
 pub overflow_mul-result : goal.overflow_mul-result

@@ -1,5 +1,4 @@
 -- `delta::data_pointer`: only method 7 has a second pointer.
-use borrow.Author.Rules.{rules}
 use Rattle.delta.proofs.data_pointer.Goals as goal
 
 pub returns : goal.returns

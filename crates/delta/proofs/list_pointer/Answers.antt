@@ -1,7 +1,6 @@
 -- `delta::list_pointer`: the tests are the definition's.
 use borrow.Author.Tests.{le-leb, lt-leb}
 use Rattle.delta.specs.Delta.{list_pointer}
-use borrow.Author.Rules.{rules}
 use Rattle.delta.proofs.list_pointer.Goals as goal
 
 pub returns-then-at-pointers : goal.returns-then-at-pointers

@@ -1,5 +1,4 @@
 -- `delta::shape_of`: the cases are the definition's.
-use borrow.Author.Rules.{rules}
 use Rattle.delta.proofs.shape_of.Goals as goal
 
 pub returns-in-Bytes : goal.returns-in-Bytes

@@ -1,14 +1,9 @@
 -- `delta::take_columns`: the columns so far and those that are left are all of them.
-use Prim.Native.Nat.{◌+◌, ◌-◌, ◌*◌, ◌≤◌}
-use mathlib.Core.Path.{◌≡◌, refl, ◌∙◌}
+use Prim.Native.Nat.{◌-◌, ◌*◌, ◌≤◌}
+use mathlib.Core.Path.{◌≡◌}
 use lib.ListN.{length}
 use Rattle.delta.specs.Column.{read_columns}
-use Rattle.delta.proofs.DeltaLaws.{columns_more, columns_none}
-use Rattle.delta.proofs.FillLaws.{columns_first, columns_next}
-use Rattle.delta.specs.Walk.{Columns, reading, Walked}
-use Rattle.delta.proofs.WalkLaws.{walked_none, walked_more, walked_refused, walked_all, took_next, took_faulty, next_here, faulty_here}
-use borrow.Author.Rules.{rules}
-use native.Mathlib.Omega.{arith}
+use Rattle.delta.specs.Walk.{Columns, Walked}
 use Rattle.delta.proofs.take_columns.Given as goal
 
 abbrev pub invariant-loop-left : goal.invariant-loop-left

@@ -1,13 +1,11 @@
 -- `delta::take_delta`: the planes so far and those that are left are all of them.
-use Prim.Native.Nat.{◌+◌, ◌-◌, ◌*◌, ◌≤◌}
-use mathlib.Core.Path.{◌≡◌, refl, ◌∙◌}
-use lib.ListN.{length}
+use Prim.Native.Nat.{◌+◌, ◌-◌}
+use mathlib.Core.Path.{refl, ◌∙◌}
 use Rattle.refusal.specs.declared.Refusal.TheVariants.{BadPointer}
-use Rattle.delta.specs.Delta.{read_planes, read_picture}
+use Rattle.delta.specs.Delta.{read_planes}
 use Rattle.delta.proofs.DeltaLaws.{planes_more, planes_none, picture_short, picture_planes}
-use Rattle.delta.specs.Walk.{top, reading, Walked}
+use Rattle.delta.specs.Walk.{top, reading}
 use Rattle.delta.proofs.WalkLaws.{refused_here, walked_none, walked_more, walked_refused, walked_all, took_next, took_faulty, next_here, faulty_here}
-use borrow.Author.Rules.{rules}
 use native.Mathlib.Omega.{arith}
 use Rattle.delta.proofs.take_delta.Goals as goal
 

@@ -13,7 +13,6 @@ use Rattle.delta.proofs.FillLaws.{plane_inside, words_inside, columns_most}
 use Rattle.delta.specs.Walk.{pointer_of, reading}
 use Rattle.delta.proofs.WalkLaws.{refused_here, next_here, walked_none, took_as}
 use native.Mathlib.Omega.{arith}
-use borrow.Author.Rules.{rules}
 use Rattle.delta.proofs.take_plane.Goals as goal
 
 pub returns-then-number32-eq0 : goal.returns-then-number32-eq0

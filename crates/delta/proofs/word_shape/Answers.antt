@@ -1,6 +1,5 @@
 -- `delta::word_shape`: the fields are the definition's.
 use native.Mathlib.Omega.{arith}
-use borrow.Author.Rules.{rules}
 use Rattle.delta.proofs.word_shape.Goals as goal
 
 pub overflow_mul-plane : goal.overflow_mul-plane

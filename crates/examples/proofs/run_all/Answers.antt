@@ -1,9 +1,6 @@
 -- `examples::run_all`: each line ends past the one before.
-use Prim.Native.Nat.{◌-◌}
-use mathlib.Core.Path.{◌≡◌, refl, ◌∙◌}
+use mathlib.Core.Path.{refl, ◌∙◌}
 use native.Mathlib.Omega.{arith}
-use lib.ListN.{length}
-use borrow.Author.Rules.{rules}
 use Rattle.examples.proofs.run_all.Goals as goal
 
 pub loop-at-init : goal.loop-at-init

@@ -1,15 +1,11 @@
 -- `form::next_form`: each turn is the definition's step from the place.
-use Prim.Native.Nat.{◌-◌}
 use mathlib.Core.Path.{refl, ap, ◌∙◌}
-use lib.ListN.{length}
 use borrow.Author.Tests.{eq-eqb, ne_eqb, le-leb, lt-leb}
-use Rattle.laws.specs.Result.{Res.fault}
 use Rattle.laws.proofs.ResultLaws.{each_some, told}
-use Rattle.laws.proofs.LoopLaws.{Going, starts, turns, stops}
+use Rattle.laws.proofs.LoopLaws.{starts, turns, stops}
 use Rattle.iff.specs.Chunk.{standing_of}
 use Rattle.iff.proofs.ChunkLaws.{chunk_within}
-use Rattle.form.specs.Form.{pass_on, form_step, next_form}
-use borrow.Author.Rules.{rules}
+use Rattle.form.specs.Form.{pass_on, next_form}
 use native.Mathlib.Omega.{arith}
 use Rattle.form.proofs.next_form.Goals as goal
 

@@ -4,7 +4,6 @@ use Rattle.frame.specs.Frame.{frame_at}
 use Rattle.form.specs.Form.{form_of}
 use Rattle.form.proofs.FormLaws.{Follows, form_follows}
 use Rattle.laws.proofs.ResultLaws.{told, each_some}
-use borrow.Author.Rules.{rules}
 use Rattle.frame.proofs.frame_at.Goals as goal
 
 pub frame_in-requires : goal.frame_in-requires

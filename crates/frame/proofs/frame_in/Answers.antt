@@ -9,7 +9,6 @@ use Rattle.iff.specs.Chunk.{find, found_of, FindsThree}
 use Rattle.iff.proofs.ChunkLaws.{Lies, find_lies}
 use Rattle.frame.specs.Frame.{frame_in, or_empty}
 use Rattle.frame.proofs.FrameLaws.{empty_lies, in_with}
-use borrow.Author.Rules.{rules}
 use Rattle.frame.proofs.frame_in.Goals.{After-find_three-p, After-or_empty-cmap}
 use Rattle.frame.proofs.frame_in.Goals as goal
 

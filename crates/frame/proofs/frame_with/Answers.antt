@@ -1,7 +1,6 @@
 -- `frame::frame_with`: what the header comes to, then the CMAP's length.
 use Rattle.laws.proofs.ResultLaws.{told, told_false, told_true}
 use Rattle.anhd.specs.Anhd.{anhd_of}
-use borrow.Author.Rules.{rules}
 use Rattle.frame.proofs.frame_with.Goals as goal
 
 pub returns-then-not-good_length : goal.returns-then-not-good_length

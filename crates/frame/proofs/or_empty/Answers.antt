@@ -1,5 +1,4 @@
 -- `frame::or_empty`: the answer is the definition's in each case.
-use borrow.Author.Rules.{rules}
 use Rattle.frame.proofs.or_empty.Goals as goal
 
 pub returns-in-At : goal.returns-in-At

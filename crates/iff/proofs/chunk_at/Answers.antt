@@ -4,7 +4,6 @@ use lib.ListN.{length}
 use borrow.Author.Tests.{le-leb, lt-leb}
 use Rattle.iff.specs.Chunk.{padded, chunk_at}
 use native.Mathlib.Omega.{arith}
-use borrow.Author.Rules.{rules}
 use Rattle.iff.proofs.chunk_at.Goals as goal
 
 pub returns-then-s-at : goal.returns-then-s-at

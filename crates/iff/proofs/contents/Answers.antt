@@ -4,7 +4,6 @@ use native.Mathlib.Omega.{arith}
 use Rattle.laws.proofs.ResultLaws.{told, each_some}
 use Rattle.iff.specs.Chunk.{found_of, contents}
 use Rattle.iff.proofs.ChunkLaws.{Lies, find_lies}
-use borrow.Author.Rules.{rules}
 use Rattle.iff.proofs.contents.Goals as goal
 
 pub overflow_add-end : goal.overflow_add-end

@@ -1,5 +1,4 @@
 -- `iff::find`: the first of three searches for the same id.
-use borrow.Author.Rules.{rules}
 use Rattle.iff.proofs.find.Goals as goal
 
 pub returns : goal.returns

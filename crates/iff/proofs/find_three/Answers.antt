@@ -1,10 +1,7 @@
 -- `iff::find_three`: each turn is one of the walk, with what the searches have found so far.
-use Prim.Native.Nat.{◌-◌}
-use lib.ListN.{length}
 use Rattle.laws.proofs.ResultLaws.{each_some, told}
 use Rattle.iff.specs.Chunk.{standing_of}
-use Rattle.iff.proofs.ChunkLaws.{chunk_within, Searches, search_starts, search_past, search_ends, search_breaks}
-use borrow.Author.Rules.{rules}
+use Rattle.iff.proofs.ChunkLaws.{chunk_within, search_starts, search_past, search_ends, search_breaks}
 use native.Mathlib.Omega.{arith}
 use Rattle.iff.proofs.find_three.Goals as goal
 

@@ -1,6 +1,5 @@
 -- `iff::or_part`: the answer is the definition's in each case.
 use borrow.Author.Tests.{eq-eqb, ne_eqb}
-use borrow.Author.Rules.{rules}
 use Rattle.iff.proofs.or_part.Goals as goal
 
 pub returns-then-id-wanted : goal.returns-then-id-wanted

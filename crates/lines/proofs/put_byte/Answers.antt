@@ -1,6 +1,5 @@
 -- `lines::put_byte`: a byte where there is room for it.
 use Rattle.lines.proofs.TextLaws.{adds_byte, adds_nothing}
-use borrow.Author.Rules.{rules}
 use Rattle.lines.proofs.put_byte.Goals as goal
 
 pub returns-then-at-out : goal.returns-then-at-out

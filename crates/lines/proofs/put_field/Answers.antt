@@ -1,6 +1,5 @@
 -- `lines::put_field`: a text, then a number.
 use Rattle.lines.proofs.TextLaws.{adds_then}
-use borrow.Author.Rules.{rules}
 use Rattle.lines.proofs.put_field.Goals as goal
 
 pub returns : goal.returns

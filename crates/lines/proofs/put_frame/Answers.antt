@@ -1,7 +1,6 @@
 -- `lines::put_frame`: five words and numbers, then the line's end.
 use Rattle.lines.specs.Lines.{frame_line}
 use Rattle.lines.proofs.TextLaws.{adds_then}
-use borrow.Author.Rules.{rules}
 use Rattle.lines.proofs.put_frame.Goals as goal
 
 pub returns : goal.returns

@@ -1,6 +1,5 @@
 -- `lines::put_last`: a word and a number, then the line's end.
 use Rattle.lines.proofs.TextLaws.{adds_then}
-use borrow.Author.Rules.{rules}
 use Rattle.lines.proofs.put_last.Goals as goal
 
 pub returns : goal.returns

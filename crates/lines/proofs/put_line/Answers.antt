@@ -1,7 +1,6 @@
 -- `lines::put_line`: a place past the end, then the line by its case.
 use Rattle.lines.specs.Lines.{end_line, refused_line}
 use Rattle.lines.proofs.TextLaws.{adds_within, adds_past}
-use borrow.Author.Rules.{rules}
 use Rattle.lines.proofs.put_line.Goals as goal
 
 pub returns-then-size-at : goal.returns-then-size-at

@@ -2,7 +2,6 @@
 use mathlib.Core.Path.{refl}
 use native.Mathlib.Omega.{arith}
 use Rattle.lines.proofs.TextLaws.{adds_text}
-use borrow.Author.Rules.{rules}
 use Rattle.lines.proofs.put_text.Goals as goal
 
 pub returns-then-size-at : goal.returns-then-size-at

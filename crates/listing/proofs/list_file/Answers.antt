@@ -2,7 +2,6 @@
 use Rattle.laws.proofs.ResultLaws.{told}
 use Rattle.listing.specs.Listing.{plan_of}
 use Rattle.listing.proofs.FileLaws.{lists_single, lists_pictures, pictures_fit, holds_less}
-use borrow.Author.Rules.{rules}
 use Rattle.listing.proofs.list_file.Goals as goal
 
 pub list_front-requires : goal.list_front-requires

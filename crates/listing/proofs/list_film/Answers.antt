@@ -2,7 +2,6 @@
 use Rattle.listing.proofs.FileLaws.{film_refused, film_opened}
 use Rattle.opening.specs.Open.{opening_of}
 use mathlib.Core.Path.{ap}
-use borrow.Author.Rules.{rules}
 use Rattle.listing.proofs.list_film.Goals as goal
 
 pub returns-in-Refused : goal.returns-in-Refused

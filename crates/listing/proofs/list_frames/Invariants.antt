@@ -1,12 +1,9 @@
 -- `listing::list_frames`: each turn steps on and adds the line of what was answered.
-use borrow.Author.Rules.{rules}
-use borrow.Author.Tests.{not-true, not-false}
 use Rattle.state.specs.After.{lent}
 use Rattle.listing.specs.Listing.{begun}
-use Rattle.listing.proofs.ListLaws.{Showing, showing_starts, showing_size, showing_stops, showing_less, showing_turns}
+use Rattle.listing.proofs.ListLaws.{Showing}
 use Rattle.lines.specs.Lines.{picture_line, Adds}
 use lib.ListN.{length}
-use mathlib.Core.Path.{◌∙◌}
 use mathlib.Core.List.{List}
 use Prim.Native.Nat.{ℕ, ◌-◌, min}
 use Rattle.listing.proofs.list_frames.Given as goal

@@ -2,7 +2,6 @@
 use lib.Seq.{length-take-le, length_front}
 use Rattle.listing.proofs.FileLaws.{lists_front}
 use mathlib.Core.Path.{sym}
-use borrow.Author.Rules.{rules}
 use Rattle.listing.proofs.list_front.Goals as goal
 
 pub slice_bounds-list_film-end : goal.slice_bounds-list_film-end

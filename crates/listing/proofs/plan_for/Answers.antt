@@ -2,7 +2,6 @@
 use Rattle.laws.proofs.ResultLaws.{told}
 use Rattle.opening.specs.Open.{size_of}
 use Rattle.listing.proofs.FileLaws.{file_large, size_refused, frame_large, frame_fits}
-use borrow.Author.Rules.{rules}
 use Rattle.listing.proofs.plan_for.Goals as goal
 
 pub returns-then-file-gt-FILE : goal.returns-then-file-gt-FILE

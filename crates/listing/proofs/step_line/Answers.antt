@@ -1,6 +1,5 @@
 -- `listing::step_line`: the line by the answer.
 use mathlib.Core.Path.{refl}
-use borrow.Author.Rules.{rules}
 use Rattle.listing.proofs.step_line.Goals as goal
 
 pub returns-in-Refused : goal.returns-in-Refused

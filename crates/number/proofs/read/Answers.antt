@@ -9,7 +9,6 @@ use lib.Seq.{drop-cons}
 use Rattle.number.specs.Number.{read_number, ReadAt}
 use Rattle.number.specs.declared.Parsed.TheVariants.{Number, Malformed}
 use Rattle.number.proofs.GroupLaws.{groups_end, groups_last, last_ok}
-use borrow.Author.Rules.{rules}
 use native.Mathlib.Omega.{arith}
 use Rattle.number.proofs.read.Goals as goal
 

@@ -11,7 +11,6 @@ use lib.Seq.{drop-cons}
 use Rattle.number.specs.Number.{groups, last_group, read_number, ReadAt}
 use Rattle.number.specs.declared.Parsed.TheVariants.{Number}
 use Rattle.number.proofs.GroupLaws.{groups_none, groups_end, groups_last, groups_more, last_ok, last_big, last_zero}
-use borrow.Author.Rules.{rules}
 use native.Mathlib.Omega.{arith}
 use Rattle.number.proofs.read_groups.Invariants.{Reading}
 use Rattle.number.proofs.read_groups.Goals.{After-shared_slice_known-1}

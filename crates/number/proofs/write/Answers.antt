@@ -1,7 +1,6 @@
 -- `number::write`: the two tests say whether the bytes fit.
 use Rattle.number.proofs.NumberLaws.{fitting, not_fitting}
 use native.Mathlib.Omega.{arith}
-use borrow.Author.Rules.{rules}
 use Rattle.number.proofs.write.Goals as goal
 
 pub returns-then-out-at : goal.returns-then-out-at

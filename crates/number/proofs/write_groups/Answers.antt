@@ -1,5 +1,5 @@
 -- `number::write_groups`: what is left to write, from here, comes to the whole number at its place.
-use Prim.Native.Nat.{ℕ, ◌+◌, ◌/◌, ◌%◌, ◌^◌, ◌<◌, ◌≤◌}
+use Prim.Native.Nat.{ℕ, ◌+◌, ◌/◌, ◌%◌, ◌<◌, ◌≤◌}
 use native.Mathlib.Numerals.{add-one}
 use mathlib.Core.List.{List}
 use mathlib.Core.Path.{◌≡◌, refl}
@@ -7,7 +7,6 @@ use lib.ListN.{length, set, length-set}
 use lib.Seq.{sets}
 use Rattle.number.specs.Number.{write_number}
 use Rattle.number.proofs.NumberLaws.{write_last, write_more, write_length}
-use borrow.Author.Rules.{rules}
 use native.Mathlib.Omega.{arith}
 use Rattle.number.proofs.write_groups.Invariants.{Writing}
 use Rattle.number.proofs.write_groups.Goals as goal

@@ -1,14 +1,10 @@
 -- `number::write_groups`: what is left to write, from here, comes to the whole number at its place.
-use Prim.Native.Nat.{ℕ, ◌+◌, ◌/◌, ◌%◌, ◌^◌, ◌<◌, ◌≤◌}
-use native.Mathlib.Numerals.{add-one}
+use Prim.Native.Nat.{ℕ, ◌+◌, ◌^◌, ◌<◌}
 use mathlib.Core.List.{List}
-use mathlib.Core.Path.{◌≡◌, refl}
-use lib.ListN.{length, set, length-set}
+use mathlib.Core.Path.{◌≡◌}
+use lib.ListN.{length}
 use lib.Seq.{sets}
 use Rattle.number.specs.Number.{write_number}
-use Rattle.number.proofs.NumberLaws.{write_last, write_more, write_length}
-use borrow.Author.Rules.{rules}
-use native.Mathlib.Omega.{arith}
 use Rattle.number.proofs.write_groups.Given as goal
 
 -- the loop's invariant: writing the rest from here leaves the place and the bytes that writing the whole would

@@ -3,7 +3,6 @@ use mathlib.Core.Path.{refl}
 use Rattle.laws.proofs.ResultLaws.{told}
 use Rattle.iff.specs.Chunk.{found_of}
 use Rattle.opening.specs.Open.{body_in}
-use borrow.Author.Rules.{rules}
 use Rattle.opening.proofs.body_in.Goals as goal
 
 pub returns-in-Refused : goal.returns-in-Refused

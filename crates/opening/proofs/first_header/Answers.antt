@@ -1,10 +1,9 @@
 -- `opening::first_header`: 31, then what the BMHD comes to.
-use mathlib.Core.Bool.{true, false}
+use mathlib.Core.Bool.{false}
 use mathlib.Core.Path.{◌≡◌, refl, ◌∙◌}
-use Rattle.laws.proofs.ResultLaws.{told, told_true, told_false}
+use Rattle.laws.proofs.ResultLaws.{told, told_false}
 use Rattle.iff.specs.Chunk.{found_of}
 use Rattle.opening.specs.Open.{first_header}
-use borrow.Author.Rules.{rules}
 use Rattle.opening.proofs.first_header.Goals.{then-not-body+in-At, else-not-body}
 use Rattle.opening.proofs.first_header.Goals as goal
 

@@ -5,7 +5,6 @@ use Rattle.laws.proofs.ResultLaws.{told, each_is}
 use Rattle.form.specs.Form.{outer_of}
 use Rattle.form.proofs.FormLaws.{anim_closes}
 use Rattle.opening.proofs.OpenLaws.{too_long, no_anim, anim_is}
-use borrow.Author.Rules.{rules}
 use Rattle.opening.proofs.first_places.Goals as goal
 
 pub returns-then-file-gt-MAX_PLACE : goal.returns-then-file-gt-MAX_PLACE

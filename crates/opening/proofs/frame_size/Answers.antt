@@ -6,7 +6,6 @@ use Rattle.laws.proofs.ResultLaws.{told}
 use Rattle.bmhd.specs.Header.{bmhd_of}
 use Rattle.opening.specs.Parts.{places_of}
 use Rattle.opening.proofs.OpenLaws.{chunks_inside, size_nowhere, size_header}
-use borrow.Author.Rules.{rules}
 use Rattle.opening.proofs.frame_size.Goals as goal
 
 pub overflow_add-stop : goal.overflow_add-stop

@@ -5,7 +5,6 @@ use mathlib.Core.Path.{refl}
 use Rattle.laws.proofs.ResultLaws.{told}
 use Rattle.opening.specs.Parts.{places_of}
 use Rattle.opening.proofs.OpenLaws.{chunks_inside, opens_nowhere, opens_at}
-use borrow.Author.Rules.{rules}
 use Rattle.opening.proofs.open.Goals as goal
 
 pub overflow_add-stop : goal.overflow_add-stop

@@ -8,7 +8,6 @@ use Rattle.bmhd.specs.Header.{bmhd_of}
 use Rattle.opening.specs.Open.{first_header}
 use Rattle.opening.specs.Parts.{filled_of}
 use Rattle.opening.proofs.OpenLaws.{first_refused, first_opened, first_unread, first_left, first_right, first_unmapped, first_fits, first_bad, first_taken, fills_kept}
-use borrow.Author.Rules.{rules}
 use Rattle.opening.proofs.open_picture.Goals.{In-Picture}
 use Rattle.opening.proofs.open_picture.Goals as goal
 

@@ -6,7 +6,6 @@ use Rattle.form.specs.Form.{form_of}
 use Rattle.form.proofs.FormLaws.{Follows, form_follows}
 use Rattle.opening.specs.Parts.{has_body_of}
 use Rattle.opening.proofs.OpenLaws.{anim_broken, anim_empty, form_broken, form_given}
-use borrow.Author.Rules.{rules}
 use Rattle.opening.proofs.places_in.Goals as goal
 
 pub overflow_add-stop : goal.overflow_add-stop

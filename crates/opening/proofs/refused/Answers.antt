@@ -1,5 +1,4 @@
 -- `opening::refused`: the state is six zeros.
-use borrow.Author.Rules.{rules}
 use Rattle.opening.proofs.refused.Goals as goal
 
 pub returns : goal.returns

@@ -16,7 +16,6 @@ use Rattle.record.specs.Record.{record_bytes}
 use Rattle.record.specs.Walk.{Counted, Laid}
 use Rattle.record.proofs.RecordLaws.{counted, head_length, two_lengths, too_long, no_map, no_room, is_written}
 use Rattle.record.proofs.MapLaws.{laid_fits, laid_over}
-use borrow.Author.Rules.{rules}
 use Rattle.record.proofs.commit.Goals.{After-count-counts, After-map_length, After-written_length-3}
 use Rattle.record.proofs.commit.Goals as goal
 

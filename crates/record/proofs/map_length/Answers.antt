@@ -4,7 +4,6 @@ use mathlib.Core.Path.{sym}
 use lib.ListN.{length, take}
 use Rattle.record.specs.Walk.{Counted}
 use Rattle.record.proofs.MapLaws.{part_long, part_counted, map_measured}
-use borrow.Author.Rules.{rules}
 use Rattle.record.proofs.map_length.Goals.{After-count-counts}
 use Rattle.record.proofs.map_length.Goals as goal
 

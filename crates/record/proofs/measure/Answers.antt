@@ -1,5 +1,5 @@
 -- `record::measure`: what is passed and what is left, from here, come to the whole.
-use Prim.Native.Nat.{ℕ, ◌+◌, ◌-◌, ◌*◌, ◌≤◌}
+use Prim.Native.Nat.{ℕ, ◌+◌, ◌≤◌}
 use mathlib.Core.List.{List, []}
 use mathlib.Core.Path.{◌≡◌}
 use lib.ListN.{length, drop}
@@ -9,7 +9,6 @@ use Rattle.runs.specs.Runs.{runs_of, change_of}
 use Rattle.runs.proofs.NextLaws.{RunAhead, ahead_of, none_ahead}
 use Rattle.record.specs.RunList.{runs_bytes}
 use Rattle.record.proofs.RunLaws.{ahead_bytes_length}
-use borrow.Author.Rules.{rules}
 use native.Mathlib.Omega.{arith}
 use Rattle.record.proofs.measure.Invariants.{Measuring}
 use Rattle.record.proofs.measure.Goals.{In-Run}

@@ -1,16 +1,10 @@
 -- `record::measure`: what is passed and what is left, from here, come to the whole.
 use Prim.Native.Nat.{ℕ, ◌+◌, ◌-◌, ◌*◌, ◌≤◌}
-use mathlib.Core.List.{List, []}
+use mathlib.Core.List.{List}
 use mathlib.Core.Path.{◌≡◌}
 use lib.ListN.{length, drop}
-use Rattle.number.specs.Number.{write_number}
-use Rattle.laws.proofs.ResultLaws.{told}
-use Rattle.runs.specs.Runs.{runs_of, change_of}
-use Rattle.runs.proofs.NextLaws.{RunAhead, ahead_of, none_ahead}
+use Rattle.runs.specs.Runs.{runs_of}
 use Rattle.record.specs.RunList.{runs_bytes}
-use Rattle.record.proofs.RunLaws.{ahead_bytes_length}
-use borrow.Author.Rules.{rules}
-use native.Mathlib.Omega.{arith}
 use Rattle.record.proofs.measure.Given as goal
 
 -- the loop's invariant

@@ -1,7 +1,6 @@
 -- `record::put_list`: the number of runs, then the runs.
 use native.Mathlib.Omega.{arith}
 use Rattle.record.proofs.RecordLaws.{list_length, list_put}
-use borrow.Author.Rules.{rules}
 use Rattle.record.proofs.put_list.Goals as goal
 
 pub put_number-first-requires : goal.put_number-first-requires

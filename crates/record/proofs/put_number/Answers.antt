@@ -1,6 +1,5 @@
 -- `record::put_number`: the number fits, so that it is written.
 use Rattle.record.proofs.PutLaws.{put_next, put_fits}
-use borrow.Author.Rules.{rules}
 use Rattle.record.proofs.put_number.Goals as goal
 
 pub returns-in-Next : goal.returns-in-Next

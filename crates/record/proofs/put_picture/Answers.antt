@@ -1,7 +1,6 @@
 -- `record::put_picture`: the two numbers, then the run list.
 use native.Mathlib.Omega.{arith}
 use Rattle.record.proofs.RecordLaws.{picture_length, picture_put}
-use borrow.Author.Rules.{rules}
 use Rattle.record.proofs.put_picture.Goals as goal
 
 pub put_number-place_at-requires : goal.put_number-place_at-requires

@@ -6,7 +6,6 @@ use lib.ListN.{length}
 use Rattle.colours.specs.Colours.{coloured}
 use Rattle.record.proofs.RecordLaws.{record_length, record_put}
 use Rattle.record.proofs.CommitLaws.{committed_all}
-use borrow.Author.Rules.{rules}
 use Rattle.record.proofs.put_record.Goals as goal
 
 pub put_picture-at-requires : goal.put_picture-at-requires

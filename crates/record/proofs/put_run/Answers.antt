@@ -1,7 +1,6 @@
 -- `record::put_run`: the gap, the count and the old bytes are put one after the other.
 use native.Mathlib.Omega.{arith}
 use Rattle.record.proofs.RunLaws.{run_put}
-use borrow.Author.Rules.{rules}
 use Rattle.record.proofs.put_run.Goals as goal
 
 pub replace-requires : goal.replace-requires

@@ -1,5 +1,5 @@
 -- `record::put_runs`: whatever puts the runs that are left, from here, puts them all; the picture is done up to here.
-use Prim.Native.Nat.{ℕ, ◌+◌, ◌-◌, ◌≤◌}
+use Prim.Native.Nat.{ℕ, ◌+◌}
 use native.Mathlib.Omega.{arith}
 use mathlib.Core.Bool.{Bool}
 use mathlib.Core.List.{List, []}
@@ -14,10 +14,9 @@ use Rattle.laws.proofs.StoreLaws.{wanted_length}
 use Rattle.runs.proofs.PatchLaws.{same_of_none}
 use Rattle.runs.specs.Runs.{runs_of, change_of}
 use Rattle.runs.proofs.NextLaws.{RunAhead, ahead_of, none_ahead}
-use Rattle.record.proofs.CommitLaws.{Committing, committing_starts, committing_more, committing_ends, replaced_behind}
+use Rattle.record.proofs.CommitLaws.{committing_starts, committing_more, committing_ends, replaced_behind}
 use Rattle.record.specs.RunList.{run_bytes, runs_bytes}
 use Rattle.record.proofs.RunLaws.{ahead_bytes, ahead_bytes_length, ahead_size}
-use borrow.Author.Rules.{rules}
 use Rattle.record.proofs.put_runs.Invariants.{Writing}
 use Rattle.record.proofs.put_runs.Goals.{In-Run}
 use Rattle.record.proofs.put_runs.Goals as goal

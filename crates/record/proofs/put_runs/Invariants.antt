@@ -1,23 +1,13 @@
 -- `record::put_runs`: whatever puts the runs that are left, from here, puts them all; the picture is done up to here.
 use Prim.Native.Nat.{ℕ, ◌+◌, ◌-◌, ◌≤◌}
-use native.Mathlib.Omega.{arith}
 use mathlib.Core.Bool.{Bool}
-use mathlib.Core.List.{List, []}
-use mathlib.Core.Path.{◌≡◌, refl, ap, ◌∙◌}
-use lib.ListN.{length, take, drop, length-drop}
-use lib.Seq.{sets}
+use mathlib.Core.List.{List}
+use mathlib.Core.Path.{◌≡◌}
+use lib.ListN.{length, drop}
 use Rattle.laws.specs.Put.{Put}
-use Rattle.laws.proofs.PutLaws.{put_then, put_nothing}
-use Rattle.laws.specs.Result.{pick}
-use Rattle.laws.proofs.ResultLaws.{told}
-use Rattle.laws.proofs.StoreLaws.{wanted_length}
-use Rattle.runs.proofs.PatchLaws.{same_of_none}
-use Rattle.runs.specs.Runs.{runs_of, change_of}
-use Rattle.runs.proofs.NextLaws.{RunAhead, ahead_of, none_ahead}
-use Rattle.record.proofs.CommitLaws.{Committing, committing_starts, committing_more, committing_ends, replaced_behind}
-use Rattle.record.specs.RunList.{run_bytes, runs_bytes}
-use Rattle.record.proofs.RunLaws.{ahead_bytes, ahead_bytes_length, ahead_size}
-use borrow.Author.Rules.{rules}
+use Rattle.runs.specs.Runs.{runs_of}
+use Rattle.record.proofs.CommitLaws.{Committing}
+use Rattle.record.specs.RunList.{runs_bytes}
 use Rattle.record.proofs.put_runs.Given as goal
 
 -- the loop's invariant

@@ -1,7 +1,6 @@
 -- `record::replace`: the part that is lent to the copy has the length of what is copied.
 use borrow.Author.Tests.{not-true, not-false}
 use Rattle.laws.proofs.StoreLaws.{lent_copy}
-use borrow.Author.Rules.{rules}
 use Rattle.record.proofs.replace.Goals as goal
 
 pub returns-then-not-wanted : goal.returns-then-not-wanted

@@ -1,7 +1,6 @@
 -- `record::run_length`: a number takes at most five bytes.
 use Rattle.number.proofs.NumberLaws.{write_length}
 use native.Mathlib.Omega.{arith}
-use borrow.Author.Rules.{rules}
 use Rattle.record.proofs.run_length.Goals as goal
 
 pub overflow_add-result : goal.overflow_add-result

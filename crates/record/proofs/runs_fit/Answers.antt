@@ -12,7 +12,6 @@ use Rattle.changes.proofs.CountLaws.{runs_counted, changed_counted, differing_sh
 use Rattle.changes.specs.declared.Counts.{Counts}
 use Rattle.record.specs.RunList.{runs_bytes}
 use Rattle.record.proofs.RoomLaws.{runs_room}
-use borrow.Author.Rules.{rules}
 use Rattle.record.proofs.runs_fit.Goals as goal
 
 module _ (old new : List ℕ) {c : Counts} (l : length old ≡ length new) (e : c ≡ count old new) where

@@ -2,7 +2,6 @@
 use mathlib.Core.Path.{refl, subst}
 use Rattle.restore.specs.Walk.{Took}
 use Rattle.restore.proofs.RestoreLaws.{bad_first, bad_second, left_over, good_lists}
-use borrow.Author.Rules.{rules}
 use Rattle.restore.proofs.check_lists.Goals as goal
 
 pub returns-then-end-bytes : goal.returns-then-end-bytes

@@ -1,12 +1,11 @@
 -- `restore::differs`: the flag stands while the bytes passed so far differ.
-use Prim.Native.Nat.{◌+◌, ◌-◌, ◌<◌, ◌≤◌}
+use Prim.Native.Nat.{◌+◌, ◌<◌}
 use native.Mathlib.Omega.{arith}
 use mathlib.Core.Path.{◌≡◌, refl, ◌∙◌}
 use borrow.Author.Tests.{eq-eqb, ne_eqb}
-use lib.ListN.{length, take, drop}
+use lib.ListN.{length}
 use Rattle.runs.specs.Runs.{differ}
 use Rattle.restore.proofs.ReadLaws.{differs_on, differs_off}
-use borrow.Author.Rules.{rules}
 use Rattle.restore.proofs.differs.Goals.{then-bytes-start, else-bytes-start}
 use Rattle.restore.proofs.differs.Goals as goal
 

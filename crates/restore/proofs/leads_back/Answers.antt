@@ -5,7 +5,6 @@ use Rattle.laws.proofs.ResultLaws.{told_false, told_true}
 use Rattle.record.specs.Record.{past_of}
 use Rattle.restore.specs.Walk.{HeaderAt, ListsAt, past_from}
 use Rattle.restore.proofs.RestoreLaws.{bad_record, not_its_own, leads_to}
-use borrow.Author.Rules.{rules}
 use Rattle.restore.proofs.leads_back.Goals.{After-check_lists-c}
 use Rattle.restore.proofs.leads_back.Goals as goal
 

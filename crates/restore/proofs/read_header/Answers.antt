@@ -1,7 +1,6 @@
 -- `restore::read_header`: the definition's first two steps.
 use Rattle.number.proofs.NumberLaws.{number_found, none_found}
 use Rattle.restore.proofs.RestoreLaws.{no_frame, no_place, header_found}
-use borrow.Author.Rules.{rules}
 use Rattle.restore.proofs.read_header.Goals as goal
 
 pub returns-in-Malformed : goal.returns-in-Malformed

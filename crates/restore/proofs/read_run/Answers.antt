@@ -3,7 +3,6 @@ use native.Mathlib.Nat.{pos_of_ne-zero}
 use Rattle.number.proofs.NumberLaws.{Found, number_found, none_found}
 use Rattle.restore.proofs.ReadLaws.{no_gap, short_gap, no_count, count_of_none, past_end, ends_early, run_found}
 use native.Mathlib.Omega.{arith}
-use borrow.Author.Rules.{rules}
 use Rattle.restore.proofs.read_run.Goals.{In-Number, In-Number-n}
 use Rattle.restore.proofs.read_run.Goals as goal
 

@@ -2,7 +2,6 @@
 use mathlib.Core.Path.{subst}
 use Rattle.restore.specs.Walk.{LeadsBack}
 use Rattle.restore.proofs.RestoreLaws.{is_kept, is_back}
-use borrow.Author.Rules.{rules}
 use Rattle.restore.proofs.restore.Goals as goal
 
 pub returns-in-Refused : goal.returns-in-Refused

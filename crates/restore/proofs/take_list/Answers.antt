@@ -2,7 +2,6 @@
 use mathlib.Core.Path.{refl}
 use Rattle.number.proofs.NumberLaws.{number_found, none_found}
 use Rattle.restore.proofs.TakeLaws.{none_taken, list_faulty, list_found}
-use borrow.Author.Rules.{rules}
 use Rattle.restore.proofs.take_list.Goals as goal
 
 pub returns-in-Malformed : goal.returns-in-Malformed

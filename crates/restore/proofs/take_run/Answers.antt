@@ -1,5 +1,4 @@
 -- `restore::take_run`: a copy, or a comparison.
-use borrow.Author.Rules.{rules}
 use Rattle.restore.proofs.take_run.Goals as goal
 
 pub returns-then-putting : goal.returns-then-putting

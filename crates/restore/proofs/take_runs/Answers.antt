@@ -1,13 +1,11 @@
 -- `restore::take_runs`: each turn takes the next run of the definition's list.
 use native.Mathlib.Omega.{arith}
 use Prim.Native.Nat.{◌-◌}
-use lib.ListN.{length, drop}
+use lib.ListN.{length}
 use mathlib.Core.Path.{subst}
 use borrow.Author.Tests.{not-true, not-false}
-use Rattle.record.specs.RunList.{read_runs}
 use Rattle.restore.specs.Walk.{RunAt, RunFound}
-use Rattle.restore.proofs.TakeLaws.{Taking, take_starts, take_ends, take_faulty, take_equal, take_more}
-use borrow.Author.Rules.{rules}
+use Rattle.restore.proofs.TakeLaws.{take_starts, take_ends, take_faulty, take_equal, take_more}
 use Rattle.restore.proofs.take_runs.Goals.{In-Whole}
 use Rattle.restore.proofs.take_runs.Goals as goal
 

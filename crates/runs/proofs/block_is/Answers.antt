@@ -1,7 +1,6 @@
 -- `runs::block_is`: while the flag stands, the bytes passed so far are as they should be.
-use Prim.Native.Nat.{◌+◌, ◌-◌, ◌<◌, ◌≤◌}
+use Prim.Native.Nat.{◌+◌, ◌<◌}
 use mathlib.Core.Path.{◌≡◌, ◌∙◌}
-use lib.Dec.{leb}
 use lib.ListN.{length, drop}
 use Rattle.runs.specs.Stretch.{stretch}
 use Rattle.runs.proofs.StretchLaws.{block_starts, block_on, block_off, as_asked, not_asked}

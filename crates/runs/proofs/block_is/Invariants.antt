@@ -1,13 +1,9 @@
 -- `runs::block_is`: while the flag stands, the bytes passed so far are as they should be.
-use Prim.Native.Nat.{◌+◌, ◌-◌, ◌<◌, ◌≤◌}
-use mathlib.Core.Path.{◌≡◌, ◌∙◌}
-use mathlib.Core.Logic.{⊎_elim}
+use Prim.Native.Nat.{◌-◌, ◌≤◌}
+use mathlib.Core.Path.{◌≡◌}
 use lib.Dec.{leb}
-use lib.ListN.{length, drop}
+use lib.ListN.{drop}
 use Rattle.runs.specs.Stretch.{stretch}
-use Rattle.runs.proofs.StretchLaws.{block_starts, block_on, block_off, as_asked, not_asked}
-use borrow.Author.Rules.{rules}
-use native.Mathlib.Omega.{arith}
 use Rattle.runs.proofs.block_is.Given as goal
 
 abbrev pub invariant-loop-i : goal.invariant-loop-i

@@ -1,9 +1,5 @@
 -- `runs::byte_end`: each turn is one more byte of the stretch.
-use Prim.Native.Nat.{◌-◌}
-use lib.ListN.{length}
-use Rattle.runs.specs.Stretch.{Scanned}
 use Rattle.runs.proofs.StretchLaws.{as_asked, not_asked, scan_starts, scan_more, scan_stops, scan_ends}
-use borrow.Author.Rules.{rules}
 use Rattle.runs.proofs.byte_end.Goals as goal
 
 pub loop-i-init : goal.loop-i-init

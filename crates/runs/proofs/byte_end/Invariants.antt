@@ -2,8 +2,6 @@
 use Prim.Native.Nat.{◌-◌}
 use lib.ListN.{length}
 use Rattle.runs.specs.Stretch.{Scanned}
-use Rattle.runs.proofs.StretchLaws.{as_asked, not_asked, scan_starts, scan_more, scan_stops, scan_ends}
-use borrow.Author.Rules.{rules}
 use Rattle.runs.proofs.byte_end.Given as goal
 
 abbrev pub invariant-loop-i : goal.invariant-loop-i

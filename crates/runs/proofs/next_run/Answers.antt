@@ -1,6 +1,5 @@
 -- `runs::next_run`: equal bytes, then differing ones, are the gap and the run.
 use Rattle.runs.proofs.NextLaws.{two_lengths, past_end, nothing_ahead, run_ahead}
-use borrow.Author.Rules.{rules}
 use Rattle.runs.proofs.next_run.Goals as goal
 
 pub returns-then-old-new : goal.returns-then-old-new

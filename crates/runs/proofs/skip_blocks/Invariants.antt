@@ -1,11 +1,7 @@
 -- `runs::skip_blocks`: each turn jumps over the bytes of a block.
 use Prim.Native.Nat.{◌-◌}
 use lib.ListN.{length}
-use mathlib.Core.Path.{sym, ◌∙◌}
-use borrow.Author.Tests.{leb-true, not-false}
 use Rattle.runs.specs.Stretch.{Scanned}
-use Rattle.runs.proofs.StretchLaws.{scan_starts, scan_jumps}
-use borrow.Author.Rules.{rules}
 use Rattle.runs.proofs.skip_blocks.Given as goal
 
 abbrev pub invariant-loop-i : goal.invariant-loop-i

@@ -2,7 +2,6 @@
 use native.Mathlib.Omega.{arith}
 use Rattle.runs.proofs.StretchLaws.{scan_starts, scan_jumps, scan_then, scan_is}
 use Rattle.runs.proofs.StopLaws.{eighth, scan_word}
-use borrow.Author.Rules.{rules}
 use Rattle.runs.proofs.stretch_end.Goals as goal
 
 pub overflow_cast-result : goal.overflow_cast-result

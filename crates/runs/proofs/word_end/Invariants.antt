@@ -1,11 +1,7 @@
 -- `runs::word_end`: each turn is eight more bytes of the stretch.
 use Prim.Native.Nat.{◌-◌}
-use native.Mathlib.Omega.{arith}
 use lib.ListN.{length}
 use Rattle.runs.specs.Stretch.{Scanned}
-use Rattle.runs.proofs.StretchLaws.{scan_starts, scan_jumps, scan_is}
-use Rattle.runs.proofs.StopLaws.{eighth, scan_word}
-use borrow.Author.Rules.{rules}
 use Rattle.runs.proofs.word_end.Given as goal
 
 abbrev pub invariant-loop-i : goal.invariant-loop-i

@@ -5,7 +5,6 @@ use Rattle.state.specs.World.{is_odd}
 use Rattle.laws.proofs.ResultLaws.{told}
 use borrow.Author.Tests.{eq-eqb, ne_eqb}
 use native.Mathlib.Omega.{arith}
-use borrow.Author.Rules.{rules}
 use Rattle.shown.proofs.row.Goals as goal
 
 pub overflow_add-end : goal.overflow_add-end

@@ -4,7 +4,6 @@ use Rattle.laws.proofs.ResultLaws.{told, each_is}
 use Rattle.state.specs.State.{length_of}
 use Rattle.state.proofs.StateLaws.{lent_sound}
 use Rattle.shown.proofs.RowLaws.{Small, row_small, place_refused, no_plane, no_row, place_is}
-use borrow.Author.Rules.{rules}
 use Rattle.shown.proofs.row_place.Goals.{Else-sizes-row}
 use Rattle.shown.proofs.row_place.Goals as goal
 

@@ -2,7 +2,6 @@
 use borrow.Author.Tests.{eq-eqb, ne_eqb}
 use Rattle.state.specs.World.{World, is_odd}
 use Rattle.step_back.proofs.BackLaws.{shown_odd, shown_even}
-use borrow.Author.Rules.{rules}
 use Rattle.step_back.proofs.restore_shown.Goals.{Start}
 use Rattle.step_back.proofs.restore_shown.Goals as goal
 

@@ -8,7 +8,6 @@ use Rattle.state.specs.State.{length_of, step_length}
 use Rattle.state.specs.World.{World}
 use Rattle.state.proofs.StateLaws.{step_sound}
 use Rattle.step_back.proofs.BackLaws.{back_refused, back_kept, back_taken}
-use borrow.Author.Rules.{rules}
 use Rattle.step_back.proofs.step_back.Goals.{In-Bytes, Start}
 use Rattle.step_back.proofs.step_back.Goals as goal
 

@@ -1,7 +1,6 @@
 -- `step_on::apply_frame`: the interleave names the picture.
 use mathlib.Core.Path.{◌≡◌}
 use borrow.Author.Tests.{eq-eqb, ne_eqb}
-use borrow.Author.Rules.{rules}
 use Rattle.step_on.proofs.apply_frame.Goals as goal
 
 pub returns-then-header-eq1 : goal.returns-then-header-eq1

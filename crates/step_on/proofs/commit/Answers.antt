@@ -2,7 +2,6 @@
 use native.Mathlib.Numerals.{add-one}
 use mathlib.Core.Path.{◌∙◌}
 use Rattle.step_on.proofs.StepLaws.{commit_unfit, commit_fit}
-use borrow.Author.Rules.{rules}
 use Rattle.step_on.proofs.commit.Goals as goal
 
 pub returns-in-Refused : goal.returns-in-Refused

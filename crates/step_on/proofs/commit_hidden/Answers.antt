@@ -3,7 +3,6 @@ use native.Mathlib.Numerals.{add-one}
 use borrow.Author.Tests.{eq-eqb, ne_eqb}
 use Rattle.state.specs.World.{is_odd}
 use Rattle.step_on.proofs.StepLaws.{hidden_odd, hidden_even}
-use borrow.Author.Rules.{rules}
 use Rattle.step_on.proofs.commit_hidden.Goals as goal
 
 pub returns-then-state-eq1 : goal.returns-then-state-eq1

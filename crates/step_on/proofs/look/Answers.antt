@@ -4,7 +4,6 @@ use Rattle.laws.proofs.ResultLaws.{told}
 use Rattle.state.specs.State.{row_bytes}
 use Rattle.frame.specs.Frame.{next_of, frame_at}
 use Rattle.step_on.proofs.StepLaws.{look_refused, look_ended, look_unbuilt, look_built}
-use borrow.Author.Rules.{rules}
 use Rattle.step_on.proofs.look.Goals.{After-frame_at-f}
 use Rattle.step_on.proofs.look.Goals as goal
 

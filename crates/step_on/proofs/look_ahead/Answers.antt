@@ -5,7 +5,6 @@ use Rattle.state.specs.World.{is_odd}
 use Rattle.step_on.specs.Parts.{ready_of}
 use Rattle.step_on.proofs.ReadyLaws.{ready_passed}
 use Rattle.step_on.proofs.StepLaws.{ahead_refused, ahead_odd, ahead_even}
-use borrow.Author.Rules.{rules}
 use Rattle.step_on.proofs.look_ahead.Goals as goal
 
 pub look-requires : goal.look-requires

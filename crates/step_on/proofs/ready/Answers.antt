@@ -3,7 +3,6 @@ use borrow.Author.Tests.{le-leb, lt-leb, eq-eqb, ne_eqb, lt-ltb, le-ltb}
 use Rattle.laws.proofs.ResultLaws.{told}
 use Rattle.state.specs.State.{length_of}
 use Rattle.step_on.specs.Step.{ready}
-use borrow.Author.Rules.{rules}
 use Rattle.step_on.proofs.ready.Goals as goal
 
 pub returns-then-file-state : goal.returns-then-file-state

@@ -1,7 +1,6 @@
 -- `words::number32`: the four bytes' bounds give the sum's.
 use native.Mathlib.Omega.{arith}
 use Rattle.laws.proofs.BytesLaws.{word_four}
-use borrow.Author.Rules.{rules}
 use Rattle.words.proofs.number32.Goals as goal
 
 pub returns : goal.returns

@@ -2,7 +2,6 @@
 use Rattle.words.specs.Words.{le64}
 use native.Mathlib.Omega.{arith}
 use Rattle.laws.proofs.BytesLaws.{word_halves}
-use borrow.Author.Rules.{rules}
 use Rattle.words.proofs.number64.Goals as goal
 
 pub returns : goal.returns

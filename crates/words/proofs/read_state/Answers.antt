@@ -1,7 +1,6 @@
 -- `words::read_state`: the six numbers of 48 bytes.
 use borrow.Author.Tests.{eq-eqb, ne_eqb}
 use Rattle.words.specs.Words.{read_state}
-use borrow.Author.Rules.{rules}
 use Rattle.words.proofs.read_state.Goals as goal
 
 pub returns-then-s-ne48 : goal.returns-then-s-ne48

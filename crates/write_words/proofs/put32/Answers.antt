@@ -3,7 +3,6 @@ use Rattle.words.proofs.WordLaws.{put_four}
 use lib.ListN.{length-set}
 use mathlib.Core.Path.{refl}
 use native.Mathlib.Omega.{arith}
-use borrow.Author.Rules.{rules}
 use Rattle.write_words.proofs.put32.Goals as goal
 
 pub bounds-out-at-2 : goal.bounds-out-at-2

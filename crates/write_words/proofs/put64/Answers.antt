@@ -1,7 +1,6 @@
 -- `write_words::put64`: the low half, then the high half.
 use Rattle.words.proofs.WordLaws.{put_halves}
 use native.Mathlib.Omega.{arith}
-use borrow.Author.Rules.{rules}
 use Rattle.write_words.proofs.put64.Goals as goal
 
 pub returns : goal.returns

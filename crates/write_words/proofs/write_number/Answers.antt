@@ -1,7 +1,6 @@
 -- `write_words::write_number`: one number.
 use Rattle.words.proofs.WordLaws.{put_none, put_more, laid, not_laid}
 use mathlib.Core.List.{[], ◌∷◌}
-use borrow.Author.Rules.{rules}
 use Rattle.write_words.proofs.write_number.Goals as goal
 
 pub returns-then-out-ne8 : goal.returns-then-out-ne8

@@ -2,7 +2,6 @@
 use Rattle.words.specs.Words.{report_words}
 use Rattle.words.proofs.WordLaws.{put_none, put_more, laid, not_laid}
 use mathlib.Core.List.{[], ◌∷◌}
-use borrow.Author.Rules.{rules}
 use Rattle.write_words.proofs.write_report.Goals as goal
 
 pub returns-then-out-ne40 : goal.returns-then-out-ne40

@@ -2,7 +2,6 @@
 use Rattle.words.proofs.WordLaws.{put_none, put_more, laid, not_laid}
 use Rattle.words.specs.Words.{state_words}
 use mathlib.Core.List.{[], ◌∷◌}
-use borrow.Author.Rules.{rules}
 use Rattle.write_words.proofs.write_state.Goals as goal
 
 pub returns-then-out-ne48 : goal.returns-then-out-ne48

@@ -4,10 +4,9 @@ use Prim.Native.Nat.{ℕ, ◌+◌, ◌-◌, ◌*◌, ◌≤◌, ◌<◌}
 use mathlib.Core.List.{List}
 use mathlib.Core.Path.{◌≡◌}
 use lib.ListN.{length}
-use Rattle.column_writer.proofs.CountLaws.{Counting, counting, counting_more, counting_last}
+use Rattle.column_writer.proofs.CountLaws.{counting, counting_more, counting_last}
 use Rattle.writer.specs.Write.{plane_bytes, lists_bytes}
-use Rattle.writer.proofs.PlaneLaws.{Walking, walking, walking_more, walking_plane, lists_parts, lists_none}
-use borrow.Author.Rules.{rules}
+use Rattle.writer.proofs.PlaneLaws.{walking, walking_more, walking_plane, lists_parts, lists_none}
 use Rattle.writer.proofs.lists_length.Invariants.{Lists}
 use Rattle.writer.proofs.lists_length.Goals as goal
 

@@ -1,13 +1,9 @@
 -- `writer::lists_length`: what is counted and what is left, from here, come to the whole.
-use native.Mathlib.Omega.{arith}
-use Prim.Native.Nat.{ℕ, ◌+◌, ◌-◌, ◌*◌, ◌≤◌, ◌<◌}
+use Prim.Native.Nat.{ℕ, ◌+◌, ◌*◌, ◌≤◌}
 use mathlib.Core.List.{List}
-use mathlib.Core.Path.{◌≡◌}
-use lib.ListN.{length}
-use Rattle.column_writer.proofs.CountLaws.{Counting, counting, counting_more, counting_last}
-use Rattle.writer.specs.Write.{plane_bytes, lists_bytes}
-use Rattle.writer.proofs.PlaneLaws.{Walking, walking, walking_more, walking_plane, lists_parts, lists_none}
-use borrow.Author.Rules.{rules}
+use Rattle.column_writer.proofs.CountLaws.{Counting}
+use Rattle.writer.specs.Write.{lists_bytes}
+use Rattle.writer.proofs.PlaneLaws.{Walking}
 use Rattle.writer.proofs.lists_length.Given as goal
 
 -- the loop's invariant

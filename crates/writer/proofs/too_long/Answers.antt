@@ -2,7 +2,6 @@
 use Rattle.writer.proofs.LengthLaws.{plane_small, lists_small}
 use Rattle.writer.proofs.DeltaRoom.{longest_fits}
 use native.Mathlib.Omega.{arith}
-use borrow.Author.Rules.{rules}
 use Rattle.writer.proofs.too_long.Goals as goal
 
 pub overflow_mul-longest : goal.overflow_mul-longest

@@ -2,7 +2,6 @@
 use Rattle.writer.proofs.WriteLaws.{limits, not_old, not_new, frames_are, no_room, has_room, all_written}
 use Rattle.state.specs.State.{length_of}
 use Rattle.laws.proofs.ResultLaws.{told}
-use borrow.Author.Rules.{rules}
 use Rattle.writer.proofs.write.Goals as goal
 
 pub returns-then-old-n : goal.returns-then-old-n

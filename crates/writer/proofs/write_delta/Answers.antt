@@ -2,7 +2,6 @@
 use Rattle.writer.proofs.DeltaLaws.{delta_is, zeros_put, zeros_fit}
 use mathlib.Core.Path.{◌∙◌}
 use native.Mathlib.Omega.{arith}
-use borrow.Author.Rules.{rules}
 use Rattle.writer.proofs.write_delta.Goals as goal
 
 pub write_planes-requires : goal.write_planes-requires

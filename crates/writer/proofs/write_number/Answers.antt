@@ -3,7 +3,6 @@ use lib.ListN.{length-set}
 use Rattle.laws.specs.Bytes.{be32_bytes}
 use Rattle.laws.proofs.StoreLaws.{stored_four}
 use native.Mathlib.Omega.{arith}
-use borrow.Author.Rules.{rules}
 use Rattle.writer.proofs.write_number.Goals as goal
 
 pub bounds-out-at-2 : goal.bounds-out-at-2

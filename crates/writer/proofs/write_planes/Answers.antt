@@ -1,7 +1,6 @@
 -- `writer::write_planes`: what is left to write, from a plane on, comes to the whole.
 use Rattle.writer.proofs.PlaneLaws.{walking_plane}
-use Rattle.writer.proofs.DeltaLaws.{Writing, writing, writing_room, writing_more, writing_last}
-use borrow.Author.Rules.{rules}
+use Rattle.writer.proofs.DeltaLaws.{writing, writing_room, writing_more, writing_last}
 use native.Mathlib.Omega.{arith}
 use Rattle.writer.proofs.write_planes.Goals as goal
 

@@ -1,8 +1,5 @@
 -- `writer::write_planes`: what is left to write, from a plane on, comes to the whole.
-use Rattle.writer.proofs.PlaneLaws.{walking_plane}
-use Rattle.writer.proofs.DeltaLaws.{Writing, writing, writing_room, writing_more, writing_last}
-use borrow.Author.Rules.{rules}
-use native.Mathlib.Omega.{arith}
+use Rattle.writer.proofs.DeltaLaws.{Writing}
 use Rattle.writer.proofs.write_planes.Given as goal
 
 abbrev pub invariant-loop-left : goal.invariant-loop-left

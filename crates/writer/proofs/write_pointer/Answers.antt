@@ -1,6 +1,5 @@
 -- `writer::write_pointer`: the test decides which number is written.
 use borrow.Author.Tests.{eq-eqb, ne_eqb}
-use borrow.Author.Rules.{rules}
 use Rattle.writer.proofs.write_pointer.Goals as goal
 
 pub returns-then-next-place : goal.returns-then-next-place

@@ -1,8 +1,7 @@
 -- `column_writer::piece::first_changed`: the runs from the start are those from here on, after the rows that were passed.
 use Prim.Native.Nat.{◌-◌}
 use lib.ListN.{length}
-use Rattle.column_writer.proofs.WalkLaws.{Passed, passed_none, passed_more, passed_stops, passed_all_lem}
-use borrow.Author.Rules.{rules}
+use Rattle.column_writer.proofs.WalkLaws.{Passed}
 use Rattle.column_writer.proofs.piece.first_changed.Given as goal
 
 abbrev pub invariant-loop-i : goal.invariant-loop-i

@@ -1,9 +1,5 @@
 -- `column_writer::piece::group_end`: the rows that were passed have one new value and lie in one stretch.
-use Prim.Native.Nat.{◌-◌}
-use lib.ListN.{length}
-use Rattle.column_writer.specs.Piece.{GroupPart}
 use Rattle.column_writer.proofs.WalkLaws.{group_starts, group_more, group_other, group_unchanged, group_last}
-use borrow.Author.Rules.{rules}
 use Rattle.column_writer.proofs.piece.group_end.Goals as goal
 
 pub loop-i-init : goal.loop-i-init

@@ -2,8 +2,6 @@
 use Prim.Native.Nat.{◌-◌}
 use lib.ListN.{length}
 use Rattle.column_writer.specs.Piece.{GroupPart}
-use Rattle.column_writer.proofs.WalkLaws.{group_starts, group_more, group_other, group_unchanged, group_last}
-use borrow.Author.Rules.{rules}
 use Rattle.column_writer.proofs.piece.group_end.Given as goal
 
 abbrev pub invariant-loop-i : goal.invariant-loop-i

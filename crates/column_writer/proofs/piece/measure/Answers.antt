@@ -1,7 +1,5 @@
 -- `column_writer::piece::measure`: what is counted and what is left, from here, come to the whole.
-use Prim.Native.Nat.{◌-◌}
-use lib.ListN.{length}
-use Rattle.column_writer.proofs.FillLaws.{Measuring, starts, more, all}
+use Rattle.column_writer.proofs.FillLaws.{starts, more, all}
 use Rattle.column_writer.proofs.PlanLaws.{length_few, length_many}
 use native.Mathlib.Omega.{arith}
 use Rattle.column_writer.proofs.piece.measure.Goals as goal

@@ -1,9 +1,7 @@
 -- `column_writer::piece::measure`: what is counted and what is left, from here, come to the whole.
 use Prim.Native.Nat.{◌-◌}
 use lib.ListN.{length}
-use Rattle.column_writer.proofs.FillLaws.{Measuring, starts, more, all}
-use Rattle.column_writer.proofs.PlanLaws.{length_few, length_many}
-use native.Mathlib.Omega.{arith}
+use Rattle.column_writer.proofs.FillLaws.{Measuring}
 use Rattle.column_writer.proofs.piece.measure.Given as goal
 
 abbrev pub invariant-loop-row : goal.invariant-loop-row

@@ -1,6 +1,5 @@
 -- `column_writer::piece::next_piece`: each search tells what the rows become.
 use Rattle.column_writer.proofs.WalkLaws.{piece_rest, piece_skip, piece_same, piece_uniq, changed_here}
-use borrow.Author.Rules.{rules}
 use Rattle.column_writer.proofs.piece.next_piece.Goals as goal
 
 pub returns-then-new-start : goal.returns-then-new-start

@@ -1,5 +1,4 @@
 -- `column_writer::piece::piece_totals`: the kind decides.
-use borrow.Author.Rules.{rules}
 use Rattle.column_writer.proofs.piece.piece_totals.Goals as goal
 
 pub returns-in-Skip : goal.returns-in-Skip

@@ -1,8 +1,5 @@
 -- `column_writer::piece::uniq_end`: the groups that were passed are fewer than four rows each, and lie in front of the stretch's rest.
-use Prim.Native.Nat.{◌-◌}
-use lib.ListN.{length}
-use Rattle.column_writer.proofs.WalkLaws.{UniqPart, uniq_part_starts, uniq_part_more, uniq_part_none_left, uniq_part_stops, front_unchanged, front_end}
-use borrow.Author.Rules.{rules}
+use Rattle.column_writer.proofs.WalkLaws.{uniq_part_starts, uniq_part_more, uniq_part_none_left, uniq_part_stops, front_unchanged, front_end}
 use native.Mathlib.Omega.{arith}
 use Rattle.column_writer.proofs.piece.uniq_end.Goals as goal
 

@@ -1,6 +1,4 @@
 -- `delta::column::after_fill`: the items stand in the op list, or in the data list.
-use native.Mathlib.Omega.{arith}
-use borrow.Author.Rules.{rules}
 use Rattle.delta.proofs.column.after_fill.Goals as goal
 
 pub returns-then-shape : goal.returns-then-shape

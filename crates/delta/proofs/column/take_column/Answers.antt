@@ -5,7 +5,6 @@ use Rattle.delta.proofs.DeltaLaws.{column_none, column_ops_lem}
 use Rattle.delta.specs.Walk.{reading}
 use Rattle.delta.proofs.WalkLaws.{refused_here, took_as}
 use native.Mathlib.Omega.{arith}
-use borrow.Author.Rules.{rules}
 use Rattle.delta.proofs.column.take_column.Goals as goal
 
 pub returns-then-d-op : goal.returns-then-d-op

@@ -3,7 +3,6 @@ use Prim.Native.Nat.{◌+◌, ◌≤◌}
 use native.Mathlib.Omega.{arith}
 use lib.ListN.{length}
 use Rattle.delta.proofs.FillLaws.{pick_most, fill_past, fill_short, fill_read}
-use borrow.Author.Rules.{rules}
 use Rattle.delta.proofs.column.take_fill.Goals as goal
 
 pub returns-then-shape-c : goal.returns-then-shape-c

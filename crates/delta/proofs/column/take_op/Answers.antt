@@ -6,7 +6,6 @@ use Rattle.delta.specs.Column.{OpKind.same, OpKind.skips, OpKind.uniq, op_as, re
 use Rattle.delta.specs.Walk.{reading}
 use Rattle.delta.proofs.DeltaLaws.{op_none, op_kind, kind_same, kind_skip, kind_uniq}
 use Rattle.delta.proofs.FillLaws.{skip_read, read_as}
-use borrow.Author.Rules.{rules}
 use Rattle.delta.proofs.column.take_op.Goals as goal
 
 pub returns-then-d-op : goal.returns-then-d-op

@@ -1,14 +1,9 @@
 -- `delta::column::take_ops`: the ops so far and those that are left are all of them.
 use Prim.Native.Nat.{◌-◌, ◌≤◌}
-use mathlib.Core.Path.{◌≡◌, refl, ◌∙◌}
+use mathlib.Core.Path.{◌≡◌}
 use lib.ListN.{length}
-use Rattle.delta.specs.Column.{read_op, read_ops}
-use Rattle.delta.proofs.DeltaLaws.{ops_more, ops_none}
-use Rattle.delta.specs.Walk.{reading, Walked}
-use Rattle.delta.proofs.WalkLaws.{walked_none, walked_more, walked_refused, walked_all, took_next, took_faulty, next_here, faulty_here}
-use Rattle.delta.proofs.FillLaws.{op_lies, op_walked}
-use borrow.Author.Rules.{rules}
-use native.Mathlib.Omega.{arith}
+use Rattle.delta.specs.Column.{read_ops}
+use Rattle.delta.specs.Walk.{Walked}
 use Rattle.delta.proofs.column.take_ops.Given as goal
 
 abbrev pub invariant-loop-left : goal.invariant-loop-left

@@ -6,7 +6,6 @@ use Rattle.delta.specs.Column.{fill, OpKind.same, op_as}
 use Rattle.delta.specs.Walk.{reading}
 use Rattle.delta.proofs.DeltaLaws.{same_none, same_fill}
 use Rattle.delta.proofs.FillLaws.{read_as}
-use borrow.Author.Rules.{rules}
 use Rattle.delta.proofs.column.take_same.Goals as goal
 
 pub returns-then-d-op-lt2 : goal.returns-then-d-op-lt2

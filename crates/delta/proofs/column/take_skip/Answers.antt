@@ -1,7 +1,6 @@
 -- `delta::column::take_skip`: the rows that are left decide.
 use native.Mathlib.Omega.{arith}
 use Rattle.delta.specs.Walk.{Skipped.skipped, Skipped.past_last}
-use borrow.Author.Rules.{rules}
 use Rattle.delta.proofs.column.take_skip.Goals as goal
 
 pub returns-then-shape-c : goal.returns-then-shape-c

@@ -5,7 +5,6 @@ use native.Mathlib.Nat.{mul-le-mul_right}
 use mathlib.Core.Path.{refl}
 use Rattle.delta.specs.Column.{fill, OpKind.uniq, op_as}
 use Rattle.delta.proofs.FillLaws.{uniq_inside, read_as}
-use borrow.Author.Rules.{rules}
 use Rattle.delta.proofs.column.take_uniq.Goals as goal
 
 pub overflow_mul-count : goal.overflow_mul-count

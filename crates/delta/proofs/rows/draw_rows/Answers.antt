@@ -7,9 +7,8 @@ use Prim.Native.Nat.{◌+◌, ◌-◌, ◌*◌, ◌<◌, ◌≤◌}
 use mathlib.Core.Path.{sym, ◌∙◌}
 use lib.ListN.{length}
 use Rattle.laws.proofs.StoreLaws.{lent_copy}
-use Rattle.delta.proofs.DeltaLaws.{Putting, putting_starts, putting_more, putting_ends, put_beside}
+use Rattle.delta.proofs.DeltaLaws.{putting_starts, putting_more, putting_ends, put_beside}
 use Rattle.delta.proofs.FillLaws.{run_inside}
-use borrow.Author.Rules.{rules}
 use Rattle.delta.proofs.rows.draw_rows.Goals.{Then-count-gt1}
 use Rattle.delta.proofs.rows.draw_rows.Goals as goal
 

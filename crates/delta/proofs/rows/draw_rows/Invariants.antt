@@ -1,15 +1,6 @@
 -- `delta::rows::draw_rows`: items that lie one after the other are one copy; else what is left to put makes of the frame what all of it makes of
 -- the first one.
-use native.Mathlib.Nat.{mul-le-mul_right}
-use native.Mathlib.Omega.{arith}
-use borrow.Author.Tests.{not-true, not-false}
-use Prim.Native.Nat.{◌+◌, ◌-◌, ◌*◌, ◌<◌, ◌≤◌}
-use mathlib.Core.Path.{sym, ◌∙◌}
-use lib.ListN.{length}
-use Rattle.laws.proofs.StoreLaws.{lent_copy}
-use Rattle.delta.proofs.DeltaLaws.{Putting, putting_starts, putting_more, putting_ends, put_beside}
-use Rattle.delta.proofs.FillLaws.{run_inside}
-use borrow.Author.Rules.{rules}
+use Rattle.delta.proofs.DeltaLaws.{Putting}
 use Rattle.delta.proofs.rows.draw_rows.Given as goal
 
 abbrev pub invariant-loop-left : goal.invariant-loop-left

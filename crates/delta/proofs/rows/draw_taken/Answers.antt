@@ -4,7 +4,6 @@ use native.Mathlib.Omega.{arith}
 use mathlib.Core.Path.{refl, subst}
 use Rattle.delta.specs.Walk.{Lies}
 use Rattle.delta.proofs.FillLaws.{rows_inside, place_fits}
-use borrow.Author.Rules.{rules}
 use Rattle.delta.proofs.rows.draw_taken.Goals as goal
 
 pub overflow_mul-place : goal.overflow_mul-place

@@ -2,7 +2,6 @@
 use native.Mathlib.Omega.{arith}
 use mathlib.Core.Path.{◌∙◌}
 use Rattle.delta.proofs.DeltaLaws.{item_one, item_four}
-use borrow.Author.Rules.{rules}
 use Rattle.delta.proofs.rows.put_item.Goals as goal
 
 pub returns-then-item-eq1 : goal.returns-then-item-eq1

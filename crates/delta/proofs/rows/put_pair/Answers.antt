@@ -2,7 +2,6 @@
 use native.Mathlib.Omega.{arith}
 use lib.ListN.{length-set}
 use Rattle.delta.proofs.DeltaLaws.{item_two}
-use borrow.Author.Rules.{rules}
 use Rattle.delta.proofs.rows.put_pair.Goals as goal
 
 pub bounds-frame-at-2 : goal.bounds-frame-at-2

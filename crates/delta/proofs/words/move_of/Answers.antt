@@ -1,7 +1,6 @@
 -- `delta::words::move_of`: the offset, or where it is negative, read as signed, its absolute value less 2.
 use native.Mathlib.Omega.{arith}
 use borrow.Author.Tests.{lt-ltb, le-ltb}
-use borrow.Author.Rules.{rules}
 use Rattle.delta.proofs.words.move_of.Goals as goal
 
 pub returns-then-offset-lt32768 : goal.returns-then-offset-lt32768

@@ -9,7 +9,6 @@ use Rattle.delta.specs.Words.{word_run, word_op}
 use Rattle.delta.specs.Walk.{reading}
 use Rattle.delta.proofs.FillLaws.{read_as}
 use Rattle.delta.proofs.WordLaws.{word_far, word_one, word_uncounted, word_counted}
-use borrow.Author.Rules.{rules}
 use Rattle.delta.proofs.words.take_op.Goals.{then-offset-ge32768+else-d-op-lt4, else-offset-ge32768}
 use Rattle.delta.proofs.words.take_op.Goals as goal
 

@@ -4,7 +4,6 @@ use native.Mathlib.Nat.{mul-le-mul_left}
 use native.Mathlib.Omega.{arith}
 use mathlib.Core.Path.{◌≡◌}
 use Rattle.delta.proofs.WordLaws.{run_past, run_short, run_read}
-use borrow.Author.Rules.{rules}
 use Rattle.delta.proofs.words.take_run.Goals.{then-count-eq0, else-count-eq0}
 use Rattle.delta.proofs.words.take_run.Goals as goal
 

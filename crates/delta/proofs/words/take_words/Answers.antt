@@ -1,15 +1,14 @@
 -- `delta::words::take_words`: the ops so far and the rest of the list are all of it, and each op goes on in it.
-use Prim.Native.Nat.{◌+◌, ◌-◌, ◌≤◌}
+use Prim.Native.Nat.{◌+◌, ◌≤◌}
 use native.Mathlib.Omega.{arith}
-use mathlib.Core.Path.{◌≡◌, refl, ◌∙◌}
+use mathlib.Core.Path.{refl, ◌∙◌}
 use lib.ListN.{length}
 use Rattle.refusal.specs.declared.Refusal.TheVariants.{DeltaTooShort}
 use Rattle.delta.specs.Words.{word_op, read_words}
-use Rattle.delta.specs.Walk.{reading, Walked}
+use Rattle.delta.specs.Walk.{reading}
 use Rattle.delta.proofs.WalkLaws.{walked_none, walked_more, walked_refused, walked_fault, walked_all, took_next, took_faulty, next_here, faulty_here}
 use Rattle.delta.proofs.FillLaws.{op_lies}
 use Rattle.delta.proofs.WordLaws.{word_walked, word_further, words_none, words_end, words_more}
-use borrow.Author.Rules.{rules}
 use Rattle.delta.proofs.words.take_words.Goals as goal
 
 pub loop-at-init : goal.loop-at-init

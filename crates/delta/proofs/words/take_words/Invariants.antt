@@ -1,15 +1,9 @@
 -- `delta::words::take_words`: the ops so far and the rest of the list are all of it, and each op goes on in it.
-use Prim.Native.Nat.{◌+◌, ◌-◌, ◌≤◌}
-use native.Mathlib.Omega.{arith}
-use mathlib.Core.Path.{◌≡◌, refl, ◌∙◌}
+use Prim.Native.Nat.{◌-◌, ◌≤◌}
+use mathlib.Core.Path.{◌≡◌}
 use lib.ListN.{length}
-use Rattle.refusal.specs.declared.Refusal.TheVariants.{DeltaTooShort}
-use Rattle.delta.specs.Words.{word_op, read_words}
-use Rattle.delta.specs.Walk.{reading, Walked}
-use Rattle.delta.proofs.WalkLaws.{walked_none, walked_more, walked_refused, walked_fault, walked_all, took_next, took_faulty, next_here, faulty_here}
-use Rattle.delta.proofs.FillLaws.{op_lies}
-use Rattle.delta.proofs.WordLaws.{word_walked, word_further, words_none, words_end, words_more}
-use borrow.Author.Rules.{rules}
+use Rattle.delta.specs.Words.{read_words}
+use Rattle.delta.specs.Walk.{Walked}
 use Rattle.delta.proofs.words.take_words.Given as goal
 
 abbrev pub invariant-loop-at : goal.invariant-loop-at

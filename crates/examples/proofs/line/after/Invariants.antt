@@ -1,7 +1,6 @@
 -- `examples::line::after`: the place rises to the end.
 use Prim.Native.Nat.{◌≤◌, ◌-◌}
 use lib.ListN.{length}
-use borrow.Author.Rules.{rules}
 use Rattle.examples.proofs.line.after.Given as goal
 
 abbrev pub invariant-loop-i : goal.invariant-loop-i

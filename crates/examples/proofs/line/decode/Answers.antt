@@ -1,9 +1,6 @@
 -- `examples::line::decode`: the place in the text rises to its last byte.
-use Prim.Native.Nat.{◌≤◌, ◌-◌}
-use mathlib.Core.Path.{◌≡◌, refl, ◌∙◌}
+use mathlib.Core.Path.{refl, ◌∙◌}
 use native.Mathlib.Omega.{arith}
-use lib.ListN.{length}
-use borrow.Author.Rules.{rules}
 use Rattle.examples.proofs.line.decode.Goals as goal
 
 pub loop-i-init : goal.loop-i-init

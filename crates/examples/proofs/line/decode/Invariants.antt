@@ -1,9 +1,7 @@
 -- `examples::line::decode`: the place in the text rises to its last byte.
 use Prim.Native.Nat.{◌≤◌, ◌-◌}
-use mathlib.Core.Path.{◌≡◌, refl, ◌∙◌}
-use native.Mathlib.Omega.{arith}
+use mathlib.Core.Path.{◌≡◌}
 use lib.ListN.{length}
-use borrow.Author.Rules.{rules}
 use Rattle.examples.proofs.line.decode.Given as goal
 
 abbrev pub invariant-loop-i : goal.invariant-loop-i

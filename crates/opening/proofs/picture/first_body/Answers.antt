@@ -2,7 +2,6 @@
 use Rattle.laws.proofs.ResultLaws.{told, told_false, told_true}
 use Rattle.body.specs.Body.{unpacked_of}
 use Rattle.opening.proofs.OpenLaws.{body_uncoloured, body_bad, body_done}
-use borrow.Author.Rules.{rules}
 use Rattle.opening.proofs.picture.first_body.Goals as goal
 
 pub returns-then-not-good_length : goal.returns-then-not-good_length

@@ -5,7 +5,6 @@ use Rattle.laws.proofs.ResultLaws.{told, told_false, told_true}
 use Rattle.state.specs.State.{row_bytes}
 use Rattle.anhd.specs.Anhd.{anhd_of, frame_header}
 use Rattle.opening.proofs.OpenLaws.{delta_unread, delta_uncoloured, delta_bad, delta_done}
-use borrow.Author.Rules.{rules}
 use Rattle.opening.proofs.picture.first_delta.Goals.{After-frame_header-h}
 use Rattle.opening.proofs.picture.first_delta.Goals as goal
 

@@ -1,7 +1,6 @@
 -- `opening::picture::first_map`: the CMAP over zeros.
 use mathlib.Core.Path.{refl, ◌∙◌}
 use Rattle.opening.specs.Open.{first_map}
-use borrow.Author.Rules.{rules}
 use Rattle.opening.proofs.picture.first_map.Goals as goal
 
 pub returns : goal.returns

@@ -1,6 +1,5 @@
 -- `opening::picture::first_picture`: the BODY, or else the delta.
 use Rattle.opening.specs.Open.{first_picture}
-use borrow.Author.Rules.{rules}
 use Rattle.opening.proofs.picture.first_picture.Goals as goal
 
 pub returns-then-body : goal.returns-then-body

@@ -1,7 +1,6 @@
 -- `runs::word::byte_at`: what is in a slice of bytes is below 256.
 use mathlib.Core.Path.{refl}
 use native.Mathlib.Omega.{arith}
-use borrow.Author.Rules.{rules}
 use Rattle.runs.proofs.word.byte_at.Goals as goal
 
 pub overflow_cast-result : goal.overflow_cast-result

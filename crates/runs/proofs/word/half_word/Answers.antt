@@ -1,7 +1,6 @@
 -- `runs::word::half_word`: the sum of four bytes by their weights.
 use native.Mathlib.Omega.{arith}
 use Rattle.laws.proofs.BytesLaws.{word_four}
-use borrow.Author.Rules.{rules}
 use Rattle.runs.proofs.word.half_word.Goals as goal
 
 pub returns : goal.returns

@@ -1,6 +1,5 @@
 -- `runs::word::stop`: the differing bits of two words are those of their bytes.
 use Rattle.runs.proofs.StopLaws.{equal_stop, differ_stop}
-use borrow.Author.Rules.{rules}
 use Rattle.runs.proofs.word.stop.Goals as goal
 
 pub returns-then-equal : goal.returns-then-equal

@@ -1,7 +1,6 @@
 -- `runs::word::word`: two halves.
 use native.Mathlib.Omega.{arith}
 use Rattle.laws.proofs.BytesLaws.{word_halves}
-use borrow.Author.Rules.{rules}
 use Rattle.runs.proofs.word.word.Goals as goal
 
 pub returns : goal.returns

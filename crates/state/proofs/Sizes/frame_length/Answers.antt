@@ -3,7 +3,6 @@ use native.Mathlib.Omega.{arith}
 use Rattle.laws.proofs.ResultLaws.{told_false, told_true}
 use Rattle.state.specs.State.{frame_length, frame_bytes, Sound}
 use Rattle.state.proofs.StateLaws.{sound, between}
-use borrow.Author.Rules.{rules}
 use Rattle.state.proofs.Sizes.frame_length.Goals.{After-struct_known-1}
 use Rattle.state.proofs.Sizes.frame_length.Goals as goal
 

@@ -1,7 +1,6 @@
 -- `state::Sizes::row_bytes`: rounding up without a sum that could wrap.
 use Rattle.state.specs.State.{row_bytes}
 use native.Mathlib.Omega.{arith}
-use borrow.Author.Rules.{rules}
 use Rattle.state.proofs.Sizes.row_bytes.Goals as goal
 
 pub returns : goal.returns

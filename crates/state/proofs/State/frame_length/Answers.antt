@@ -4,7 +4,6 @@ use borrow.Author.Tests.{le-leb}
 use Rattle.laws.proofs.ResultLaws.{told_false, told_true}
 use Rattle.state.specs.State.{state_length}
 use Rattle.state.proofs.StateLaws.{outside, no_places}
-use borrow.Author.Rules.{rules}
 use Rattle.state.proofs.State.frame_length.Goals as goal
 
 pub returns-then-not-within : goal.returns-then-not-within

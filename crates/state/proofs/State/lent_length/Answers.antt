@@ -2,7 +2,6 @@
 use borrow.Author.Tests.{eq-eqb, ne_eqb}
 use Rattle.laws.proofs.ResultLaws.{told}
 use Rattle.state.specs.State.{length_of, lent_length}
-use borrow.Author.Rules.{rules}
 use Rattle.state.proofs.State.lent_length.Goals as goal
 
 pub returns-then-a-n : goal.returns-then-a-n

@@ -1,14 +1,13 @@
 -- `writer::plane::columns_length`: what is counted and what is left, from here, come to the whole.
 use native.Mathlib.Omega.{arith}
-use Prim.Native.Nat.{ℕ, ◌+◌, ◌-◌, ◌*◌, ◌≤◌, ◌<◌}
+use Prim.Native.Nat.{ℕ, ◌+◌, ◌*◌, ◌≤◌, ◌<◌}
 use mathlib.Core.List.{List}
 use mathlib.Core.Path.{◌≡◌}
 use lib.ListN.{length}
-use Rattle.column_writer.proofs.CountLaws.{Counting, counting, counting_more, counting_last}
+use Rattle.column_writer.proofs.CountLaws.{counting, counting_more, counting_last}
 use Rattle.writer.specs.Write.{column_in, columns_bytes}
 use Rattle.writer.proofs.ColumnLaws.{plane_column}
 use Rattle.writer.proofs.PlaneLaws.{columns_parts, columns_none, columns_start}
-use borrow.Author.Rules.{rules}
 use Rattle.writer.proofs.plane.columns_length.Invariants.{Columns}
 use Rattle.writer.proofs.plane.columns_length.Goals as goal
 

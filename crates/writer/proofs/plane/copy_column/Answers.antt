@@ -1,14 +1,12 @@
 -- `writer::plane::copy_column`: after i turns the first i bytes are the column's.
 use native.Mathlib.Omega.{arith}
-use Prim.Native.Nat.{ℕ, ◌+◌, ◌-◌, ◌*◌, ◌≤◌, ◌<◌}
+use Prim.Native.Nat.{ℕ, ◌+◌, ◌*◌, ◌≤◌, ◌<◌}
 use mathlib.Core.List.{List}
 use mathlib.Core.Path.{◌≡◌, refl, sym, ◌∙◌}
 use lib.ListN.{length, get_or, set, length-set}
-use Rattle.laws.specs.Store.{Copied}
 use Rattle.laws.proofs.StoreLaws.{copied_none, copied_more, copied_all, over_whole}
 use Rattle.writer.specs.Write.{column_at}
 use Rattle.writer.proofs.ColumnLaws.{length_column, get_d_column}
-use borrow.Author.Rules.{rules}
 use Rattle.writer.proofs.plane.copy_column.Invariants.{Copying}
 use Rattle.writer.proofs.plane.copy_column.Goals as goal
 

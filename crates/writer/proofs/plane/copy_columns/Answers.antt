@@ -1,6 +1,5 @@
 -- `writer::plane::copy_columns`: one column after the other.
 use Rattle.writer.proofs.ColumnLaws.{front_length, copied_column, rows_inside}
-use borrow.Author.Rules.{rules}
 use Rattle.writer.proofs.plane.copy_columns.Goals as goal
 
 pub slice_bounds-copy_column-end-2 : goal.slice_bounds-copy_column-end-2

@@ -1,6 +1,5 @@
 -- `writer::plane::length_in`: the columns are copied, and then measured, which is not refused.
 use Rattle.writer.proofs.ColumnLaws.{held_length, is_measured, not_refused}
-use borrow.Author.Rules.{rules}
 use Rattle.writer.proofs.plane.length_in.Goals as goal
 
 pub slice_bounds-column_length-end-2 : goal.slice_bounds-column_length-end-2

@@ -3,7 +3,6 @@ use mathlib.Core.Path.{sym, ap, ◌∙◌}
 use lib.ListN.{length}
 use Rattle.writer.proofs.PlaneLaws.{plane_unchanged, plane_changed}
 use native.Mathlib.Omega.{arith}
-use borrow.Author.Rules.{rules}
 use Rattle.writer.proofs.plane.plane_length.Goals as goal
 
 pub returns-then-unchanged : goal.returns-then-unchanged

@@ -1,8 +1,5 @@
 -- `writer::plane::planes_equal`: the outcome so far, and what is left, decide.
-use Prim.Native.Nat.{◌-◌}
-use lib.ListN.{length}
-use Rattle.writer.proofs.PlaneLaws.{Comparing, comparing, same_more, other_more, compared}
-use borrow.Author.Rules.{rules}
+use Rattle.writer.proofs.PlaneLaws.{comparing, same_more, other_more, compared}
 use Rattle.writer.proofs.plane.planes_equal.Goals.{then-old-i, else-old-i}
 use Rattle.writer.proofs.plane.planes_equal.Goals as goal
 

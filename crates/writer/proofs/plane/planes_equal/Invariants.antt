@@ -1,9 +1,7 @@
 -- `writer::plane::planes_equal`: the outcome so far, and what is left, decide.
 use Prim.Native.Nat.{◌-◌}
-use mathlib.Core.Logic.{⊎_elim}
 use lib.ListN.{length}
-use Rattle.writer.proofs.PlaneLaws.{Comparing, comparing, same_more, other_more, compared}
-use borrow.Author.Rules.{rules}
+use Rattle.writer.proofs.PlaneLaws.{Comparing}
 use Rattle.writer.proofs.plane.planes_equal.Given as goal
 
 abbrev pub invariant-loop-i : goal.invariant-loop-i

@@ -6,7 +6,6 @@ use mathlib.Core.Path.{◌≡◌}
 use lib.ListN.{take, drop}
 use Rattle.writer.specs.Write.{planes_equal}
 use native.Mathlib.Omega.{arith}
-use borrow.Author.Rules.{rules}
 use Rattle.writer.proofs.plane.unchanged.Goals as goal
 
 planes : (old new : List ℕ) (at n : ℕ) {r : Bool} → r ≡ planes_equal (take (at + n - at) (drop at old)) (take (at + n - at) (drop at new)) → r ≡ planes_equal (take n (drop at old)) (take n (drop at new))

@@ -1,11 +1,7 @@
 -- `writer::plane::write_columns`: the columns that are left, from here, come to the whole.
-use native.Mathlib.Omega.{arith}
 use Prim.Native.Nat.{◌+◌, ◌-◌}
-use Rattle.laws.proofs.PutLaws.{Putting, putting, putting_room, putting_more, putting_last}
+use Rattle.laws.proofs.PutLaws.{Putting}
 use Rattle.writer.specs.Write.{columns_bytes}
-use Rattle.writer.proofs.ColumnLaws.{plane_column}
-use Rattle.writer.proofs.PlaneLaws.{columns_parts, columns_none, columns_start}
-use borrow.Author.Rules.{rules}
 use Rattle.writer.proofs.plane.write_columns.Given as goal
 
 abbrev pub invariant-loop-column : goal.invariant-loop-column

@@ -1,6 +1,5 @@
 -- `writer::plane::write_in`: the columns are copied, and then written, which is not refused.
 use Rattle.writer.proofs.ColumnLaws.{held_length, is_put, not_left_out}
-use borrow.Author.Rules.{rules}
 use Rattle.writer.proofs.plane.write_in.Goals as goal
 
 pub slice_bounds-write-end-2 : goal.slice_bounds-write-end-2

@@ -4,7 +4,6 @@ use lib.ListN.{length}
 use Rattle.laws.proofs.PutLaws.{put_as, put_nothing}
 use Rattle.writer.proofs.PlaneLaws.{plane_unchanged, plane_changed}
 use native.Mathlib.Omega.{arith}
-use borrow.Author.Rules.{rules}
 use Rattle.writer.proofs.plane.write_plane.Goals as goal
 
 pub returns-then-unchanged : goal.returns-then-unchanged
