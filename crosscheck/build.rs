@@ -1,4 +1,4 @@
-//! Links libanim.a, which `rt staticlib anim` writes.
+//! Links libanim.a, which `tools/staticlib` writes.
 use std::path::Path;
 
 fn main() {

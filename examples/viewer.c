@@ -2,7 +2,7 @@
  * viewer.c: plays an ANIM file to its end and draws each frame as text, a character for each pixel, and
  * prints the colours that change with it.
  *
- *     rt staticlib anim
+ *     tools/staticlib
  *     cc -I include examples/viewer.c target/staticlib/libanim.a -o viewer
  *     ./viewer samples/packed.anim
  *

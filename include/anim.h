@@ -6,7 +6,7 @@
  * (short or long vertical), with the colours of their CMAPs. It plays them forward and, with the
  * records that it writes, back again, and it writes method 5 deltas.
  *
- *     rt staticlib anim
+ *     tools/staticlib
  *     cc -I include examples/viewer.c target/staticlib/libanim.a -o viewer
  *
  * libanim.a is for x86-64 Linux. examples/viewer.c is a whole program that plays a file to its end;

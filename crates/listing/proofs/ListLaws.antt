@@ -3,21 +3,47 @@ use Prim.Native.Nat.{ℕ, ◌-◌, ◌<◌, ◌≤◌, min}
 use native.Mathlib.Omega.{arith}
 use mathlib.Core.Bool.{Bool, true, false}
 use mathlib.Core.List.{List, ◌++◌}
+use mathlib.Core.Option.{Option, none, some}
 use mathlib.Core.Path.{◌≡◌, refl, sym, ap, ◌∙◌}
-use lib.ListN.{length}
-use Rattle.laws.proofs.ResultLaws.{each_some, never}
+use lib.ListN.{length, take, length-take}
+use Rattle.laws.specs.Result.{Res.ok}
+use Rattle.laws.proofs.ResultLaws.{Each, Each.each, All, All.all_some, All.all_none, each_bind, each_self, each_some, never}
 use Rattle.laws.specs.Loop.{Step.next, Step.done}
 use Rattle.laws.proofs.LoopLaws.{Going, starts, turns, stops}
 use Rattle.state.specs.declared.State.{State}
+use Rattle.state.specs.State.{row_bytes}
+use Rattle.frame.specs.Frame.{Frame, frame_at}
+use Rattle.frame.proofs.FrameLaws.{frame_rises}
 use Rattle.step_on.specs.declared.SteppedOn.{SteppedOn}
-use Rattle.state.specs.World.{World, with_hidden}
+use Rattle.state.specs.World.{World, shown_in, hidden_in, with_hidden}
 use Rattle.state.specs.After.{Answer, Lent, lent, After, lent_after}
-use Rattle.step_on.specs.Step.{step_on, on_of, MeetsOn}
+use Rattle.step_on.specs.Step.{Built, build, look, look_ahead, step_on, on_of, MeetsOn}
+use Rattle.step_on.proofs.ReadyLaws.{ready_passed}
 use Rattle.step_on.proofs.CaseLaws.{on_case}
-use Rattle.step_on.proofs.AheadLaws.{ahead_built}
+use Rattle.step_on.proofs.StepLaws.{change_next}
 use Rattle.lines.specs.Lines.{picture_line, Adds}
 use Rattle.lines.proofs.TextLaws.{adds_then, adds_at, adds_room, adds_size, adds_front}
 use Rattle.listing.specs.Listing.{Listing, add_line, step_line, taken, line_on, list_step, list_frames, begun, Lists}
+
+-- a frame that was built raises the place
+record Raises (file : ℕ) (s : State) (x : Built) : Type 0 where
+  rises : s.next < x.next
+  ends : x.next ≤ file
+
+build_raises : (file : List ℕ) (s : State) (shown hidden : List ℕ) → s.end ≤ length file → (o : Option Frame) → frame_at (take s.end file) s.next (row_bytes s.sizes.width) ≡ ok o
+    → Each (All (Raises (length file) s)) (build s.sizes shown hidden o)
+build_raises file s shown hidden h none e = each all_none
+build_raises file s shown hidden h (some x) e =
+    let k = frame_rises (take s.end file) (row_bytes s.sizes.width) s.next x e in
+    let l : x.next ≤ length file = omega (arith, k.ends, length-take s.end file) in
+    each_bind (change_next s.sizes x shown hidden) λ y p. each (all_some (record { rises = rw p k.rises; ends = rw p l }))
+
+ahead_raises : (file : List ℕ) (w : World) (work : ℕ) → Each (All (Raises (length file) w.state)) (look_ahead file w work)
+unfolding look_ahead look
+ahead_raises file w work =
+    each_bind (ready_passed (length file) w.state (length w.a) (length w.b) (length w.map) work) λ _ h.
+    each_bind (each_self (frame_at (take w.state.end file) w.state.next (row_bytes w.state.sizes.width))) λ o e.
+    build_raises file w.state (shown_in w) (hidden_in w) h.in_file o e
 
 -- a step that is taken raises the place, and stays within the file
 pub record Raised (file : ℕ) (s t : State) : Type 0 where
@@ -28,7 +54,7 @@ pub on_raises : (file : List ℕ) (w : World) (size room : ℕ) → taken (step_
 unfolding with_hidden
 on_raises file w size room =
     on_case (λ (o : After). taken o.answer ≡ true → Raised (length file) w.state o.world.state) w room file size
-    (λ n q e. never (cc)) (λ q e. never (cc)) (λ x q e. let k = each_some q (ahead_built file w size) in record { rises = k.rises; ends = omega (arith, k.ends, k.passed.in_file) }) (λ x q f e. never (cc))
+    (λ n q e. never (cc)) (λ q e. never (cc)) (λ x q e. let k = each_some q (ahead_raises file w size) in record { rises = k.rises; ends = k.ends }) (λ x q f e. never (cc))
 
 -- while the frames of a file are listed: the text so far stands in `out`, and what is left comes to the whole
 pub record Showing (file : List ℕ) (size room : ℕ) (start : Listing) (out₀ a b map work rec out : List ℕ) (s : State) (at : ℕ) : Type 0 where

@@ -8,9 +8,10 @@ use lib.Dec.{leb, eqb}
 use lib.ListN.{length, take, drop}
 use borrow.Author.Tests.{eq-eqb, le-leb}
 use Rattle.laws.specs.Result.{Res, Res.ok, Res.fault, ◌>>=◌, need, leaves}
-use Rattle.laws.proofs.ResultLaws.{Each, each_is, each_bind, each_map, each_self, pick_both, never}
+use Rattle.laws.proofs.ResultLaws.{Each, Each.each, each_any, each_is, each_bind, each_map, each_self, pick_both, never}
 use Rattle.refusal.specs.Number.{number_of}
 use Rattle.refusal.specs.declared.Refusal.{Refusal}
+use Rattle.state.specs.declared.Sizes.{Sizes}
 use Rattle.state.specs.declared.State.{State}
 use Rattle.state.specs.State.{row_bytes, moved}
 use Rattle.state.specs.World.{World, is_odd, shown_in, hidden_in, with_hidden}
@@ -32,6 +33,11 @@ use Rattle.step_on.specs.Step.{ready, basis, change, Built, build, look, look_ah
 use Rattle.step_on.specs.Parts.{Fits, pictures_after, CommitsHidden}
 use Rattle.step_on.proofs.ReadyLaws.{Passed, ready_passed}
 use Rattle.step_on.proofs.CaseLaws.{commit_case}
+
+-- what is built has the frame's next place
+pub change_next : (z : Sizes) (x : Frame) (shown hidden : List ℕ) → Each (λ (y : Built). y.next ≡ x.next) (change z x shown hidden)
+unfolding change
+change_next z x shown hidden = each_any (read_delta (shape_of z x.header.items) x.dlta) λ ops. each refl
 
 -- building frame x
 module _ (s : State) (x : Frame) (shown hidden work : List ℕ) (j : Fits s (length shown) (length work)) (k : Fits s (length hidden) (length work)) (c : columns_ok x.header.items (row_bytes s.sizes.width) ≡ true) where
