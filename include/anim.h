@@ -151,7 +151,7 @@ typedef char anim_report_has_40_bytes[sizeof(anim_report) == 40 ? 1 : -1];
 /*
  * A record buffer's length that is enough for every step, for frames of so many bytes: twice the frame
  * and 12 bytes for the picture, and 1539 bytes for the map. It is proved that no step on with a record
- * buffer of this length, or a longer one, is refused with 51 (theorem never-51). 320 x 200 x 5:
+ * buffer of this length, or a longer one, is refused with 51 (theorem never_51). 320 x 200 x 5:
  * 2 * 40000 + 12 + 1539 = 81551.
  *
  * A record is a frame number of at most three bytes, a place of at most five, and two lists of runs, of
@@ -165,7 +165,7 @@ typedef char anim_report_has_40_bytes[sizeof(anim_report) == 40 ? 1 : -1];
 /*
  * A delta buffer's length that is enough for every two pictures: 64 bytes of pointers, and for each
  * column of each plane 3/2 of the height, rounded down, and 2 bytes. This bound is proved (theorem
- * delta-fits). 320 x 200 x 5: 64 + 40 * 5 * (300 + 2) = 60464.
+ * delta_fits). 320 x 200 x 5: 64 + 40 * 5 * (300 + 2) = 60464.
  *
  * A column is a count byte and its ops. A Skip costs a byte and goes down at least one row. Sames cost
  * fewer bytes than they have rows. A Uniq costs a byte more than it has rows, and unless it has 127 rows

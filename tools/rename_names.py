@@ -134,7 +134,8 @@ def turn_code(text, names, own):
 
 
 def turn_page(text, names):
-    return re.sub(r"`[^`\n]+`", lambda s: re.sub(WORD.replace("\\\\", "`\\\\"), lambda m: names.get(m.group(), m.group()), s.group()), text)
+    """A page: what stands alone between backticks; a text of several words, as an example's name, stays."""
+    return re.sub(r"`[^`\s]+`", lambda s: re.sub(WORD.replace("\\\\", "`\\\\"), lambda m: names.get(m.group(), m.group()), s.group()), text)
 
 
 def main(argv):

@@ -47,6 +47,6 @@ abbrev pub word_step : Shape → List ℕ → ℕ → Reading → Step Reading (
 word_step S d base c = offset_on S d base c (pair_at d c.op_at)
 
 -- the list of words of the plane that starts at base, to its offset of −1; each op takes four bytes or more of the list, so that the answer
--- for too few turns is never given (`words-none`, `words-end` and `Words-more` of `WordLaws`)
+-- for too few turns is never given (`words_none`, `words_end` and `words_more` of `WordLaws`)
 unfoldable pub read_words : Shape → List ℕ → ℕ → Reading → Res Reading
 read_words S d base c = iterate (word_step S d base) (λ x. length d - x.op_at) (fault 42) c

@@ -79,8 +79,8 @@ list_opened file size room l (fault n) = add_line (unlisted l) (refused_line n)
 unfoldable pub list_film : List ℕ → Buffers → Listing
 list_film file l = list_opened file (length l.work) (length l.rec) l (opening file (length l.a) (length l.b) (length l.map))
 
--- the length of the record buffer: a record has at most twice the frame's bytes and 12 more, and 1,539 for the map (`record-room`), 34,319
--- for the longest frame, so that no step is refused with 51 (`room-enough`)
+-- the length of the record buffer: a record has at most twice the frame's bytes and 12 more, and 1,539 for the map (`record_room_lem`), 34,319
+-- for the longest frame, so that no step is refused with 51 (`room_enough`)
 abbrev pub ROOM : ℕ
 ROOM = 65_536
 

@@ -47,9 +47,21 @@ fn show(rt: &HostRuntime, opened: &mut File) -> io::Result<()> {
 
 // Opens one file by its number and lists it.
 fn open(rt: &HostRuntime, number: u8) -> io::Result<()> {
-    let name = format!(in rt.alloc(); "{number:03}.anim")?;
+    let name = [
+        48 + number / 100,
+        48 + number / 10 % 10,
+        48 + number % 10,
+        b'.',
+        b'a',
+        b'n',
+        b'i',
+        b'm',
+    ];
+    let Ok(name) = str::from_utf8(&name) else {
+        return Err(io::Error::from(io::ErrorKind::InvalidInput));
+    };
     println!(rt; "{name}")?;
-    let mut file = File::open(rt, name.as_str())?;
+    let mut file = File::open(rt, name)?;
     show(rt, &mut file)
 }
 

@@ -16,7 +16,6 @@ use Rattle.state.specs.State.{within, row_bytes, frame_bytes, frame_length, stat
 -- what proofs use of a state within the limits
 pub record SoundState (s : State) (n : ℕ) : Type 0 where
   pub frame_least : 1 ≤ s.frame
-  pub next_least : 12 ≤ s.next
   pub next_most : s.next ≤ s.end
   pub end_most : s.end ≤ 2147483647
   pub sizes : Sound s.sizes n
@@ -85,7 +84,6 @@ state_sound s =
     each_need (within 1 1_000_000 s.frame) 11 _ λ f. each_need (within 12 s.end s.next) 11 _ λ p. each_need (leb s.end 2_147_483_647) 11 _ λ e.
     each_map (λ n z. record {
       frame_least = (between f).low;
-      next_least = (between p).low;
       next_most = (between p).high;
       end_most = leb-true s.end 2147483647 e;
       sizes = z;
