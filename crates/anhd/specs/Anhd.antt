@@ -2,14 +2,11 @@
 -- Interleave 0 and 2 both mean two frames back, and 1 one frame back (document 02, E7); the first frame's isn't looked at (E1). Methods 2, 3
 -- (E5) and 5 want all option bits zero; method 7 wants bits 1 to 31 zero, and bit 0 set means long data. Refusals 32 to 36 in table order.
 use Rattle.std.specs.Prelude.{ℕ, ◌/◌, ◌%◌, Bool, true, ◌||◌, List, leb, eqb, length, get_or}
-use Rattle.laws.specs.Result.{Res, Res.ok, Res.fault, ◌>>=◌, need, pick}
+use Rattle.laws.specs.Result.{Res, Res.ok, ◌>>=◌, need, pick}
 use Rattle.laws.specs.Bytes.{be32}
-use Rattle.refusal.specs.Number.{number_of}
 use Rattle.anhd.specs.declared.Items.{Items}
 use Rattle.anhd.specs.declared.Items.TheVariants.{Bytes, Shorts, Longs, ShortWords, LongWords}
 use Rattle.anhd.specs.declared.FrameHeader.{FrameHeader}
-use Rattle.anhd.specs.declared.Anhd.{Anhd}
-use Rattle.anhd.specs.declared.Anhd.TheVariants.{Header, Refused}
 
 -- the methods that are read
 abbrev pub method_ok : ℕ → Bool
@@ -44,8 +41,3 @@ frame_header first B s =
     need (bits_ok (get_or s 0 0) (be32 s 20)) 35 >>= λ _.
     need (columns_ok (items_of (get_or s 0 0) (be32 s 20)) B) 36 >>= λ _.
     ok (record { method = get_or s 0 0; time = be32 s 14; interleave = get_or s 18 0; items = items_of (get_or s 0 0) (be32 s 20) })
-
--- what an answer says in the paper's terms
-abbrev pub anhd_of : Anhd → Res FrameHeader
-anhd_of (Header h) = ok h
-anhd_of (Refused why) = fault (number_of why)

@@ -1,15 +1,16 @@
 // The header of a frame, ANHD.
-#![tactic(auto)]
+#![tactic(auto, unfolding(crate::specs::Anhd::frame_header))]
 
 ghost use Rattle.std.specs.Prelude.{◌≡◌};
-ghost use Rattle.anhd.specs.Anhd.{method_ok, interleave_ok, bits_ok, items_of, columns_ok, frame_header, anhd_of};
+ghost use Rattle.refusal.specs.Number.{result_of};
+ghost use Rattle.anhd.specs.Anhd.{method_ok, interleave_ok, bits_ok, items_of, columns_ok, frame_header};
 
 use buffer::{byte, number32};
 use refusal::Refusal;
 
 // The items of a delta: bytes in an op list (method 5), shorts or longs in a data list (method 7), or the words of two bytes (method 3) or
 // four (method 2) of a list of words.
-#[derive(Clone, Copy)]
+#[derive(Clone, Copy, Debug, PartialEq, Eq)]
 pub enum Items {
     Bytes,
     Shorts,
@@ -19,7 +20,8 @@ pub enum Items {
 }
 
 // What ANHD says of a frame: the method, the time after the frame before, the interleave, and the items of its delta.
-#[derive(Clone, Copy)]
+// Kept: the method stays a number, since the definition frame_header hands on ANHD's byte, and a step's report gives it to C.
+#[derive(Clone, Copy, Debug, PartialEq, Eq)]
 pub struct FrameHeader {
     pub method: usize,
     pub time: usize,
@@ -27,42 +29,28 @@ pub struct FrameHeader {
     pub items: Items,
 }
 
-// A frame's header, or why there is none.
-#[derive(Clone, Copy)]
-pub enum Anhd {
-    Header(FrameHeader),
-    Refused(Refusal),
-}
-
 // Whether a method is read.
 fn method_ok(method: usize) -> bool
     ensures { result ≡ method_ok method }
 {
-    match method {
-        2 => true,
-        3 => true,
-        5 => true,
-        _ => method == 7,
-    }
+    matches!(method, 2 | 3 | 5 | 7)
 }
 
 // Whether an interleave is taken, in the first frame or a later one.
 fn interleave_ok(first: bool, interleave: usize) -> bool
     ensures { result ≡ interleave_ok first interleave }
 {
-    if first {
-        return true;
-    }
-    interleave <= 2
+    first || interleave <= 2
 }
 
 fn bits_ok(method: usize, bits: usize) -> bool
     ensures { result ≡ bits_ok method bits }
 {
     if method == 7 {
-        return bits / 2 == 0;
+        bits / 2 == 0
+    } else {
+        bits == 0
     }
-    bits == 0
 }
 
 fn items_of(method: usize, bits: usize) -> Items
@@ -72,12 +60,8 @@ fn items_of(method: usize, bits: usize) -> Items
         2 => Items::LongWords,
         3 => Items::ShortWords,
         5 => Items::Bytes,
-        _ => {
-            if bits % 2 == 1 {
-                return Items::Longs;
-            }
-            Items::Shorts
-        }
+        _ if bits % 2 == 1 => Items::Longs,
+        _ => Items::Shorts,
     }
 }
 
@@ -86,38 +70,35 @@ pub fn columns_ok(items: Items, row: usize) -> bool
     ensures { result ≡ columns_ok items row }
 {
     match items {
-        Items::Bytes => true,
-        Items::Shorts => true,
         Items::Longs => row % 4 == 0,
-        Items::ShortWords => true,
-        Items::LongWords => true,
+        Items::Bytes | Items::Shorts | Items::ShortWords | Items::LongWords => true,
     }
 }
 
 // Reads the contents of an ANHD, of the first frame or a later one, for a picture with row bytes per row.
-pub fn frame_header(first: bool, row: usize, s: &[u8]) -> Anhd
-    ensures { anhd_of result ≡ frame_header first row s.now }
+pub fn frame_header(first: bool, row: usize, s: &[u8]) -> Result<FrameHeader, Refusal>
+    ensures { result_of result ≡ frame_header first row s.now }
 {
     if s.len() < 40 {
-        return Anhd::Refused(Refusal::ShortAnhd);
+        return Err(Refusal::ShortAnhd);
     }
     let method = byte(s, 0);
     if !method_ok(method) {
-        return Anhd::Refused(Refusal::UnknownMethod);
+        return Err(Refusal::UnknownMethod);
     }
     let interleave = byte(s, 18);
     if !interleave_ok(first, interleave) {
-        return Anhd::Refused(Refusal::UnknownInterleave);
+        return Err(Refusal::UnknownInterleave);
     }
     let bits = number32(s, 20);
     if !bits_ok(method, bits) {
-        return Anhd::Refused(Refusal::UnknownOptions);
+        return Err(Refusal::UnknownOptions);
     }
     let items = items_of(method, bits);
     if !columns_ok(items, row) {
-        return Anhd::Refused(Refusal::OddLongColumns);
+        return Err(Refusal::OddLongColumns);
     }
-    Anhd::Header(FrameHeader {
+    Ok(FrameHeader {
         method,
         time: number32(s, 14),
         interleave,

@@ -3,16 +3,12 @@
 #![tactic(auto)]
 
 ghost use Rattle.std.specs.Prelude.{◌≡◌, ◌&&◌, eqb, length};
-ghost use Rattle.shown.specs.Row.{place_of};
+ghost use Rattle.refusal.specs.Number.{result_of};
 ghost use Rattle.anim.specs.Export.{OpensC, HandsOn, StepsOnC, StepsBackC, row_c, number_or, place_or, sizes_in, WritesC, SizesC};
 
-use opening::{Opening, Size};
 use refusal::Refusal;
-use shown::Place;
 use state::Sizes;
-use step_back::Back;
-use step_on::{On, SteppedOn};
-use writer::Delta;
+use step_on::SteppedOn;
 
 // The refusal number for a slice of a wrong length.
 fn wrong_length() -> u64
@@ -32,6 +28,7 @@ fn lengths_ok(state: usize, report: usize) -> bool
     report == 40
 }
 
+// Kept: a slice for each buffer, and numbers for answers, as the C interface has them.
 // Asks how long A and B must be for a file.
 pub fn anim_frame_size(file: &[u8], size: &mut [u8]) -> u64
     ensures { SizesC file.now size.old result size.new }
@@ -39,10 +36,9 @@ pub fn anim_frame_size(file: &[u8], size: &mut [u8]) -> u64
     if size.len() != 8 {
         return wrong_length();
     }
-    let s = opening::frame_size(file);
-    match s {
-        Size::Refused(why) => why.number(),
-        Size::Bytes(n) => {
+    match opening::frame_size(file) {
+        Err(why) => why.number(),
+        Ok(n) => {
             write_words::write_number(size, n);
             0
         }
@@ -59,10 +55,9 @@ pub fn anim_open(file: &[u8], state: &mut [u8], a: &mut [u8], b: &mut [u8], map:
     }
     let o = opening::open(file, a, b, map);
     write_words::write_state(state, o.state);
-    let answer = o.answer;
-    match answer {
-        Opening::Refused(why) => why.number(),
-        Opening::Opened => 0,
+    match o.answer {
+        Err(why) => why.number(),
+        Ok(()) => 0,
     }
 }
 
@@ -70,11 +65,10 @@ pub fn anim_open(file: &[u8], state: &mut [u8], a: &mut [u8], b: &mut [u8], map:
 fn hand_on(s: SteppedOn, state: &mut [u8], report: &mut [u8]) -> u64
     ensures { HandsOn s state.old report.old result state.new report.new }
 {
-    let answer = s.answer;
-    match answer {
-        On::Refused(why) => why.number(),
-        On::End => 1,
-        On::Taken(taken) => {
+    match s.answer {
+        Err(why) => why.number(),
+        Ok(None) => 1,
+        Ok(Some(taken)) => {
             write_words::write_state(state, s.state);
             write_words::write_report(report, taken);
             0
@@ -129,10 +123,9 @@ pub fn anim_step_back(
         return wrong_length();
     }
     let s = step_back::step_back(words::read_state(state), a, b, map, rec);
-    let answer = s.answer;
-    match answer {
-        Back::Refused(why) => why.number(),
-        Back::Taken => {
+    match s.answer {
+        Err(why) => why.number(),
+        Ok(()) => {
             write_words::write_state(state, s.state);
             0
         }
@@ -140,11 +133,11 @@ pub fn anim_step_back(
 }
 
 // Where a row of a plane stands, by the state in its slice.
-fn row_in(plane: u64, row: u64, state: &[u8], a: &[u8], b: &[u8]) -> Place
-    ensures { place_of result ≡ row_c plane row state.now (length a.now) (length b.now) }
+fn row_in(plane: u64, row: u64, state: &[u8], a: &[u8], b: &[u8]) -> Result<usize, Refusal>
+    ensures { result_of result ≡ row_c plane row state.now (length a.now) (length b.now) }
 {
     if state.len() != 48 {
-        return Place::Refused(Refusal::OutsideLimits);
+        return Err(Refusal::OutsideLimits);
     }
     shown::row_place(words::read_state(state), a, b, plane as usize, row as usize)
 }
@@ -153,10 +146,9 @@ fn row_in(plane: u64, row: u64, state: &[u8], a: &[u8], b: &[u8]) -> Place
 pub fn anim_row_place(plane: u64, row: u64, state: &[u8], a: &[u8], b: &[u8]) -> u64
     ensures { result ≡ place_or (row_c plane row state.now (length a.now) (length b.now)) }
 {
-    let p = row_in(plane, row, state, a, b);
-    match p {
-        Place::Refused(_) => 0,
-        Place::At(at) => at as u64,
+    match row_in(plane, row, state, a, b) {
+        Err(_) => 0,
+        Ok(at) => at as u64,
     }
 }
 
@@ -164,10 +156,9 @@ pub fn anim_row_place(plane: u64, row: u64, state: &[u8], a: &[u8], b: &[u8]) ->
 pub fn anim_row_refusal(plane: u64, row: u64, state: &[u8], a: &[u8], b: &[u8]) -> u64
     ensures { result ≡ number_or (row_c plane row state.now (length a.now) (length b.now)) }
 {
-    let p = row_in(plane, row, state, a, b);
-    match p {
-        Place::Refused(why) => why.number(),
-        Place::At(_) => 0,
+    match row_in(plane, row, state, a, b) {
+        Err(why) => why.number(),
+        Ok(_) => 0,
     }
 }
 
@@ -192,10 +183,9 @@ pub fn anim_write_delta(
         height: height as usize,
         planes: planes as usize,
     };
-    let d = writer::write(out, old, new, sizes);
-    match d {
-        Delta::Refused(why) => why.number(),
-        Delta::Written(n) => {
+    match writer::write(out, old, new, sizes) {
+        Err(why) => why.number(),
+        Ok(n) => {
             write_words::write_number(len, n);
             0
         }

@@ -4,6 +4,7 @@
 ghost use Rattle.std.specs.Prelude.{◌≡◌, length};
 ghost use Rattle.anim.specs.Export.{OpensC, StepsOnC, StepsBackC, row_c, number_or, place_or, sizes_in, WritesC, SizesC};
 
+// Kept: a function beside each of anim's, since the C interface needs exported functions, and a crate is a library or a static library.
 // Asks how long A and B must be for a file.
 #[unsafe(no_mangle)]
 pub extern "C" fn anim_frame_size(file: &[u8], size: &mut [u8]) -> u64

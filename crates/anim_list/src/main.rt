@@ -2,26 +2,10 @@
 // isn't listed; `main` returns that error, and that of an output that can't be written.
 #![tactic(auto)]
 
-ghost use Rattle.std.specs.Prelude.{◌≤◌, length, IfOk};
-
+use input::read_full;
 use listing::list;
 use std::io;
-use std::io::{Read, Write};
-
-// Reads the input to its end, or until the buffer is full, and answers how many bytes were read.
-fn read_input<R: Read>(input: &mut R, buf: &mut [u8]) -> io::Result<usize>
-    ensures { IfOk result (λ n. n ≤ length buf.new) }
-{
-    let mut done = 0;
-    while done < buf.len() {
-        let n = input.read(&mut buf[done..])?;
-        if n == 0 {
-            break;
-        }
-        done += n;
-    }
-    Ok(done)
-}
+use std::io::Write;
 
 // The file's buffer has a byte more than the longest file that is listed; the text's buffer holds every listing whole (`listing_short`).
 fn main(rt: HostRuntime) -> io::Result<()> {
@@ -32,7 +16,7 @@ fn main(rt: HostRuntime) -> io::Result<()> {
     let mut work = [0u8; 16384];
     let mut rec = [0u8; 65536];
     let mut out = [0u8; 65536];
-    let n = read_input(&mut rt.stdin(), &mut file)?;
+    let n = read_full(&mut rt.stdin(), &mut file)?;
     let k = list(
         &file[..n],
         &mut a,

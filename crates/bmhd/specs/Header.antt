@@ -3,12 +3,9 @@
 use Rattle.std.specs.Prelude.{ℕ, not, List, leb, eqb, length, get_or}
 use Rattle.laws.specs.Result.{Res, Res.ok, Res.fault, ◌>>=◌, need}
 use Rattle.laws.specs.Bytes.{be16}
-use Rattle.refusal.specs.Number.{number_of}
 use Rattle.state.specs.State.{frame_length}
 use Rattle.state.specs.declared.Sizes.{Sizes}
 use Rattle.bmhd.specs.declared.Header.{Header}
-use Rattle.bmhd.specs.declared.Bmhd.{Bmhd}
-use Rattle.bmhd.specs.declared.Bmhd.TheVariants.{Picture, Refused}
 
 -- the sizes that a BMHD gives, within the limits or not
 abbrev pub sizes_at : List ℕ → Sizes
@@ -27,8 +24,3 @@ bitmap_header s =
     need (not (eqb (get_or s 9 0) 1)) 24 >>= λ _.
     need (leb (get_or s 10 0) 1) 24 >>= λ _.
     ok (record { sizes = sizes_at s; length = n; packed = eqb (get_or s 10 0) 1 })
-
--- what an answer says in the paper's terms
-abbrev pub bmhd_of : Bmhd → Res Header
-bmhd_of (Picture h) = ok h
-bmhd_of (Refused why) = fault (number_of why)

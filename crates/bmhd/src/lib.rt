@@ -1,26 +1,20 @@
 // The header of the first picture: the contents of its BMHD.
-#![tactic(auto)]
+#![tactic(auto, unfolding(crate::specs::Header::bitmap_header))]
 
 ghost use Rattle.std.specs.Prelude.{◌≡◌};
-ghost use Rattle.bmhd.specs.Header.{sizes_at, bitmap_header, bmhd_of};
+ghost use Rattle.refusal.specs.Number.{result_of};
+ghost use Rattle.bmhd.specs.Header.{sizes_at, bitmap_header};
 
 use buffer::{byte, number16};
 use refusal::Refusal;
-use state::{Length, Sizes};
+use state::Sizes;
 
 // What BMHD says of a picture: its sizes, the length of a frame in bytes, and whether BODY is packed by ByteRun1.
-#[derive(Clone, Copy)]
+#[derive(Clone, Copy, Debug, PartialEq, Eq)]
 pub struct Header {
     pub sizes: Sizes,
     pub length: usize,
     pub packed: bool,
-}
-
-// A header, or why there is none.
-#[derive(Clone, Copy)]
-pub enum Bmhd {
-    Picture(Header),
-    Refused(Refusal),
 }
 
 // The sizes that a BMHD gives, within the limits or not.
@@ -35,24 +29,24 @@ fn sizes_at(s: &[u8]) -> Sizes
 }
 
 // Reads the contents of a BMHD.
-pub fn bitmap_header(s: &[u8]) -> Bmhd
-    ensures { bmhd_of result ≡ bitmap_header s.now }
+pub fn bitmap_header(s: &[u8]) -> Result<Header, Refusal>
+    ensures { result_of result ≡ bitmap_header s.now }
 {
     if s.len() != 20 {
-        return Bmhd::Refused(Refusal::BadBmhd);
+        return Err(Refusal::BadBmhd);
     }
     let sizes = sizes_at(s);
-    let Length::Bytes(length) = sizes.frame_length() else {
-        return Bmhd::Refused(Refusal::BadBmhd);
+    let Ok(length) = sizes.frame_length() else {
+        return Err(Refusal::BadBmhd);
     };
     if byte(s, 9) == 1 {
-        return Bmhd::Refused(Refusal::BadBmhd);
+        return Err(Refusal::BadBmhd);
     }
     let compression = byte(s, 10);
     if 1 < compression {
-        return Bmhd::Refused(Refusal::BadBmhd);
+        return Err(Refusal::BadBmhd);
     }
-    Bmhd::Picture(Header {
+    Ok(Header {
         sizes,
         length,
         packed: compression == 1,

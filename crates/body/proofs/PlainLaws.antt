@@ -4,16 +4,15 @@ use native.Mathlib.Nat.{suc-mul, mul_comm, mul_assoc}
 use native.Mathlib.Omega.{arith}
 use mathlib.Core.Bool.{Bool, true, false}
 use mathlib.Core.List.{List, ◌∷◌}
-use mathlib.Core.Path.{◌≡◌, refl, sym, ap, ◌∙◌}
+use mathlib.Core.Path.{◌≡◌, refl, ap, ◌∙◌}
 use lib.Dec.{leb}
 use lib.ListN.{length, take, drop}
-use borrow.Author.Tests.{le-leb, leb-true, leb-false}
+use borrow.Author.Tests.{le-leb, leb-true}
 use Rattle.laws.specs.Result.{Res.ok, Res.fault, answer}
 use Rattle.laws.proofs.ResultLaws.{answer_ok}
 use Rattle.state.specs.declared.Sizes.{Sizes}
 use Rattle.state.specs.State.{row_bytes, frame_bytes, Sound}
 use Rattle.body.specs.Body.{row_at, rows_from}
-use Rattle.body.specs.Walk.{check_of}
 
 pub plain_fits : (s : List ℕ) (B k at : ℕ) → at + k * B ≤ length s → answer (rows_from s at B k false) ≡ ok tt
 unfolding rows_from row_at
@@ -30,11 +29,6 @@ plain_short s B (suc k) at l h = go (leb (at + B) (length s)) refl (λ q. plain_
     go : (t : Bool) → leb (at + B) (length s) ≡ t → (at + B ≤ length s → answer (rows_from s (at + B) B k false) ≡ fault 25) → answer (rows_from s at B (suc k) false) ≡ fault 25
     go false e ih = rw e
     go true e ih = rw e (answer_ok (rows_from s (at + B) B k false) (λ rs. take B (drop at s) ∷ rs) ∙ ih (leb-true (at + B) (length s) e))
-
--- the length answers the check
-pub plain_checked : (s : List ℕ) (B k : ℕ) (r p : Bool) → p ≡ false → r ≡ leb (k * B) (length s) → check_of r ≡ answer (rows_from s 0 B k p)
-plain_checked s B k true p q e = rw q (sym (plain_fits s B k 0 (omega (arith, leb-true (k * B) (length s) (sym e)))))
-plain_checked s B k false p q e = rw q (sym (plain_short s B k 0 (omega arith) (omega (arith, leb-false (k * B) (length s) (sym e)))))
 
 -- within the limits it doesn't overflow
 pub rows_most : {z : Sizes} {n B : ℕ} → Sound z n → B ≡ row_bytes z.width → z.height * z.planes * B ≤ 1048576

@@ -2,13 +2,10 @@
 -- row are ignored. A frame has plane 0 whole, then plane 1, rows from the top.
 use Rattle.std.specs.Prelude.{ℕ, zero, suc, ◌+◌, ◌*◌, ◌/◌, ◌%◌, Bool, true, false, List, [], ◌∷◌, leb, eqb, length, take, drop, replicate}
 use Rattle.std.proofs.lemmas.List.Edits.{sets}
-use Rattle.laws.specs.Result.{Res, Res.ok, Res.fault, ◌>>=◌, need}
-use Rattle.refusal.specs.Number.{number_of}
+use Rattle.laws.specs.Result.{Res, Res.ok, ◌>>=◌, need}
 use Rattle.state.specs.State.{row_bytes, frame_bytes, frame_length}
 use Rattle.state.specs.declared.Sizes.{Sizes}
 use Rattle.body.specs.ByteRun.{Row, unpack_row}
-use Rattle.body.specs.declared.Unpacked.{Unpacked}
-use Rattle.body.specs.declared.Unpacked.TheVariants.{Done, Refused}
 
 -- the row of B bytes at a place of BODY, packed or not
 unfoldable pub row_at : List ℕ → ℕ → ℕ → Bool → Res Row
@@ -44,8 +41,3 @@ unpack n s z packed =
     frame_length z >>= λ m.
     need (eqb n m) 12 >>= λ _.
     body s z packed
-
--- what an answer says in the paper's terms
-abbrev pub unpacked_of : Unpacked → Res (Unit {0})
-unpacked_of Done = ok tt
-unpacked_of (Refused why) = fault (number_of why)

@@ -1,56 +1,40 @@
 -- What the steps of unpacking a BODY answer and leave in the frame. A walk that only checks draws nothing.
-use Rattle.std.specs.Prelude.{ℕ, ◌+◌, ◌*◌, ◌≤◌, Bool, true, false, ◌≡◌, List, [], length, take, drop, replicate}
-use Rattle.std.proofs.lemmas.List.Edits.{sets}
+use Rattle.std.specs.Prelude.{ℕ, ◌*◌, Bool, false, ◌≡◌, List, [], length, replicate, Result, Ok, Err}
+use Rattle.laws.specs.Store.{over}
 use Rattle.laws.specs.Result.{Res, Res.ok, Res.fault, ◌>>=◌, pick}
+use Rattle.refusal.specs.Number.{number_of}
+use Rattle.refusal.specs.declared.Refusal.{Refusal}
 use Rattle.state.specs.declared.Sizes.{Sizes}
 use Rattle.state.specs.State.{row_bytes}
 use Rattle.body.specs.ByteRun.{Row}
 use Rattle.body.specs.Body.{rows_from, draw_rows}
 use Rattle.body.specs.declared.Packet.{Packet}
-use Rattle.body.specs.declared.Packet.TheVariants.{Copy, Repeat, Nothing, Faulty}
+use Rattle.body.specs.declared.Packet.TheVariants.{Copy, Repeat, Nothing}
 use Rattle.body.specs.declared.Took.{Took}
-use Rattle.body.specs.declared.Took.TheVariants.{Bytes, Faulty as NoBytes}
 
 -- what an answer says of a packet, in the definition's terms
-abbrev pub packet_of : List ℕ → Packet → Res Row
-packet_of s (Copy from count nx) = ok (record { bytes = take count (drop from s); next = nx })
-packet_of s (Repeat value count nx) = ok (record { bytes = replicate count value; next = nx })
-packet_of s (Nothing nx) = ok (record { bytes = []; next = nx })
-packet_of s Faulty = fault 25
+abbrev pub row_of : Packet → Row
+row_of (Copy b nx) = record { bytes = b.now; next = nx }
+row_of (Repeat value count nx) = record { bytes = replicate count value; next = nx }
+row_of (Nothing nx) = record { bytes = []; next = nx }
 
--- the bytes that a packet copies are there
-abbrev pub Fits : List ℕ → Packet → Type 0
-Fits s (Copy from count nx) = from + count ≤ length s
-Fits s (Repeat value count nx) = Unit {0}
-Fits s (Nothing nx) = Unit {0}
-Fits s Faulty = Unit {0}
+abbrev pub packet_of : Result Packet Refusal → Res Row
+packet_of (Ok p) = ok (row_of p)
+packet_of (Err why) = fault (number_of why)
 
 -- how many bytes there were, and the place after them
-pub record Count : Type 0 where
-  pub count : ℕ
-  pub next : ℕ
-
-abbrev pub took : Res Row → Res Count
+abbrev pub took : Res Row → Res Took
 took r = r >>= λ b. ok (record { count = length b.bytes; next = b.next })
 
-abbrev pub took_of : Took → Res Count
-took_of (Bytes count nx) = ok (record { count = count; next = nx })
-took_of NoBytes = fault 25
-
--- the frame with the bytes at a place, if they are drawn and there are any
-abbrev pub puts : List ℕ → ℕ → Res Row → Bool → List ℕ
-puts f place (ok r) drawing = pick drawing (sets f place r.bytes) f
-puts f place (fault n) drawing = f
+-- a buffer with the bytes at its front, if they are drawn and there are any
+abbrev pub puts : List ℕ → Res Row → Bool → List ℕ
+puts f (ok r) drawing = pick drawing (over f r.bytes) f
+puts f (fault n) drawing = f
 
 -- the same of a row; of a row that is refused nothing is said but that a check draws nothing
-pub record Drawn (f : List ℕ) (place : ℕ) (r : Res Row) (drawing : Bool) (g : List ℕ) : Type 0 where
-  pub row : (b : Row) → r ≡ ok b → g ≡ pick drawing (sets f place b.bytes) f
+pub record Drawn (f : List ℕ) (r : Res Row) (drawing : Bool) (g : List ℕ) : Type 0 where
+  pub row : (b : Row) → r ≡ ok b → g ≡ pick drawing (over f b.bytes) f
   pub check : drawing ≡ false → g ≡ f
-
--- whether the rows of BODY are there
-abbrev pub check_of : Bool → Res (Unit {0})
-check_of true = ok tt
-check_of false = fault 25
 
 -- a frame g into which the rows of BODY were drawn; of a BODY that is refused nothing is said
 pub record DrawnRows (f s : List ℕ) (z : Sizes) (packed : Bool) (g : List ℕ) : Type 0 where

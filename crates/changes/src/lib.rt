@@ -5,7 +5,7 @@ ghost use Rattle.std.specs.Prelude.{◌≡◌, ◌+◌, ◌<◌, ◌≤◌, leng
 ghost use Rattle.changes.specs.Count.{count, CountsBlock};
 
 // How many runs there are, and how many bytes changed.
-#[derive(Clone, Copy)]
+#[derive(Clone, Copy, Debug, PartialEq, Eq)]
 pub struct Counts {
     pub runs: usize,
     pub changed: usize,
@@ -25,13 +25,11 @@ fn count_block(old: &[u8], new: &[u8], at: usize, size: usize) -> Block
 {
     let mut ends: u8 = 0;
     let mut changed: u8 = 0;
-    let mut i = 0;
-    while i < size {
+    for i in 0..size {
         let differs = old[at + i] != new[at + i];
         let last = old[at + i + 1] == new[at + i + 1];
         ends += (differs & last) as u8;
         changed += differs as u8;
-        i += 1;
     }
     Block { ends, changed }
 }
@@ -50,6 +48,7 @@ pub fn count(old: &[u8], new: &[u8]) -> Counts
         return Counts { runs, changed };
     }
     let mut at = 0;
+    // Kept: the step is 128 bytes and not 1, and the last block begins where this loop ends.
     while 128 < n - at {
         let b = count_block(old, new, at, 128);
         runs += b.ends as usize;

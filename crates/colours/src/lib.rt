@@ -1,5 +1,5 @@
 // The colour map: how long it is, and which CMAPs may change it.
-#![tactic(auto)]
+#![tactic(auto, unfolding(crate::specs::Colours::good_length))]
 
 ghost use Rattle.std.specs.Prelude.{◌≡◌};
 ghost use Rattle.colours.specs.Colours.{good_length};
@@ -11,8 +11,5 @@ pub const MAP: usize = 768;
 pub fn good_length(n: usize) -> bool
     ensures { result ≡ good_length n }
 {
-    if n % 3 != 0 {
-        return false;
-    }
-    n <= MAP
+    n % 3 == 0 && n <= MAP
 }

@@ -1,17 +1,19 @@
 -- Laws of ops that are cut into 127s or 255s and the rest: how many they are, in how many bytes, and the first of them.
 use Prim.Native.Nat.{ℕ, zero, suc, ◌+◌, ◌-◌, ◌*◌, ◌/◌, ◌%◌, ◌≤◌, ◌<◌, min}
 use native.Mathlib.Omega.{arith}
-use mathlib.Core.List.{List, [], ◌∷◌, ◌++◌, append_assoc}
+use mathlib.Core.List.{List, [], ◌∷◌, ◌++◌, append_assoc, append-nil}
 use mathlib.Core.Path.{◌≡◌, refl, sym, ap, ◌∙◌}
-use lib.ListN.{length, get_or, take, drop, replicate, length-append, length-take, length-drop, length-replicate}
-use lib.Seq.{length-take-le, take_all}
-use Rattle.laws.proofs.PutLaws.{Parts}
+use lib.ListN.{length, get_or, take, drop, replicate, length-append, length-take, length-drop, length-replicate, drop_of_length-le}
+use lib.Seq.{length-take-le, take_all, take_at, drop_at}
+use Rattle.laws.specs.Put.{Put}
+use Rattle.laws.proofs.PutLaws.{Parts, put_is}
+use Rattle.laws.proofs.StoreLaws.{sets_part}
 use Rattle.runs.proofs.RunLaws.{runs_end}
 use Rattle.column_writer.specs.Column.{WrittenOp, WrittenOp.skip, WrittenOp.uniq, WrittenOp.same, rest_of, uniqs, cut, ops_of, op_bytes, ops_bytes}
 use Rattle.column_writer.specs.Piece.{ops_at, piece_ops, ops_in, bytes_in, NextPiece}
 use Rattle.column_writer.specs.declared.piece.PieceKind.{PieceKind}
 use Rattle.column_writer.specs.declared.piece.PieceKind.TheVariants.{Rest, Skip, Same, Uniq}
-use Rattle.column_writer.proofs.BoundLaws.{cut_no_skip, cut_no_same}
+use Rattle.column_writer.proofs.BoundLaws.{cut_no_same}
 use Rattle.column_writer.proofs.ColumnLaws.{ops_none}
 
 pub bytes_append : (os ps : List WrittenOp) → ops_bytes (os ++ ps) ≡ ops_bytes os ++ ops_bytes ps
@@ -119,32 +121,35 @@ none_left old new row h = ap ops_of (runs_end new old row h) ∙ ops_none
 cut_more : (d n k r : ℕ) (o : WrittenOp) (p : ℕ → WrittenOp) → d ≡ suc k → r ≡ n → replicate d o ++ rest_of n (p n) ≡ o ∷ (replicate k o ++ rest_of r (p r))
 cut_more d n k r o p e f = rw (e, f)
 
-pub skip_more : (n : ℕ) → 127 ≤ n → Parts (ops_bytes (cut (skip n))) (127 ∷ []) (ops_bytes (cut (skip (n - 127))))
-unfolding cut
-skip_more n h = record { is = ap ops_bytes (cut_more (n / 127) (n % 127) ((n - 127) / 127) ((n - 127) % 127) (skip 127) skip (omega arith) (omega arith)) ∙ unfold ops_bytes op_bytes in refl }
-
 -- a rest of some rows is one op
-rest_one : (n : ℕ) (o : WrittenOp) → 0 < n → ops_bytes (rest_of n o) ≡ op_bytes o ++ []
+rest_one : (n : ℕ) (o : WrittenOp) → (n ≡ 0 → ⊥) → ops_bytes (rest_of n o) ≡ op_bytes o ++ []
 unfolding rest_of ops_bytes
-rest_one zero o h = absurd (omega arith)
+rest_one zero o h = absurd (h refl)
 rest_one (suc n) o h = refl
 
-pub skip_last : (n : ℕ) → 0 < n → n < 127 → Parts (ops_bytes (cut (skip n))) (n ∷ []) []
-unfolding cut op_bytes
-skip_last n h k =
-    let e : n / 127 ≡ 0 = omega arith in
-    let f : n % 127 ≡ n = omega arith in
-    record { is = rw (e, f) (rest_one n (skip n) h) }
+-- a Skip is one byte, its rows
+skips_bytes : (k : ℕ) → ops_bytes (replicate k (skip 127)) ≡ replicate k 127
+unfolding ops_bytes op_bytes
+skips_bytes zero = refl
+skips_bytes (suc k) = ap (λ (t : List ℕ). 127 ∷ t) (skips_bytes k)
 
-pub skip_none : (n : ℕ) → n ≡ 0 → ops_bytes (cut (skip n)) ≡ []
-unfolding ops_bytes
-skip_none n e = rw (e, cut_no_skip)
+skip_parts : (n : ℕ) → ops_bytes (cut (skip n)) ≡ replicate (n / 127) 127 ++ ops_bytes (rest_of (n % 127) (skip (n % 127)))
+unfolding cut
+skip_parts n = bytes_append (replicate (n / 127) (skip 127)) (rest_of (n % 127) (skip (n % 127))) ∙ rw (skips_bytes (n / 127))
+
+pub skip_whole : (n : ℕ) → n % 127 ≡ 0 → ops_bytes (cut (skip n)) ≡ replicate (n / 127) 127
+unfolding rest_of ops_bytes
+skip_whole n e = skip_parts n ∙ rw (e, rest_of, ops_bytes, append-nil)
+
+pub skip_rest : (n : ℕ) → (n % 127 ≡ 0 → ⊥) → ops_bytes (cut (skip n)) ≡ replicate (n / 127) 127 ++ (n % 127 ∷ [])
+unfolding op_bytes
+skip_rest n h = skip_parts n ∙ rw (rest_one (n % 127) (skip (n % 127)) h)
 
 pub same_more : (n v : ℕ) → 255 ≤ n → Parts (ops_bytes (cut (same n v))) (op_bytes (same 255 v)) (ops_bytes (cut (same (n - 255) v)))
 unfolding cut
 same_more n v h = record { is = ap ops_bytes (cut_more (n / 255) (n % 255) ((n - 255) / 255) ((n - 255) % 255) (same 255 v) (λ k. same k v) (omega arith) (omega arith)) ∙ unfold ops_bytes in refl }
 
-pub same_last : (n v : ℕ) → 0 < n → n < 255 → Parts (ops_bytes (cut (same n v))) (op_bytes (same n v)) []
+pub same_last : (n v : ℕ) → (n ≡ 0 → ⊥) → n < 255 → Parts (ops_bytes (cut (same n v))) (op_bytes (same n v)) []
 unfolding cut
 same_last n v h k =
     let e : n / 255 ≡ 0 = omega arith in
@@ -175,17 +180,29 @@ uniq_first (v ∷ vs) h =
     let d = length-drop 127 (v ∷ vs) in
     ap (λ (t : List WrittenOp). uniq (take 127 (v ∷ vs)) ∷ t) (uniqs_enough (length vs) (length (drop 127 (v ∷ vs))) (drop 127 (v ∷ vs)) (omega arith) (omega arith))
 
-pub uniq_more : (vs : List ℕ) → 127 ≤ length vs → Parts (ops_bytes (cut (uniq vs))) (op_bytes (uniq (take 127 vs))) (ops_bytes (cut (uniq (drop 127 vs))))
-uniq_more vs h = record { is = ap ops_bytes (uniq_first vs (omega arith)) ∙ unfold ops_bytes in refl }
+-- at most 127 rows in front of others
+first_rows : (ws us : List ℕ) → length ws ≡ min 127 (length (ws ++ us)) → (take 127 (ws ++ us) ≡ ws) × (drop 127 (ws ++ us) ≡ us)
+first_rows ws [] h = (rw append-nil (take_all 127 ws (omega arith)), rw append-nil (drop_of_length-le ws {i = 127} (omega arith)))
+first_rows ws (u ∷ us) h =
+    let l : length ws ≡ 127 = omega (arith, length-append ws (u ∷ us)) in
+    (take_at ws (u ∷ us) 127 l, drop_at ws (u ∷ us) 127 l)
+
+pub uniq_next : {vs : List ℕ} (ws us : List ℕ) → vs ≡ ws ++ us → length ws ≡ min 127 (length vs) → 0 < length vs → Parts (ops_bytes (cut (uniq vs))) (op_bytes (uniq ws)) (ops_bytes (cut (uniq us)))
+uniq_next {vs} ws us e n h =
+    let f = first_rows ws us (rw e at n) in
+    let g : cut (uniq vs) ≡ uniq ws ∷ cut (uniq us) = uniq_first vs h ∙ rw (e, f.0, f.1) in
+    record { is = ap ops_bytes g ∙ unfold ops_bytes in refl }
 
 pub uniq_none : (vs : List ℕ) → length vs ≡ 0 → ops_bytes (cut (uniq vs)) ≡ []
 unfolding cut uniqs ops_bytes
 uniq_none [] e = refl
 uniq_none (v ∷ vs) e = absurd (omega arith)
 
-pub uniq_last : (vs : List ℕ) → 0 < length vs → length vs < 127 → Parts (ops_bytes (cut (uniq vs))) (op_bytes (uniq vs)) []
-uniq_last vs h l = record {
-  is =
-      ap ops_bytes (uniq_first vs h)
-      ∙ rw (take_all 127 vs (omega arith)) (unfold ops_bytes in ap (λ (t : List ℕ). op_bytes (uniq vs) ++ t) (uniq_none (drop 127 vs) (simp length-drop (omega arith))));
-}
+-- bytes put into the part of a buffer that was lent for them
+pub put_part : (out : List ℕ) (at end : ℕ) (bytes : List ℕ) {y : List ℕ} → end ≡ at + length bytes → end ≤ length out → y ≡ bytes → Put out at bytes (take at out ++ (y ++ drop (end - at) (drop at out))) end
+put_part out at end bytes e h f = put_is e (rw f (sets_part at end out bytes (omega arith) h (omega arith)))
+
+-- a part that was lent and came back as long leaves the buffer its length
+pub length_lent : (out : List ℕ) (at end : ℕ) (y : List ℕ) → length y ≡ length (take (end - at) (drop at out)) → length (take at out ++ (y ++ drop (end - at) (drop at out))) ≡ length out
+length_lent out at end y e =
+    omega (arith, e, length-append (take at out) (y ++ drop (end - at) (drop at out)), length-append y (drop (end - at) (drop at out)), length-take at out, length-drop (end - at) (drop at out), length-drop at out, length-take (end - at) (drop at out))

@@ -31,12 +31,6 @@ module _ {old new : List ℕ} {from i : ℕ} (p : Passed old new from i) where
       let n : i + 1 - from ≡ i - from + 1 = omega (arith, p.low) in
       record { low = omega (arith, p.low); high = omega arith; runs = p.runs ∙ rw (kept_at new old i h l e, n) (later_kept (i - from) (runs_at new old (i + 1))) }
 
-  pub passed_stops : (get_or new i 0 ≡ get_or old i 0 → ⊥) → Unchanged old new from i
-  passed_stops e = record { low = p.low; high = p.high; runs = p.runs; stops = λ _. e }
-
-  pub passed_all_lem : length new ≤ i → Unchanged old new from i
-  passed_all_lem h = record { low = p.low; high = p.high; runs = p.runs; stops = λ k. absurd (omega arith) }
-
 -- what a changed row, and one that isn't, tell of the stretch
 module _ (old new : List ℕ) (i : ℕ) (h : i < length new) (l : length old ≡ length new) where
   front_at : (get_or new i 0 ≡ get_or old i 0 → ⊥) → front (runs_at new old i) ≡ get_or new i 0 ∷ front (runs_at new old (i + 1))
@@ -97,8 +91,8 @@ module _ {old new : List ℕ} {from i : ℕ} (g : GroupPart old new from i) wher
   pub group_unchanged : length old ≡ length new → i < length new → get_or new i 0 ≡ get_or old i 0 → GroupRows old new from i
   group_unchanged l h e = record { part = g; ends = rw (front_unchanged old new i h l e) tt }
 
-  pub group_last : length new ≤ i → GroupRows old new from i
-  group_last h = record { part = g; ends = rw (front_end old new i h) tt }
+  pub group_last : length new ≤ i → {end : ℕ} → end ≡ i → GroupRows old new from end
+  group_last h e = rw e (let r : GroupRows old new from i = record { part = g; ends = rw (front_end old new i h) tt } in r)
 
 -- the ops of the stretch that a row lies in, before they are cut
 unfoldable pub stretch_at : List ℕ → List ℕ → ℕ → List WrittenOp

@@ -2,13 +2,8 @@
 -- rows, are 12, as buffers of a wrong length are in document 01; a column that does not fit is 51.
 use Rattle.std.specs.Prelude.{ℕ, ◌+◌, List, ◌≡◌, leb, eqb, length}
 use Rattle.std.proofs.lemmas.List.Edits.{sets}
-use Rattle.laws.specs.Result.{Res, Res.ok, Res.fault, ◌>>=◌, need, leaves}
-use Rattle.refusal.specs.Number.{number_of}
+use Rattle.laws.specs.Result.{Res, Res.ok, ◌>>=◌, need, leaves}
 use Rattle.column_writer.specs.Column.{column_bytes}
-use Rattle.column_writer.specs.declared.ColumnSize.{ColumnSize}
-use Rattle.column_writer.specs.declared.ColumnSize.TheVariants.{Bytes, Refused}
-use Rattle.column_writer.specs.declared.Placed.{Placed}
-use Rattle.column_writer.specs.declared.Placed.TheVariants.{Next, Refused as NotPlaced}
 
 -- how many bytes a column is written in
 unfoldable pub column_length : List ℕ → List ℕ → Res ℕ
@@ -28,12 +23,3 @@ placed room at old new =
 pub record Places (out : List ℕ) (at : ℕ) (old new : List ℕ) (r : Res ℕ) (out' : List ℕ) : Type 0 where
   pub answer : r ≡ placed (length out) at old new
   pub buffer : out' ≡ leaves out (λ n. sets out at (column_bytes old new)) r
-
--- what the answers say in the paper's terms
-abbrev pub column_size_of : ColumnSize → Res ℕ
-column_size_of (Bytes n) = ok n
-column_size_of (Refused why) = fault (number_of why)
-
-abbrev pub placed_of : Placed → Res ℕ
-placed_of (Next at) = ok at
-placed_of (NotPlaced why) = fault (number_of why)

@@ -8,24 +8,20 @@ ghost use Rattle.laws.specs.Put.{Put};
 ghost use Rattle.runs.specs.Runs.{runs_of};
 ghost use Rattle.column_writer.specs.Column.{WrittenOp, cut, ops_of, op_bytes, ops_bytes};
 ghost use Rattle.column_writer.specs.Piece.{piece_ops, Measured, Prepared};
-ghost use Rattle.column_writer.specs.Place.{column_length, column_size_of, Places, placed_of};
+ghost use Rattle.column_writer.specs.Place.{column_length, Places};
+ghost use Rattle.refusal.specs.Number.{result_of};
 
-use crate::piece::{Piece, PieceKind, Totals, measure, next_piece, piece_totals};
-use copies::copy;
+use crate::piece::{Column, Piece, PieceKind, Totals};
 use refusal::Refusal;
 
-// How many bytes a column is written in.
-#[derive(Clone, Copy)]
-pub enum ColumnSize {
-    Bytes(usize),
-    Refused(Refusal),
-}
-
-// The place after a column that was written.
-#[derive(Clone, Copy)]
-pub enum Placed {
-    Next(usize),
-    Refused(Refusal),
+// Puts bytes at a place of out where they fit, and answers the place after them.
+fn put(out: &mut [u8], at: usize, bytes: &[u8]) -> usize
+    requires { at + length bytes.now ≤ length out.old }
+    ensures { Put out.old at bytes.now out.new result }
+{
+    let end = at + bytes.len();
+    out[at..end].copy_from_slice(bytes);
+    end
 }
 
 // Writes Skips over rows at a place of out where they fit, and answers the place after them.
@@ -33,29 +29,23 @@ fn write_skips(out: &mut [u8], at: usize, rows: usize) -> usize
     requires { at + length (ops_bytes (cut (WrittenOp.skip rows))) ≤ length out.old }
     ensures { Put out.old at (ops_bytes (cut (WrittenOp.skip rows))) out.new result }
 {
-    let mut place = at;
-    let mut left = rows;
-    while 127 <= left {
-        out[place] = 127;
-        place += 1;
-        left -= 127;
+    let end = at + rows / 127;
+    out[at..end].fill(127);
+    let rest = rows % 127;
+    if rest == 0 {
+        return end;
     }
-    if left == 0 {
-        return place;
-    }
-    out[place] = left as u8;
-    place + 1
+    out[end] = rest as u8;
+    end + 1
 }
 
 // Writes one Same.
+#[tactic(auto, unfolding(crate::specs::Column::op_bytes))]
 fn write_same(out: &mut [u8], at: usize, rows: usize, value: u8) -> usize
     requires { (rows ≤ 255) × (at + length (op_bytes (WrittenOp.same rows value)) ≤ length out.old) }
     ensures { Put out.old at (op_bytes (WrittenOp.same rows value)) out.new result }
 {
-    out[at] = 0;
-    out[at + 1] = rows as u8;
-    out[at + 2] = value;
-    at + 3
+    put(out, at, &[0, rows as u8, value])
 }
 
 // Writes Sames over rows, all of one value.
@@ -64,27 +54,24 @@ fn write_sames(out: &mut [u8], at: usize, rows: usize, value: u8) -> usize
     ensures { Put out.old at (ops_bytes (cut (WrittenOp.same rows value))) out.new result }
 {
     let mut place = at;
-    let mut left = rows;
-    while 255 <= left {
+    for _ in 0..rows / 255 {
         place = write_same(out, place, 255, value);
-        left -= 255;
     }
-    if left == 0 {
+    let rest = rows % 255;
+    if rest == 0 {
         return place;
     }
-    write_same(out, place, left, value)
+    write_same(out, place, rest, value)
 }
 
 // Writes one Uniq of the given rows.
+#[tactic(auto, unfolding(crate::specs::Column::op_bytes), using(laws::proofs::PutLaws::put_then))]
 fn write_uniq(out: &mut [u8], at: usize, rows: &[u8]) -> usize
     requires { (length rows.now ≤ 127) × (at + length (op_bytes (WrittenOp.uniq rows.now)) ≤ length out.old) }
     ensures { Put out.old at (op_bytes (WrittenOp.uniq rows.now)) out.new result }
 {
-    out[at] = (128 + rows.len()) as u8;
-    let start = at + 1;
-    let end = start + rows.len();
-    copy(&mut out[start..end], rows);
-    end
+    let start = put(out, at, &[(128 + rows.len()) as u8]);
+    put(out, start, rows)
 }
 
 // Writes Uniqs of the given rows.
@@ -93,16 +80,10 @@ fn write_uniqs(out: &mut [u8], at: usize, rows: &[u8]) -> usize
     ensures { Put out.old at (ops_bytes (cut (WrittenOp.uniq rows.now))) out.new result }
 {
     let mut place = at;
-    let mut from = 0;
-    while 127 <= rows.len() - from {
-        let end = from + 127;
-        place = write_uniq(out, place, &rows[from..end]);
-        from = end;
+    for part in rows.chunks(127) {
+        place = write_uniq(out, place, part);
     }
-    if from == rows.len() {
-        return place;
-    }
-    write_uniq(out, place, &rows[from..])
+    place
 }
 
 // Writes a piece of a column that begins at a row.
@@ -111,9 +92,8 @@ fn write_piece(out: &mut [u8], at: usize, new: &[u8], row: usize, piece: Piece) 
         × (at + length (ops_bytes (piece_ops piece.kind piece.rows (drop row new.now))) ≤ length out.old) }
     ensures { Put out.old at (ops_bytes (piece_ops piece.kind piece.rows (drop row new.now))) out.new result }
 {
-    let kind = piece.kind;
     let rows = piece.rows;
-    match kind {
+    match piece.kind {
         PieceKind::Rest => at,
         PieceKind::Skip => write_skips(out, at, rows),
         PieceKind::Same => write_sames(out, at, rows, new[row]),
@@ -125,18 +105,18 @@ fn write_piece(out: &mut [u8], at: usize, new: &[u8], row: usize, piece: Piece) 
 }
 
 // Writes the ops of a column to the front of room, and counts them.
-fn write_ops(room: &mut [u8], old: &[u8], new: &[u8]) -> Totals
-    requires { (length old.now ≡ length new.now) × (length new.now ≤ 1024) × (1536 ≤ length room.old) }
-    ensures { Measured old.now new.now result.ops result.bytes
-        × Put room.old 0 (ops_bytes (ops_of (runs_of new.now old.now))) room.new result.bytes }
+fn write_ops(room: &mut [u8; 1536], column: &Column<'_>) -> Totals
+    ensures { Measured column.now.old.now column.now.new.now result.ops result.bytes
+        × Put room.old 0 (ops_bytes (ops_of (runs_of column.now.new.now column.now.old.now))) room.new result.bytes }
 {
     let mut ops = 0;
     let mut place = 0;
     let mut row = 0;
-    while row < new.len() {
-        let piece = next_piece(old, new, row);
-        let totals = piece_totals(piece);
-        place = write_piece(room, place, new, row, piece);
+    // Kept: each turn goes on by the rows of its piece, so that no range says how often this loop turns.
+    while row < column.new.len() {
+        let piece = column.next_piece(row);
+        let totals = piece.totals();
+        place = write_piece(room, place, column.new, row, piece);
         ops += totals.ops;
         row += piece.rows;
     }
@@ -144,64 +124,42 @@ fn write_ops(room: &mut [u8], old: &[u8], new: &[u8]) -> Totals
 }
 
 // Writes what follows a column's op count byte to the front of room: its ops, or Uniqs over all rows where those are too many.
-fn prepare(room: &mut [u8], old: &[u8], new: &[u8]) -> Totals
-    requires { (length old.now ≡ length new.now) × (length new.now ≤ 1024) × (1536 ≤ length room.old) }
-    ensures { Prepared old.now new.now room.new result.ops result.bytes }
+fn prepare(room: &mut [u8; 1536], column: &Column<'_>) -> Totals
+    ensures { Prepared column.now.old.now column.now.new.now room.new result.ops result.bytes }
 {
-    let totals = write_ops(room, old, new);
+    let totals = write_ops(room, column);
     if totals.ops <= 255 {
         return totals;
     }
-    let bytes = write_uniqs(room, 0, new);
+    let bytes = write_uniqs(room, 0, column.new);
     Totals {
-        ops: bytes - new.len(),
+        ops: bytes - column.new.len(),
         bytes,
     }
 }
 
-// Writes a column of rows that are not too many; room is for its ops.
-fn write_in(out: &mut [u8], at: usize, old: &[u8], new: &[u8], room: &mut [u8]) -> Placed
-    requires { (length old.now ≡ length new.now) × (length new.now ≤ 1024) × (1536 ≤ length room.old) }
-    ensures { Places out.old at old.now new.now (placed_of result) out.new }
-{
-    let totals = prepare(room, old, new);
-    if out.len() < at {
-        return Placed::Refused(Refusal::NoRoom);
-    }
-    let size = 1 + totals.bytes;
-    if out.len() - at < size {
-        return Placed::Refused(Refusal::NoRoom);
-    }
-    out[at] = totals.ops as u8;
-    let start = at + 1;
-    let end = start + totals.bytes;
-    copy(&mut out[start..end], &room[..totals.bytes]);
-    Placed::Next(end)
-}
-
 // How many bytes a column is written in: 12 for rows of two lengths and for more than 1,024 rows.
-pub fn column_length(old: &[u8], new: &[u8]) -> ColumnSize
-    ensures { column_size_of result ≡ column_length old.now new.now }
+pub fn column_length(old: &[u8], new: &[u8]) -> Result<usize, Refusal>
+    ensures { result_of result ≡ column_length old.now new.now }
 {
-    if old.len() != new.len() {
-        return ColumnSize::Refused(Refusal::BufferLength);
-    }
-    if 1024 < new.len() {
-        return ColumnSize::Refused(Refusal::BufferLength);
-    }
-    ColumnSize::Bytes(1 + measure(old, new))
+    let column = Column::new(old, new)?;
+    Ok(1 + column.measure())
 }
 
 // Writes a column at a place of out: 12 as above, 51 if it doesn't fit there, and then out stays as it is.
-pub fn write(out: &mut [u8], at: usize, old: &[u8], new: &[u8]) -> Placed
-    ensures { Places out.old at old.now new.now (placed_of result) out.new }
+pub fn write(out: &mut [u8], at: usize, old: &[u8], new: &[u8]) -> Result<usize, Refusal>
+    ensures { Places out.old at old.now new.now (result_of result) out.new }
 {
-    if old.len() != new.len() {
-        return Placed::Refused(Refusal::BufferLength);
+    let column = Column::new(old, new)?;
+    let mut room = [0; 1536];
+    let totals = prepare(&mut room, &column);
+    if out.len() < at {
+        return Err(Refusal::NoRoom);
     }
-    if 1024 < new.len() {
-        return Placed::Refused(Refusal::BufferLength);
+    let size = 1 + totals.bytes;
+    if out.len() - at < size {
+        return Err(Refusal::NoRoom);
     }
-    let mut room = [0u8; 1536];
-    write_in(out, at, old, new, &mut room)
+    let start = put(out, at, &[totals.ops as u8]);
+    Ok(put(out, start, &room[..totals.bytes]))
 }

@@ -1,18 +1,17 @@
 -- Laws of deltas: what one store, one item and one op more make of a frame, and that a delta keeps the frame's length.
 use Prim.Native.Nat.{ℕ, zero, suc, ◌+◌, ◌-◌, ◌*◌, ◌<◌, ◌≤◌}
-use native.Mathlib.Numerals.{add-one}
 use native.Mathlib.Omega.{arith}
 use mathlib.Core.Bool.{true, false}
 use mathlib.Core.Path.{◌≡◌, refl, sym, ap, ◌∙◌}
 use mathlib.Core.List.{List, [], ◌∷◌, ◌++◌}
 use lib.Dec.{leb}
-use lib.ListN.{length, get_or, set, take, drop}
-use lib.Seq.{drop-cons, drop-drop, take-add, sets, length-sets}
-use Rattle.laws.specs.Result.{Res.ok, Res.fault, ◌>>=◌, answer}
+use lib.ListN.{length, get_or, take, drop}
+use lib.Seq.{drop-drop, take-add, sets, length-sets}
+use Rattle.laws.specs.Result.{Res.ok, ◌>>=◌, answer}
 use Rattle.laws.proofs.ResultLaws.{Each, Each.each, each_need, each_pick, each_any, answer_ok}
 use Rattle.laws.specs.Bytes.{be32}
 use Rattle.laws.proofs.StoreLaws.{sets_append, length_part}
-use borrow.Author.Tests.{lt-ltb, le-ltb, le-leb, lt-leb, ne_eqb, leb-true}
+use borrow.Author.Tests.{lt-ltb, le-leb, lt-leb, ne_eqb, leb-true}
 use Rattle.state.specs.declared.Sizes.{Sizes}
 use Rattle.anhd.specs.declared.Items.{Items}
 use Rattle.delta.specs.declared.Shape.{Shape}
@@ -20,16 +19,6 @@ use Rattle.delta.specs.Reading.{shape_of, columns_in, Op, ops_in, Reading, byte_
 use Rattle.delta.specs.Column.{fill, OpKind, OpKind.same, OpKind.skips, OpKind.uniq, op_kind_of, op_as, read_op, read_ops, read_column, read_columns}
 use Rattle.delta.specs.Words.{read_words}
 use Rattle.delta.specs.Delta.{list_pointer, data_pointer, plane_list, read_plane, read_planes, read_picture, put, draw, read_frame, new_frame, op_count}
-
--- an item of one byte more
-store : (w : ℕ) (f : List ℕ) (at : ℕ) (d : List ℕ) (from : ℕ) → from < length d → sets f at (take (suc w) (drop from d)) ≡ sets (set f at (get_or d from 0)) (suc at) (take w (drop (suc from) d))
-store w f at d from h = rw (drop-cons d from 0 h)
-
-pub item_one : (f : List ℕ) (at : ℕ) (d : List ℕ) (from w : ℕ) → w ≡ 1 → from + w ≤ length d → set f at (get_or d from 0) ≡ sets f at (take w (drop from d))
-item_one f at d from w e h = rw e (sym (store 0 f at d from (omega arith)))
-
-pub item_two : (f : List ℕ) (at : ℕ) (d : List ℕ) (from : ℕ) → from + 2 ≤ length d → set (set f at (get_or d from 0)) (at + 1) (get_or d (from + 1) 0) ≡ sets f at (take 2 (drop from d))
-item_two f at d from h = simp add-one (sym (store 1 f at d from (omega arith) ∙ store 0 (set f at (get_or d from 0)) (suc at) d (suc from) (omega arith)))
 
 -- an item of two pairs
 pub item_four : (f : List ℕ) (at : ℕ) (d : List ℕ) (from w : ℕ) → w ≡ 4 → from + w ≤ length d → sets (sets f at (take 2 (drop from d))) (at + 2) (take 2 (drop (from + 2) d)) ≡ sets f at (take w (drop from d))
@@ -39,29 +28,21 @@ item_four f at d from w e h =
 
 -- rows that are being given items, the next one at a place: what is left makes of the frame f what all of it makes of f₀
 pub record Putting (w stride step : ℕ) (d : List ℕ) (count from place : ℕ) (f₀ f : List ℕ) (at item left : ℕ) : Type 0 where
-  pub bound : left ≤ count
   pub there : at ≡ place + (count - left) * stride
   pub stands : item ≡ from + (count - left) * step
-  pub long : length f ≡ length f₀
   pub same : put w stride step d left item at f ≡ put w stride step d count from place f₀
 
 module _ {w stride step : ℕ} {d : List ℕ} {count from place : ℕ} {f₀ : List ℕ} where
   pub putting_starts : Putting w stride step d count from place f₀ f₀ place from count
-  putting_starts = let z : count - count ≡ 0 = omega arith in record { bound = omega arith; there = rw z (omega arith); stands = rw z (omega arith); long = refl; same = refl }
+  putting_starts = let z : count - count ≡ 0 = omega arith in record { there = rw z (omega arith); stands = rw z (omega arith); same = refl }
 
-  pub putting_more : {f : List ℕ} {at item left : ℕ} → Putting w stride step d count from place f₀ f at item left → 0 < left → {g : List ℕ} → g ≡ sets f at (take w (drop item d))
+  pub putting_more : {f : List ℕ} {at item left : ℕ} → Putting w stride step d count from place f₀ f at item left → 0 < left → left ≤ count → {g : List ℕ} → g ≡ sets f at (take w (drop item d))
       → Putting w stride step d count from place f₀ g (at + stride) (item + step) (left - 1)
   unfolding put
-  putting_more {f} {at} {item} {left} v h {g} e =
+  putting_more {f} {at} {item} {left} v h k {g} e =
       let a : left ≡ suc (left - 1) = omega arith in
-      let b : count - (left - 1) ≡ count - left + 1 = omega (arith, v.bound) in
-      record {
-        bound = omega (arith, v.bound);
-        there = rw b (omega (arith, v.there));
-        stands = rw b (omega (arith, v.stands));
-        long = ap length e ∙ length-sets f at (take w (drop item d)) ∙ v.long;
-        same = rw e (rw a at v.same);
-      }
+      let b : count - (left - 1) ≡ count - left + 1 = omega arith in
+      record { there = rw b (omega (arith, v.there)); stands = rw b (omega (arith, v.stands)); same = rw e (rw a at v.same) }
 
   pub putting_ends : {f : List ℕ} {at item left : ℕ} → Putting w stride step d count from place f₀ f at item left → left ≤ 0 → f ≡ put w stride step d count from place f₀
   unfolding put
@@ -106,9 +87,6 @@ unfolding op_count new_frame
 same_answer z i d f n = let r = read_frame n (length f) d z i in answer_ok r (ops_in (shape_of z i)) ∙ sym (answer_ok r (λ ops. draw (shape_of z i) d ops f))
 
 -- what an op does, by the range of its first byte
-pub kind_same : (b : ℕ) → b ≡ 0 → op_kind_of b ≡ same
-kind_same b e = rw e
-
 pub kind_skip : (b : ℕ) → 0 < b → b ≤ 127 → op_kind_of b ≡ skips b
 kind_skip b l k = simp (ne_eqb b 0 (omega arith), le-leb _ _ k)
 
@@ -117,28 +95,16 @@ kind_uniq b k = simp (ne_eqb b 0 (omega arith), lt-leb _ _ k)
 
 -- the op at a place, by its first byte
 module _ (S : Shape) (d : List ℕ) (base : ℕ) (c : Reading) where
-  pub op_none : length d ≤ c.op_at → read_op S d base c ≡ fault 42
-  unfolding read_op byte_at
-  op_none h = simp (le-ltb _ _ h)
-
   pub op_kind : c.op_at < length d → {k : OpKind} → op_kind_of (get_or d c.op_at 0) ≡ k → read_op S d base c ≡ op_as S d base c k
   unfolding read_op byte_at
   op_kind h e = simp (lt-ltb _ _ h) (rw e)
 
   -- a Same, by its count byte
-  pub same_none : length d ≤ c.op_at + 1 → op_as S d base c same ≡ fault 42
-  unfolding byte_at
-  same_none k = simp (le-ltb _ _ k)
-
   pub same_fill : c.op_at + 1 < length d → op_as S d base c same ≡ fill S d base c (c.op_at + 2) (get_or d (c.op_at + 1) 0) S.item 0
   unfolding byte_at
   same_fill k = simp (lt-ltb _ _ k)
 
   -- a column, by its count byte
-  pub column_none : length d ≤ c.op_at → read_column S d base c ≡ fault 42
-  unfolding read_column byte_at
-  column_none h = simp (le-ltb _ _ h)
-
   pub column_ops_lem : c.op_at < length d → read_column S d base c ≡ read_ops S d base (get_or d c.op_at 0) (record { op_at = c.op_at + 1; item_at = c.item_at; line = 0; ops = c.ops })
   unfolding read_column byte_at
   column_ops_lem h = simp (lt-ltb _ _ h)
@@ -150,14 +116,6 @@ module _ (S : Shape) (d : List ℕ) (p : ℕ) (c : Reading) where
   plane_same e = simp e
 
   module _ (h : be32 d (4 * p) ≡ 0 → ⊥) where
-    pub plane_bad : {n : ℕ} → list_pointer d S.pointers p ≡ fault n → read_plane S d p c ≡ fault n
-    unfolding read_plane
-    plane_bad e = simp (ne_eqb (be32 d (4 * p)) 0 h, e)
-
-    pub plane_bad_data : {a n : ℕ} → list_pointer d S.pointers p ≡ ok a → data_pointer S d p ≡ fault n → read_plane S d p c ≡ fault n
-    unfolding read_plane
-    plane_bad_data e k = simp (ne_eqb (be32 d (4 * p)) 0 h, e, k)
-
     plane_list_lem : {a b : ℕ} → list_pointer d S.pointers p ≡ ok a → data_pointer S d p ≡ ok b → read_plane S d p c ≡ plane_list S d (p * S.plane) (record { op_at = a; item_at = b; line = 0; ops = c.ops })
     unfolding read_plane
     plane_list_lem e k = rw (ne_eqb (be32 d (4 * p)) 0 h, e, k) refl
@@ -178,7 +136,10 @@ pointer_most d pointers i = each_need (leb pointers (be32 d (4 * i))) 41 _ λ _.
 pub data_pointer_most : (d : List ℕ) (S : Shape) (p : ℕ) → Each (λ (a : ℕ). a ≤ length d) (data_pointer S d p)
 data_pointer_most d S p = each_pick S.inline (λ _. each {a = 0} (omega arith)) (λ _. pointer_most d S.pointers (p + 8))
 
--- one op, column or plane more, and none
+-- all columns; one op, column or plane more, and none
+pub columns_all : (S : Shape) (d : List ℕ) (n base : ℕ) (c : Reading) → read_columns S d n base c ≡ read_columns S d (n - 0) (base + 0 * S.item) c
+columns_all S d n base c = let e : n - 0 ≡ n = omega arith in let b : base + 0 * S.item ≡ base = omega arith in rw (e, b) refl
+
 pub ops_more : (S : Shape) (d : List ℕ) (base k : ℕ) → 0 < k → (c : Reading) → read_ops S d base k c ≡ read_op S d base c >>= read_ops S d base (k - 1)
 unfolding read_ops
 ops_more S d base k h c = let e : k ≡ suc (k - 1) = omega arith in ap (λ (n : ℕ). read_ops S d base n c) e
@@ -187,13 +148,17 @@ pub ops_none : (S : Shape) (d : List ℕ) (base k : ℕ) → k ≤ 0 → (c : Re
 unfolding read_ops
 ops_none S d base k h c = let e : k ≡ 0 = omega arith in ap (λ (n : ℕ). read_ops S d base n c) e
 
-pub columns_more : (S : Shape) (d : List ℕ) (k base : ℕ) → 0 < k → (c : Reading) → read_columns S d k base c ≡ read_column S d base c >>= read_columns S d (k - 1) (base + S.item)
+pub columns_more : (S : Shape) (d : List ℕ) (n k base : ℕ) → k < n → (c : Reading)
+    → read_columns S d (n - k) (base + k * S.item) c ≡ read_column S d (base + k * S.item) c >>= read_columns S d (n - (k + 1)) (base + (k + 1) * S.item)
 unfolding read_columns
-columns_more S d k base h c = let e : k ≡ suc (k - 1) = omega arith in ap (λ (n : ℕ). read_columns S d n base c) e
+columns_more S d n k base h c =
+    let e : n - k ≡ suc (n - (k + 1)) = omega arith in
+    let b : base + (k + 1) * S.item ≡ base + k * S.item + S.item = omega arith in
+    rw b (ap (λ (m : ℕ). read_columns S d m (base + k * S.item) c) e)
 
-pub columns_none : (S : Shape) (d : List ℕ) (k base : ℕ) → k ≤ 0 → (c : Reading) → read_columns S d k base c ≡ ok c
+pub columns_none : (S : Shape) (d : List ℕ) (n k base : ℕ) → n ≤ k → (c : Reading) → read_columns S d (n - k) base c ≡ ok c
 unfolding read_columns
-columns_none S d k base h c = let e : k ≡ 0 = omega arith in ap (λ (n : ℕ). read_columns S d n base c) e
+columns_none S d n k base h c = let e : n - k ≡ 0 = omega arith in ap (λ (m : ℕ). read_columns S d m base c) e
 
 pub planes_more : (S : Shape) (d : List ℕ) (m p : ℕ) → p < m → (c : Reading) → read_planes S d (m - p) p c ≡ read_plane S d p c >>= read_planes S d (m - (p + 1)) (p + 1)
 unfolding read_planes
@@ -204,10 +169,6 @@ unfolding read_planes
 planes_none S d m p h c = let e : m - p ≡ 0 = omega arith in ap (λ (n : ℕ). read_planes S d n p c) e
 
 -- the whole delta
-pub picture_short : (S : Shape) (d : List ℕ) (c : Reading) → length d < S.pointers → read_picture S d c ≡ fault 41
-unfolding read_picture
-picture_short S d c h = simp (lt-leb _ _ h)
-
 pub picture_planes : (S : Shape) (d : List ℕ) (c : Reading) → S.pointers ≤ length d → read_picture S d c ≡ read_planes S d (S.planes - 0) 0 c
 unfolding read_picture
 picture_planes S d c h = let e : S.planes ≡ S.planes - 0 = omega arith in simp (le-leb _ _ h) (ap (λ (n : ℕ). read_planes S d n 0 c) e)

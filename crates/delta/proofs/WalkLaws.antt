@@ -6,16 +6,15 @@ use mathlib.Core.Path.{◌≡◌, refl, ◌∙◌}
 use mathlib.Core.List.{List, [], ◌++◌, append-nil, append_assoc}
 use lib.ListN.{length, length-append}
 use Rattle.laws.specs.Result.{Res, Res.ok, Res.fault, ◌>>=◌, pick}
-use Rattle.laws.proofs.ResultLaws.{never, pick_both}
+use Rattle.laws.proofs.ResultLaws.{pick_both}
 use Rattle.refusal.specs.declared.Refusal.{Refusal}
-use Rattle.refusal.specs.Number.{number_of}
 use Rattle.delta.specs.declared.Shape.{Shape}
 use Rattle.delta.specs.declared.Cursor.{Cursor}
-use Rattle.delta.specs.declared.Step.{Step}
-use Rattle.delta.specs.declared.Step.TheVariants.{Next, Refused as StepRefused}
+use Rattle.std.specs.Prelude.{Result, Ok, Err}
+use Rattle.std.specs.Result.{IsErrAnd}
 use Rattle.delta.specs.Reading.{Op, Reading}
 use Rattle.delta.specs.Delta.{draw}
-use Rattle.delta.specs.Walk.{reading, Walked, Refused, Took, Took.took, Took.refused}
+use Rattle.delta.specs.Walk.{reading, Walked, Refused, Took}
 use Rattle.delta.proofs.DeltaLaws.{draw_append}
 
 pub pick_same : (t : Bool) (f : List ℕ) → f ≡ pick t f f
@@ -82,27 +81,8 @@ module _ {S : Shape} {d : List ℕ} {drawing : Bool} {f : List ℕ} {whole : Rea
       → Walked f S d whole c₀ drawing ok g m' c
   walked_all {c = c} w e b = record { new = w.new; same = λ ops. w.same ops ∙ e (ops ++ w.new); drawn = w.drawn; counted = w.counted; few = omega (arith, w.few); line = w.line; item = w.item }
 
-  -- what an answer says, by its case
-  pub took_next : {g : List ℕ} {m : ℕ} {r : Step} {c : Cursor} → Took f S d whole c₀ drawing g m r → r ≡ Next c → Walked f S d whole c₀ drawing ok g m c
-  took_next {c = c} (took {c = b} w) e = let z : b ≡ c = cc in rw (← z) w
-  took_next (refused w) e = never (cc)
-
-  pub took_faulty : {g : List ℕ} {m : ℕ} {r : Step} {why : Refusal} → Took f S d whole c₀ drawing g m r → r ≡ StepRefused why → Refused f whole c₀ drawing g (number_of why)
-  took_faulty (took w) e = never (cc)
-  took_faulty {why = why} (refused {why = b} w) e = let z : b ≡ why = cc in rw (← z) w
-
-  pub next_here : {g : List ℕ} {m : ℕ} {c : Cursor} → Walked f S d whole c₀ drawing ok g m c → Took f S d whole c₀ drawing g m (Next c)
-  next_here {c = c} w = took {c = c} w
-
-  pub faulty_here : {g : List ℕ} {m : ℕ} (why : Refusal) → Refused f whole c₀ drawing g (number_of why) → Took f S d whole c₀ drawing g m (StepRefused why)
-  faulty_here why w = refused {why = why} w
-
-  -- a refusal before anything is drawn
-  pub refused_here : {m : ℕ} (why : Refusal) → ((ops : List Op) → whole (reading c₀ ops) ≡ fault (number_of why)) → Took f S d whole c₀ drawing f m (StepRefused why)
-  refused_here why e = refused (record { same = e; kept = λ _. refl })
-
 -- the same step by another name of its definition
-pub took_as : {S : Shape} {d : List ℕ} {drawing : Bool} {f : List ℕ} {whole whole' : Reading → Res Reading} {c₀ c₁ : Cursor} {g : List ℕ} {m m' : ℕ} {r : Step} → Took f S d whole' c₁ drawing g m' r
+pub took_as : (S : Shape) (d : List ℕ) (drawing : Bool) (f : List ℕ) (whole whole' : Reading → Res Reading) (c₀ c₁ : Cursor) (g : List ℕ) (m m' : ℕ) (r : Result Cursor Refusal) → Took f S d whole' c₁ drawing g m' r
     → ((ops : List Op) → whole (reading c₀ ops) ≡ whole' (reading c₁ ops)) → c₁.ops ≡ c₀.ops → m' ≤ m → Took f S d whole c₀ drawing g m r
-took_as (took {c = c} w) e o b = took {c = c} (record { new = w.new; same = λ ops. e ops ∙ w.same ops; drawn = w.drawn; counted = omega (arith, w.counted, o); few = omega (arith, w.few); line = w.line; item = w.item })
-took_as (refused {why = why} w) e o b = refused {why = why} (record { same = λ ops. e ops ∙ w.same ops; kept = w.kept })
+took_as S d drawing f whole whole' c₀ c₁ g m m' (Ok c) w e o b = record { new = w.new; same = λ ops. e ops ∙ w.same ops; drawn = w.drawn; counted = omega (arith, w.counted, o); few = omega (arith, w.few); line = w.line; item = w.item }
+took_as S d drawing f whole whole' c₀ c₁ g m m' (Err why) w e o b = record { same = λ ops. e ops ∙ w.same ops; kept = w.kept }

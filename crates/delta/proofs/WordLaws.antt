@@ -2,11 +2,11 @@
 use Prim.Native.Nat.{ℕ, ◌+◌, ◌-◌, ◌*◌, ◌<◌, ◌≤◌}
 use native.Mathlib.Omega.{arith}
 use mathlib.Core.List.{List, []}
-use mathlib.Core.Bool.{Bool, true}
+use mathlib.Core.Bool.{Bool}
 use mathlib.Core.Path.{◌≡◌, refl, sym, ◌∙◌}
 use lib.Dec.{leb, ltb, eqb}
 use lib.ListN.{length}
-use borrow.Author.Tests.{lt-ltb, le-ltb, le-leb, lt-leb, eq-eqb, ne_eqb, leb-true}
+use borrow.Author.Tests.{le-leb, lt-leb, eq-eqb, ne_eqb, leb-true}
 use Rattle.laws.specs.Result.{Res, Res.ok, Res.fault, ◌>>=◌, pick}
 use Rattle.laws.proofs.ResultLaws.{Each, Each.each, each_is, each_any, each_need, each_pick}
 use Rattle.laws.specs.Loop.{Step.next, Step.done}
@@ -14,12 +14,9 @@ use Rattle.laws.proofs.LoopLaws.{starts, stops, Comes, Comes.comes_next, Comes.c
 use Rattle.laws.specs.Bytes.{be16}
 use Rattle.delta.specs.declared.Shape.{Shape}
 use Rattle.delta.specs.declared.Cursor.{Cursor}
-use Rattle.delta.specs.declared.Step.{Step}
-use Rattle.delta.specs.declared.Taken.{Taken}
-use Rattle.delta.specs.Reading.{Op, Reading, pair_at}
+use Rattle.delta.specs.Reading.{Reading, pair_at}
 use Rattle.delta.specs.Words.{word_run, move_of, word_op, past_op, offset_on, word_step, read_words}
-use Rattle.delta.specs.Walk.{reading, RowsRead, OpRead, Drawn, Walked, Took}
-use Rattle.delta.proofs.FillLaws.{items_inside, uniq_inside, op_walked}
+use Rattle.delta.specs.Walk.{reading, Walked}
 
 -- an op goes on in the list
 record Onward (d : List ℕ) (c next : Reading) : Type 0 where
@@ -39,14 +36,9 @@ op_onward S d base c x =
     each_pick (ltb x 32768) (λ _. run_onward S d base c (c.line + move_of x) (c.op_at + 2) 1 (omega arith))
     (λ _. each_any (pair_at d (c.op_at + 2)) λ n. run_onward S d base c (c.line + move_of x) (c.op_at + 4) n (omega arith))
 
--- an op that was read, drawn if drawing is set, and where it has come to
-module _ {S : Shape} {d : List ℕ} (words : S.words ≡ true) (base x : ℕ) (c : Cursor) where
-  pub word_walked : (drawing : Bool) (f : List ℕ) {g : List ℕ} (t : Taken) {r : Step} → OpRead S d 0 (λ base y. word_op S d base y x) c t → Drawn f S d base t drawing g r
-      → Took f S d (λ y. word_op S d base y x) c drawing g 0 r
-  word_walked drawing f t w e = op_walked S d 0 (λ base y. word_op S d base y x) c (rw words) drawing f base t w e
-
-  pub word_further : {drawing : Bool} {f g : List ℕ} {next : Cursor} → Walked f S d (λ y. word_op S d base y x) c drawing ok g 0 next → (c.op < next.op) × (next.op ≤ length d)
-  word_further w = let o = each_is (w.same []) (op_onward S d base (reading c []) x) in (o.onward, o.inside)
+-- where an op that was read has come to
+pub word_further : (S : Shape) (d : List ℕ) (base x : ℕ) (c : Cursor) {drawing : Bool} {f g : List ℕ} {next : Cursor} → Walked f S d (λ y. word_op S d base y x) c drawing ok g 0 next → (c.op < next.op) × (next.op ≤ length d)
+word_further S d base x c w = let o = each_is (w.same []) (op_onward S d base (reading c []) x) in (o.onward, o.inside)
 
 -- a list of words is its first op and the rest
 module _ (S : Shape) (d : List ℕ) (base : ℕ) where
@@ -88,46 +80,3 @@ module _ (S : Shape) (d : List ℕ) (base : ℕ) where
           go : (r : Res Reading) → word_step S d base c ≡ past_op r → read_words S d base c ≡ r >>= read_words S d base
           go (ok y) p = words_next c y p
           go (fault n) p = words_done c (fault n) p
-
--- n words in a row
-module _ (S : Shape) (d : List ℕ) (c : Cursor) (line from n : ℕ) where
-  pub run_past : S.height < line + n → (base : ℕ) (ops : List Op) → word_run S d base (reading c ops) line from n ≡ fault 45
-  unfolding word_run
-  run_past l base ops = simp (lt-leb _ _ l)
-
-  module _ (l : line + n ≤ S.height) where
-    pub run_short : length d < from + n * S.item → (base : ℕ) (ops : List Op) → word_run S d base (reading c ops) line from n ≡ fault 42
-    unfolding word_run
-    run_short k base ops = simp (le-leb _ _ l, lt-leb _ _ k)
-
-    pub run_read : line < S.height → from + n * S.item ≤ length d → c.item ≤ length d → {next : Cursor} → next ≡ record { op = from + n * S.item; item = c.item; line = line + (n - 1); ops = c.ops }
-        → RowsRead S d 0 (λ base x. word_run S d base x line from n) c line from S.item n next
-    unfolding word_run
-    run_read b k i e =
-        rw e
-        (record {
-          same = λ base ops. simp (le-leb _ _ l, le-leb _ _ k);
-          rows = l;
-          items = items_inside (uniq_inside S.item n) (length d) from k;
-          moved = record { counted = omega arith; line = omega arith; item = i };
-        })
-
--- an op, by its offset
-module _ (S : Shape) (d : List ℕ) (base : ℕ) (c : Reading) (x : ℕ) {line : ℕ} (e : line ≡ c.line + move_of x) where
-  pub word_far : S.height ≤ line → word_op S d base c x ≡ fault 45
-  unfolding word_op
-  word_far h = rw (← e, le-ltb _ _ h) refl
-
-  module _ (h : line < S.height) where
-    pub word_one : x < 32768 → word_op S d base c x ≡ word_run S d base c line (c.op_at + 2) 1
-    unfolding word_op
-    word_one u = rw (← e, lt-ltb _ _ h, lt-ltb _ _ u) refl
-
-    module _ (u : 32768 ≤ x) where
-      pub word_uncounted : length d < c.op_at + 4 → word_op S d base c x ≡ fault 42
-      unfolding word_op pair_at
-      word_uncounted k = let t : length d < c.op_at + 2 + 2 = omega arith in rw (← e, lt-ltb _ _ h, le-ltb _ _ u, lt-leb _ _ t) refl
-
-      pub word_counted : c.op_at + 4 ≤ length d → {n : ℕ} → n ≡ be16 d (c.op_at + 2) → word_op S d base c x ≡ word_run S d base c line (c.op_at + 4) n
-      unfolding word_op pair_at
-      word_counted k q = let t : c.op_at + 2 + 2 ≤ length d = omega arith in rw (← e, lt-ltb _ _ h, le-ltb _ _ u, le-leb _ _ t, ← q) refl

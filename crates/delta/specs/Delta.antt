@@ -2,9 +2,8 @@
 -- paper's order, and what that makes of a frame.
 use Rattle.std.specs.Prelude.{ℕ, zero, suc, ◌+◌, ◌*◌, List, [], ◌∷◌, ◌≡◌, leb, eqb, length, take, drop}
 use Rattle.std.proofs.lemmas.List.Edits.{sets}
-use Rattle.laws.specs.Result.{Res, Res.ok, Res.fault, ◌>>=◌, need, pick, or_keep}
+use Rattle.laws.specs.Result.{Res, Res.ok, ◌>>=◌, need, pick, or_keep}
 use Rattle.laws.specs.Bytes.{be32}
-use Rattle.refusal.specs.Number.{number_of}
 use Rattle.state.specs.State.{row_bytes, frame_length}
 use Rattle.state.specs.declared.Sizes.{Sizes}
 use Rattle.anhd.specs.declared.Items.{Items}
@@ -13,8 +12,6 @@ use Rattle.delta.specs.Reading.{shape_of, columns_in, Op, ops_in, Reading}
 use Rattle.delta.specs.Column.{read_columns}
 use Rattle.delta.specs.Words.{read_words}
 use Rattle.delta.specs.declared.Shape.{Shape}
-use Rattle.delta.specs.declared.Applied.{Applied}
-use Rattle.delta.specs.declared.Applied.TheVariants.{Drawn, Refused}
 
 -- pointer i, which must lead to a place from the end of the pointers' own bytes to the DLTA's length
 unfoldable pub list_pointer : List ℕ → ℕ → ℕ → Res ℕ
@@ -79,11 +76,6 @@ new_frame n f d z i = read_frame n (length f) d z i >>= λ ops. ok (draw (shape_
 -- the number of its ops, as `ops_in` counts them
 unfoldable pub op_count : ℕ → List ℕ → List ℕ → Sizes → Items → Res ℕ
 op_count n f d z i = read_frame n (length f) d z i >>= λ ops. ok (ops_in (shape_of z i) ops)
-
--- what an answer says in the paper's terms
-abbrev pub applied_of : Applied → Res ℕ
-applied_of (Drawn n) = ok n
-applied_of (Refused why) = fault (number_of why)
 
 -- what a call answers, and what it leaves in the work buffer w: the frame, or what was there before if it is refused
 pub record Applies (w f d : List ℕ) (z : Sizes) (i : Items) (answer : Res ℕ) (g : List ℕ) : Type 0 where

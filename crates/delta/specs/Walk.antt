@@ -1,9 +1,8 @@
 -- What the steps of a walk through a delta answer and leave in the frame. A walk that only checks draws nothing.
-use Rattle.std.specs.Prelude.{ℕ, ◌+◌, ◌*◌, ◌<◌, ◌≤◌, Bool, true, false, ◌≡◌, List, [], ◌∷◌, ◌++◌, length}
+use Rattle.std.specs.Prelude.{ℕ, ◌+◌, ◌*◌, ◌<◌, ◌≤◌, Bool, true, false, ◌≡◌, List, [], ◌∷◌, ◌++◌, length, Result, Ok, Err}
 use Rattle.laws.specs.Result.{Res, Res.ok, Res.fault, pick}
 use Rattle.refusal.specs.Number.{number_of}
 use Rattle.refusal.specs.declared.Refusal.{Refusal}
-use Rattle.refusal.specs.declared.Refusal.TheVariants.{OpPastLastRow}
 use Rattle.state.specs.declared.Sizes.{Sizes}
 use Rattle.anhd.specs.declared.Items.{Items}
 use Rattle.delta.specs.Reading.{shape_of, Op, ops_in, Reading}
@@ -11,17 +10,8 @@ use Rattle.delta.specs.Column.{no_rows}
 use Rattle.delta.specs.Delta.{read_delta, put, draw, read_frame}
 use Rattle.delta.specs.declared.Shape.{Shape}
 use Rattle.delta.specs.declared.Cursor.{Cursor}
-use Rattle.delta.specs.declared.Step.{Step}
-use Rattle.delta.specs.declared.Step.TheVariants.{Next, Refused as StepRefused}
 use Rattle.delta.specs.declared.Taken.{Taken}
-use Rattle.delta.specs.declared.Taken.TheVariants.{Rows, Passed, Refused as NotTaken}
-use Rattle.delta.specs.declared.Pointer.{Pointer}
-use Rattle.delta.specs.declared.Pointer.TheVariants.{At, Bad}
-
--- what an answer says in the paper's terms
-abbrev pub pointer_of : Pointer → Res ℕ
-pointer_of (At n) = ok n
-pointer_of Bad = fault 41
+use Rattle.delta.specs.declared.Taken.TheVariants.{Rows, Passed}
 
 -- an item or word has one, two or four bytes
 pub record Width (w : ℕ) : Type 0 where
@@ -83,11 +73,6 @@ pub record Fits (S : Shape) (c : Cursor) (p n size : ℕ) : Type 0 where
   pub place : pick S.inline p c.item + size ≤ 18446744073709551615
   pub ops : c.ops + 1 < 4294967296
 
--- what a Skip of n rows answers
-pub data Skipped (S : Shape) (c : Cursor) (n : ℕ) : Taken → Type 0 where
-  skipped : c.line + n ≤ S.height → Skipped S c n (Passed (record { op = c.op + 1; item = c.item; line = c.line + n; ops = c.ops + 1 }))
-  past_last : S.height < c.line + n → Skipped S c n (NotTaken OpPastLastRow)
-
 -- where the whole delta is read from
 abbrev pub top : Cursor
 top = record { op = 0; item = 0; line = 0; ops = 0 }
@@ -115,26 +100,24 @@ pub record PassRead (S : Shape) (d : List ℕ) (k : ℕ) (whole : ℕ → Readin
   pub moved : Moved S d k c next
 
 -- what reading an op, which counts as k, answers, where the definition's step is `whole`
-abbrev pub OpRead : Shape → List ℕ → ℕ → (ℕ → Reading → Res Reading) → Cursor → Taken → Type 0
-OpRead S d k whole c (Rows line from step n next) = RowsRead S d k whole c line from step n next
-OpRead S d k whole c (Passed next) = PassRead S d k whole c next
-OpRead S d k whole c (NotTaken why) = (base : ℕ) (ops : List Op) → whole base (reading c ops) ≡ fault (number_of why)
+abbrev pub OpRead : Shape → List ℕ → ℕ → (ℕ → Reading → Res Reading) → Cursor → Result Taken Refusal → Type 0
+OpRead S d k whole c (Ok (Rows line from step n next)) = RowsRead S d k whole c line from step n next
+OpRead S d k whole c (Ok (Passed next)) = PassRead S d k whole c next
+OpRead S d k whole c (Err why) = (base : ℕ) (ops : List Op) → whole base (reading c ops) ≡ fault (number_of why)
 
 -- the rows of an op that was read lie in its column, and its items in the delta
 abbrev pub Lies : Shape → List ℕ → Taken → Type 0
 Lies S d (Rows line from step n next) = (line + n ≤ S.height) × ItemsIn (length d) from step S.item n
 Lies S d (Passed next) = Unit {0}
-Lies S d (NotTaken why) = Unit {0}
 
 -- the frame f, with n rows from a place on drawn into it if drawing is set
 abbrev pub drawn_rows : List ℕ → ℕ → List ℕ → ℕ → ℕ → ℕ → Shape → Bool → List ℕ
 drawn_rows f place d from step n S drawing = pick drawing (put S.item S.row step d n from place f) f
 
 -- what drawing an op in the column that starts at base answers, and leaves in the frame
-abbrev pub Drawn : List ℕ → Shape → List ℕ → ℕ → Taken → Bool → List ℕ → Step → Type 0
-Drawn f S d base (Rows line from step n next) drawing g r = (r ≡ Next next) × (g ≡ drawn_rows f (base + line * S.row) d from step n S drawing)
-Drawn f S d base (Passed next) drawing g r = (r ≡ Next next) × (g ≡ f)
-Drawn f S d base (NotTaken why) drawing g r = (r ≡ StepRefused why) × (g ≡ f)
+abbrev pub Drawn : List ℕ → Shape → List ℕ → ℕ → Taken → Bool → List ℕ → Cursor → Type 0
+Drawn f S d base (Rows line from step n next) drawing g r = (r ≡ next) × (g ≡ drawn_rows f (base + line * S.row) d from step n S drawing)
+Drawn f S d base (Passed next) drawing g r = (r ≡ next) × (g ≡ f)
 
 -- reading by `whole` from the cursor c₀ on has come to c, and `rest` is left; the frame f has become g
 pub record Walked (f : List ℕ) (S : Shape) (d : List ℕ) (whole : Reading → Res Reading) (c₀ : Cursor) (drawing : Bool) (rest : Reading → Res Reading) (g : List ℕ) (most : ℕ) (c : Cursor) : Type 0 where
@@ -152,9 +135,9 @@ pub record Refused (f : List ℕ) (whole : Reading → Res Reading) (c₀ : Curs
   pub kept : drawing ≡ false → g ≡ f
 
 -- what a step answers and leaves in the frame, where the definition's step is `whole`
-pub data Took (f : List ℕ) (S : Shape) (d : List ℕ) (whole : Reading → Res Reading) (c₀ : Cursor) (drawing : Bool) (g : List ℕ) (most : ℕ) : Step → Type 0 where
-  took : {c : Cursor} → Walked f S d whole c₀ drawing ok g most c → Took f S d whole c₀ drawing g most (Next c)
-  refused : {why : Refusal} → Refused f whole c₀ drawing g (number_of why) → Took f S d whole c₀ drawing g most (StepRefused why)
+abbrev pub Took : List ℕ → Shape → List ℕ → (Reading → Res Reading) → Cursor → Bool → List ℕ → ℕ → Result Cursor Refusal → Type 0
+Took f S d whole c₀ drawing g most (Ok c) = Walked f S d whole c₀ drawing ok g most c
+Took f S d whole c₀ drawing g most (Err why) = Refused f whole c₀ drawing g (number_of why)
 
 -- a delta that passes the check for a picture of m bytes: its ops, and that the work buffer w, which has become g, is fit for them
 pub record Passes (w : List ℕ) (m : ℕ) (d : List ℕ) (z : Sizes) (i : Items) (g : List ℕ) (c : Cursor) : Type 0 where
@@ -167,6 +150,6 @@ pub record Passes (w : List ℕ) (m : ℕ) (d : List ℕ) (z : Sizes) (i : Items
   pub kept : g ≡ w
 
 -- what the check of a whole delta answers and leaves in the work buffer
-pub data Checked (w : List ℕ) (m : ℕ) (d : List ℕ) (z : Sizes) (i : Items) (g : List ℕ) : Step → Type 0 where
-  passes : {c : Cursor} → Passes w m d z i g c → Checked w m d z i g (Next c)
-  stops : {why : Refusal} → read_frame (length w) m d z i ≡ fault (number_of why) → g ≡ w → Checked w m d z i g (StepRefused why)
+abbrev pub Checked : List ℕ → ℕ → List ℕ → Sizes → Items → List ℕ → Result Cursor Refusal → Type 0
+Checked w m d z i g (Ok c) = Passes w m d z i g c
+Checked w m d z i g (Err why) = (read_frame (length w) m d z i ≡ fault (number_of why)) × (g ≡ w)

@@ -1,21 +1,19 @@
 // A frame: its header ANHD, and its delta.
 use crate::line::{front, part};
 use crate::show;
-use anhd::{Anhd, Items};
+use anhd::Items;
 use buffer::{byte, number16};
-use delta::Applied;
+use refusal::Refusal;
 use state::Sizes;
 
 // B and the contents of an ANHD: the method, the time, the interleave, and the bytes of an item, 16 more for a word.
 fn header(d: &[u8], first: bool) {
-    let h = anhd::frame_header(first, byte(d, 0), part(d, 1, d.len()));
-    match h {
-        Anhd::Header(header) => {
-            let items = header.items;
+    match anhd::frame_header(first, byte(d, 0), part(d, 1, d.len())) {
+        Ok(header) => {
             show::number(header.method);
             show::number(header.time);
             show::number(header.interleave);
-            match items {
+            match header.items {
                 Items::Bytes => show::number(1),
                 Items::Shorts => show::number(2),
                 Items::Longs => show::number(4),
@@ -23,7 +21,7 @@ fn header(d: &[u8], first: bool) {
                 Items::LongWords => show::number(20),
             }
         }
-        Anhd::Refused(why) => show::refused(why),
+        Err(why) => show::refused(why),
     }
 }
 
@@ -49,11 +47,8 @@ fn items_of(width: usize) -> Items {
 }
 
 // The number of ops, or the refusal, and the work buffer.
-fn applied(a: Applied, work: &[u8]) {
-    match a {
-        Applied::Drawn { ops } => show::number(ops),
-        Applied::Refused(why) => show::refused(why),
-    }
+fn applied(a: Result<usize, Refusal>, work: &[u8]) {
+    show::number_or_refusal(a);
     show::bytes(work);
 }
 

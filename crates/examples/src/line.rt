@@ -5,25 +5,17 @@ ghost use Rattle.std.specs.Prelude.{◌<◌, ◌≤◌, length};
 pub(crate) fn after(s: &[u8], from: usize, value: u8) -> usize
     ensures { from < length s.now → from < result }
 {
-    let mut i = from;
-    while i < s.len() {
+    for i in from..s.len() {
         if s[i] == value {
             return i + 1;
         }
-        i += 1;
     }
-    i
+    s.len()
 }
 
 // The bytes from a place to another; none where they don't lie there.
 pub(crate) fn part(s: &[u8], from: usize, to: usize) -> &[u8] {
-    if to < from {
-        return &s[0..0];
-    }
-    if s.len() < to {
-        return &s[0..0];
-    }
-    &s[from..to]
+    s.get(from..to).unwrap_or(&[])
 }
 
 // The first n bytes, or all where there are fewer.
@@ -63,10 +55,8 @@ fn put(out: &mut [u8], at: usize, high: u8, low: u8) -> usize {
 // Puts the bytes in a text to the front of out, and answers how many there are. Each is two digits, with other bytes around them.
 pub(crate) fn decode(text: &[u8], out: &mut [u8]) -> usize {
     let mut n = 0;
-    let mut i = 0;
-    while 1 < text.len() - i {
-        n = put(out, n, digit(text[i]), digit(text[i + 1]));
-        i += 1;
+    for pair in text.windows(2) {
+        n = put(out, n, digit(pair[0]), digit(pair[1]));
     }
     n
 }

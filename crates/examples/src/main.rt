@@ -12,6 +12,7 @@ mod show;
 use buffer::{byte, fill};
 use line::{after, part};
 
+// Kept: a match and no table, since some of these functions are handed out as well, and others are not.
 // Calls the function that a word begins to name, with the bytes that follow it; out is for what it writes.
 fn call(first: u8, d: &[u8], out: &mut [u8]) {
     match first {
@@ -49,6 +50,7 @@ fn run(text: &[u8], name: usize, d: &mut [u8], out: &mut [u8]) {
 // Runs the examples of a text.
 fn run_all(text: &[u8], d: &mut [u8], out: &mut [u8]) {
     let mut at = 0;
+    // Kept: each turn goes on by the length of its line, so that no range says how often this loop turns.
     while at < text.len() {
         let end = after(text, at, b'\n');
         let example = part(text, at, end);

@@ -1,12 +1,8 @@
 // The first picture, and a row of the shown one.
 use crate::line::{front, part};
 use crate::show;
-use bmhd::Bmhd;
-use body::Unpacked;
 use buffer::{byte, number16};
-use opening::Opening;
-use shown::Place;
-use state::{Length, Sizes, State};
+use state::{Sizes, State};
 
 // A width and a height of two bytes each, and the planes: the length of a frame.
 pub(crate) fn length(d: &[u8]) {
@@ -15,18 +11,13 @@ pub(crate) fn length(d: &[u8]) {
         height: number16(d, 2),
         planes: byte(d, 4),
     };
-    let l = sizes.frame_length();
-    match l {
-        Length::Bytes(n) => show::number(n),
-        Length::Refused(why) => show::refused(why),
-    }
+    show::number_or_refusal(sizes.frame_length());
 }
 
 // The contents of a BMHD: width, height, planes, the length of a frame, and whether BODY is packed.
 pub(crate) fn bmhd(d: &[u8]) {
-    let h = bmhd::bitmap_header(d);
-    match h {
-        Bmhd::Picture(header) => {
+    match bmhd::bitmap_header(d) {
+        Ok(header) => {
             let sizes = header.sizes;
             show::number(sizes.width);
             show::number(sizes.height);
@@ -34,7 +25,7 @@ pub(crate) fn bmhd(d: &[u8]) {
             show::number(header.length);
             show::number(header.packed as usize);
         }
-        Bmhd::Refused(why) => show::refused(why),
+        Err(why) => show::refused(why),
     }
 }
 
@@ -46,10 +37,8 @@ pub(crate) fn unpack(d: &[u8], out: &mut [u8]) {
         planes: byte(d, 0) / 4,
     };
     let frame = front(out, byte(d, 0));
-    let u = body::unpack(frame, part(d, 2, d.len()), sizes, byte(d, 1) == 1);
-    match u {
-        Unpacked::Done => (),
-        Unpacked::Refused(why) => show::refused(why),
+    if let Err(why) = body::unpack(frame, part(d, 2, d.len()), sizes, byte(d, 1) == 1) {
+        show::refused(why);
     }
     show::bytes(frame);
 }
@@ -61,11 +50,9 @@ pub(crate) fn open(d: &[u8]) {
     let mut b = [7u8; 4];
     let mut map = [7u8; 768];
     let r = opening::open(d, &mut a, &mut b, &mut map);
-    let answer = r.answer;
-    let state = r.state;
-    match answer {
-        Opening::Opened => show::number(state.next),
-        Opening::Refused(why) => show::refused(why),
+    match r.answer {
+        Ok(()) => show::number(r.state.next),
+        Err(why) => show::refused(why),
     }
     show::bytes(&a);
     show::bytes(&b);
@@ -87,10 +74,6 @@ pub(crate) fn row(d: &[u8]) {
     };
     let a = part(d, 3, 11);
     let b = part(d, 11, 19);
-    let p = shown::row_place(state, a, b, byte(d, 1), byte(d, 2));
-    match p {
-        Place::At(at) => show::number(at),
-        Place::Refused(why) => show::refused(why),
-    }
+    show::number_or_refusal(shown::row_place(state, a, b, byte(d, 1), byte(d, 2)));
     show::bytes(shown::row(state, a, b, byte(d, 1), byte(d, 2)));
 }

@@ -4,19 +4,15 @@ use crate::show;
 use buffer::{byte, number32};
 use copies::copy;
 use lines::Line;
-use number::Parsed;
-use record::Recorded;
-use restore::Restored;
 
 // A number of a record: its value, and the place after it.
 pub(crate) fn value(d: &[u8]) {
-    let p = number::read(d, 0);
-    match p {
-        Parsed::Number { value, next } => {
-            show::number(value);
-            show::number(next);
+    match number::read(d, 0) {
+        Some(number) => {
+            show::number(number.value);
+            show::number(number.next);
         }
-        Parsed::Malformed => show::none(),
+        None => show::none(),
     }
 }
 
@@ -29,11 +25,11 @@ pub(crate) fn commit(d: &[u8], out: &mut [u8]) {
     let new = part(d, 1, 5);
     let r = record::commit(room, 2, 64, &mut hidden, new, &mut map, part(d, 5, d.len()));
     match r {
-        Recorded::Written { length, changed } => {
-            show::number(length);
-            show::number(changed);
+        Ok(recorded) => {
+            show::number(recorded.length);
+            show::number(recorded.changed);
         }
-        Recorded::Refused(why) => show::refused(why),
+        Err(why) => show::refused(why),
     }
     show::bytes(room);
     show::colours(&map);
@@ -46,11 +42,7 @@ pub(crate) fn put_back(d: &[u8], out: &mut [u8]) {
     let shown = front(out, 4);
     copy(shown, part(d, 2, 6));
     let bytes = part(d, 6, d.len());
-    let r = restore::restore(bytes, shown, &mut map, byte(d, 0), byte(d, 1));
-    match r {
-        Restored::Back(place) => show::number(place),
-        Restored::Refused(why) => show::refused(why),
-    }
+    show::number_or_refusal(restore::restore(bytes, shown, &mut map, byte(d, 0), byte(d, 1)));
     show::bytes(shown);
     show::colours(&map);
 }

@@ -1,6 +1,5 @@
 // What comes out: numbers, bytes in hexadecimal, nothing, or a refusal.
 use crate::line::part;
-use buffer::byte;
 use refusal::Refusal;
 
 pub(crate) fn number(n: usize) {
@@ -17,12 +16,17 @@ pub(crate) fn refused(why: Refusal) {
     io::print_decimal(1, why.number());
 }
 
+pub(crate) fn number_or_refusal(r: Result<usize, Refusal>) {
+    match r {
+        Ok(n) => number(n),
+        Err(why) => refused(why),
+    }
+}
+
 pub(crate) fn bytes(s: &[u8]) {
-    let mut i = 0;
-    while i < s.len() {
+    for &b in s {
         io::write_all(1, b" ");
-        io::print_hex(1, byte(s, i) as u64, 2);
-        i += 1;
+        io::print_hex(1, u64::from(b), 2);
     }
 }
 

@@ -1,17 +1,15 @@
 -- FORM ANIM and the frames in it (document 01, "Chunks"): FORM ANIM starts at place 0 and ends at its length + 8; frames
 -- are the FORM ILBM chunks directly in it, in order, and other chunks there are passed over.
-use Rattle.std.specs.Prelude.{ℕ, ◌+◌, ◌-◌, List, ◌&&◌, leb, eqb, length, take, drop}
+use Rattle.std.specs.Prelude.{ℕ, ◌+◌, ◌-◌, List, ◌&&◌, leb, eqb, length, take, drop, Result, Ok, Err, Some, None, Option as Maybe}
 use Rattle.std.proofs.Math.Option.{Option, none, some}
 use Rattle.laws.specs.Result.{Res, Res.ok, Res.fault, ◌>>=◌, need, pick}
 use Rattle.laws.specs.Loop.{Step, Step.next, Step.done, iterate}
 use Rattle.laws.specs.Bytes.{be32}
 use Rattle.refusal.specs.Number.{number_of}
+use Rattle.refusal.specs.declared.Refusal.{Refusal}
 use Rattle.iff.specs.Ids.{FORM, ANIM, ILBM}
 use Rattle.iff.specs.Chunk.{Chunk, chunk_at}
-use Rattle.form.specs.declared.Outer.{Outer}
-use Rattle.form.specs.declared.Outer.TheVariants.{Ends, Refused}
-use Rattle.form.specs.declared.Form.{Form}
-use Rattle.form.specs.declared.Form.TheVariants.{Ilbm, End, Refused as FormRefused}
+use Rattle.form.specs.declared.Ilbm.{Ilbm}
 
 -- the end place of FORM ANIM: 21 for fewer than 12 bytes, 22, and 21 for its length, in opening's order
 unfoldable pub anim_end : List ℕ → Res ℕ
@@ -54,12 +52,11 @@ form_step s at = pass_on s (chunk_at s at)
 unfoldable pub next_form : List ℕ → ℕ → Res (Option FormIlbm)
 next_form s from = iterate (form_step s) (λ at. length s - at) (fault 21) from
 
--- what the answers say in the paper's terms
-abbrev pub outer_of : Outer → Res ℕ
-outer_of (Ends at) = ok at
-outer_of (Refused why) = fault (number_of why)
+-- what an answer says in the paper's terms
+abbrev pub ilbm_of : Maybe Ilbm → Option FormIlbm
+ilbm_of (Some f) = some (record { start = f.start; size = f.len; next = f.next })
+ilbm_of None = none
 
-abbrev pub form_of : Form → Res (Option FormIlbm)
-form_of (Ilbm start len nx) = ok (some (record { start = start; size = len; next = nx }))
-form_of End = ok none
-form_of (FormRefused why) = fault (number_of why)
+abbrev pub form_of : Result (Maybe Ilbm) Refusal → Res (Option FormIlbm)
+form_of (Ok o) = ok (ilbm_of o)
+form_of (Err why) = fault (number_of why)

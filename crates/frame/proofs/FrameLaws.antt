@@ -1,4 +1,4 @@
--- Laws of later frames: their places rise, their columns are whole, their items are their method's, and their chunks are parts of FORM ANIM.
+-- Laws of later frames: their places rise, their columns are whole, their items are their method's, and their chunks are parts of it.
 use Prim.Native.Nat.{ℕ, ◌+◌, ◌<◌, ◌≤◌}
 use native.Mathlib.Omega.{arith}
 use mathlib.Core.Bool.{Bool, true, false}
@@ -13,7 +13,10 @@ use Rattle.laws.specs.Bytes.{be32, Bytes}
 use Rattle.laws.proofs.BytesLaws.{bytes_take, bytes_drop}
 use Rattle.laws.proofs.StoreLaws.{part_of_part, length_part}
 use Rattle.iff.specs.Ids.{CMAP, ANHD, DLTA}
-use Rattle.iff.specs.Chunk.{Part, find, bytes_of, found_in, contents}
+use Rattle.std.proofs.Common.{Some, None, Option as Maybe}
+use Rattle.std.specs.Prelude.{unwrap_or}
+use Rattle.iff.specs.declared.Part.{Part as FoundPart}
+use Rattle.iff.specs.Chunk.{Part, find, bytes_of, found_in, contents, place_of}
 use Rattle.iff.proofs.ChunkLaws.{Lies, find_lies}
 use Rattle.form.specs.Form.{FormIlbm, chunks_of}
 use Rattle.form.proofs.FormLaws.{Follows, form_follows}
@@ -21,13 +24,7 @@ use Rattle.anhd.specs.Anhd.{items_of, columns_ok, frame_header}
 use Rattle.anhd.proofs.AnhdLaws.{Read, header_read}
 use Rattle.anhd.specs.declared.FrameHeader.{FrameHeader}
 use Rattle.colours.specs.Colours.{good_length, colours}
-use Rattle.frame.specs.Frame.{Frame, frame_in, frame_or, frame_at, frame_with, or_empty}
-
--- the contents of a chunk of a FORM are a part of FORM ANIM
-part_in : (s : List ℕ) (x : FormIlbm) (d : Part) → Lies (chunks_of s x) d → take d.size (drop (x.start + d.start) s) ≡ bytes_of (chunks_of s x) d
-part_in s x d l =
-    rw (← drop-drop d.start x.start s)
-    (sym (part_of_part d.start d.size x.size (drop x.start s) (omega (arith, l.ends, length-take x.size (drop x.start s)))))
+use Rattle.frame.specs.Frame.{Frame, frame_in, frame_or, frame_at, or_empty}
 
 -- a frame that follows a place
 pub record Rises (s : List ℕ) (at : ℕ) (x : Frame) : Type 0 where
@@ -90,22 +87,25 @@ empty_lies id s e = rw e at (go (find_lies id s))
     go (each all_none) = record { ends = omega arith }
     go no_value = record { ends = omega arith }
 
--- the frame whose ANHD and DLTA were found
-pub in_with : (s : List ℕ) (B : ℕ) (x : FormIlbm) {h d c : Part} {q : Res (Option Frame)} → find (chunks_of s x) ANHD ≡ ok (some h) → find (chunks_of s x) DLTA ≡ ok (some d)
-    → or_empty (find (chunks_of s x) CMAP) ≡ c → q ≡ frame_with s (bytes_of (chunks_of s x) h) B x.next (x.start + d.start) d.size (x.start + c.start) c.size → q ≡ frame_or s B (some x)
+pub empty_of : (o : Maybe FoundPart) {r : Res (Option Part)} {p : FoundPart} → ok (place_of o) ≡ r → p ≡ unwrap_or o (record { start = 0; len = 0 }) → or_empty r ≡ record { start = p.start; size = p.len }
+empty_of (Some q) e u = rw (← e, u) refl
+empty_of None e u = rw (← e, u) refl
+
+abbrev made : ℕ → FrameHeader → List ℕ → List ℕ → Frame
+made next y dlta cmap = record { next = next; header = y; dlta = dlta; cmap = cmap }
+
+-- the frame whose ANHD and DLTA were found, where y is its header and t says whether its CMAP's length is good
+pub in_with : (s : List ℕ) (B : ℕ) (x : FormIlbm) {h d c : Part} {y : FrameHeader} {t : Bool} → find (chunks_of s x) ANHD ≡ ok (some h) → find (chunks_of s x) DLTA ≡ ok (some d)
+    → or_empty (find (chunks_of s x) CMAP) ≡ c → ok y ≡ frame_header false B (bytes_of (chunks_of s x) h) → t ≡ good_length c.size
+    → (need t 37 >>= λ _. ok (made x.next y (bytes_of (chunks_of s x) d) (bytes_of (chunks_of s x) c))) ≡ frame_in s B x
 unfolding frame_in contents colours
-in_with s B x {h} {d} {c} e f g k =
+in_with s B x {h} {d} {c} {y} {t} e f g k b =
     let chunks = chunks_of s x in
     let l = empty_lies CMAP chunks g in
     let m : found_in chunks (find chunks CMAP) ≡ bytes_of chunks c = empty_is chunks (find chunks CMAP) ∙ ap (bytes_of chunks) g in
-    k ∙ rw (e, f, m)
-    (rw (part_in s x d (each_some f (find_lies DLTA chunks)), part_in s x c l, length_part chunks c.start c.size l.ends)
-    (go (frame_header false B (bytes_of chunks h)) (good_length c.size) (bytes_of chunks c)))
+    rw (e, f, m, ← k, length_part chunks c.start c.size l.ends, ← b)
+    (go t (bytes_of chunks c))
   where
-    made : FrameHeader → List ℕ → Frame
-    made y cmap = record { next = x.next; header = y; dlta = bytes_of (chunks_of s x) d; cmap = cmap }
-
-    go : (r : Res FrameHeader) (t : Bool) (cmap : List ℕ) → (r >>= λ y. need t 37 >>= λ _. ok (some (made y cmap))) ≡ ((r >>= λ y. (need t 37 >>= λ _. ok cmap) >>= λ z. ok (made y z)) >>= λ f. ok (some f))
-    go (ok y) true cmap = refl
-    go (ok y) false cmap = refl
-    go (fault n) t cmap = refl
+    go : (t : Bool) (cmap : List ℕ) → (need t 37 >>= λ _. ok (made x.next y (bytes_of (chunks_of s x) d) cmap)) ≡ ((need t 37 >>= λ _. ok cmap) >>= λ z. ok (made x.next y (bytes_of (chunks_of s x) d) z))
+    go true cmap = refl
+    go false cmap = refl

@@ -1,17 +1,17 @@
 -- A later frame (document 01, "Chunks" and "Refusal numbers", and document 02, E6): the next FORM ILBM from a place of FORM ANIM on, 21 as
 -- chunks are walked, the frame walked whole, then 31 to 37 in table order.
-use Rattle.std.specs.Prelude.{ℕ, false, List, take, drop}
+use Rattle.std.specs.Prelude.{ℕ, false, List, Result, Ok, Err, Some, None, Option as Maybe}
 use Rattle.std.proofs.Math.Option.{Option, none, some}
-use Rattle.laws.specs.Result.{Res, Res.ok, Res.fault, ◌>>=◌, need, or_refuse}
+use Rattle.laws.specs.Result.{Res, Res.ok, Res.fault, ◌>>=◌, or_refuse}
 use Rattle.refusal.specs.Number.{number_of}
+use Rattle.refusal.specs.declared.Refusal.{Refusal}
 use Rattle.iff.specs.Ids.{CMAP, ANHD, DLTA}
 use Rattle.iff.specs.Chunk.{Part, find, bytes_of, contents}
 use Rattle.form.specs.Form.{FormIlbm, chunks_of, next_form}
 use Rattle.anhd.specs.Anhd.{frame_header}
 use Rattle.anhd.specs.declared.FrameHeader.{FrameHeader}
-use Rattle.colours.specs.Colours.{good_length, colours}
+use Rattle.colours.specs.Colours.{colours}
 use Rattle.frame.specs.declared.Next.{Next}
-use Rattle.frame.specs.declared.Next.TheVariants.{Later, End, Refused}
 
 -- a later frame: the place after it, its header, and the contents of its DLTA and of its CMAP
 pub record Frame : Type 0 where
@@ -37,18 +37,18 @@ frame_or s B (some x) = frame_in s B x >>= λ f. ok (some f)
 unfoldable pub frame_at : List ℕ → ℕ → ℕ → Res (Option Frame)
 frame_at s at B = next_form s at >>= frame_or s B
 
--- what an answer says in the paper's terms: the contents of DLTA and CMAP are parts of FORM ANIM
-abbrev pub next_of : List ℕ → Next → Res (Option Frame)
-next_of s (Later nx header a n c k) = ok (some (record { next = nx; header = header; dlta = take n (drop a s); cmap = take k (drop c s) }))
-next_of s End = ok none
-next_of s (Refused why) = fault (number_of why)
+-- what the answers say in the paper's terms
+abbrev pub frame_of : Next → Frame
+frame_of n = record { next = n.next; header = n.header; dlta = n.dlta.now; cmap = n.cmap.now }
 
--- the frame with this ANHD, where the contents of its DLTA are n bytes of FORM ANIM from a on, and those of its CMAP k bytes from c on
-abbrev pub frame_with : List ℕ → List ℕ → ℕ → ℕ → ℕ → ℕ → ℕ → ℕ → Res (Option Frame)
-frame_with s anhd B nx a n c k =
-    frame_header false B anhd >>= λ y.
-    need (good_length k) 37 >>= λ _.
-    ok (some (record { next = nx; header = y; dlta = take n (drop a s); cmap = take k (drop c s) }))
+abbrev pub framed_of : Result Next Refusal → Res Frame
+framed_of (Ok n) = ok (frame_of n)
+framed_of (Err why) = fault (number_of why)
+
+abbrev pub next_of : Result (Maybe Next) Refusal → Res (Option Frame)
+next_of (Ok (Some n)) = ok (some (frame_of n))
+next_of (Ok None) = ok none
+next_of (Err why) = fault (number_of why)
 
 -- where the contents of a chunk that was looked for stand; an empty part where there is none
 abbrev pub or_empty : Res (Option Part) → Part

@@ -6,7 +6,11 @@ use mathlib.Core.Path.{◌≡◌, refl, sym, ap, ◌∙◌}
 use mathlib.Core.List.{List, [], ◌∷◌, ◌++◌}
 use mathlib.Core.Option.{Option, none, some}
 use lib.Dec.{leb, eqb}
-use lib.ListN.{length}
+use lib.ListN.{length, get_or, set, length-set, length-replicate}
+use Rattle.std.specs.Prelude.{replicate, ◌≢◌}
+use Rattle.std.proofs.Common.{below_more, get_or-set_other, get_or-set_same}
+use Rattle.std.proofs.lemmas.List.{get_or-replicate}
+use native.Mathlib.Nat.{le_refl}
 use borrow.Author.Tests.{leb-true, eqb-true}
 use Rattle.laws.specs.Result.{Res, Res.ok, Res.fault, ◌>>=◌, or_refuse, pick}
 use Rattle.laws.specs.Every.{Every, Every.every_none, Every.every_cons}
@@ -16,10 +20,9 @@ use Rattle.laws.proofs.LoopLaws.{Going, starts, turns, stops, Comes, Comes.comes
 use Rattle.laws.specs.Bytes.{be32}
 use Rattle.refusal.specs.Number.{number_of}
 use Rattle.refusal.specs.declared.Refusal.{Refusal}
-use Rattle.iff.specs.declared.Found.{Found}
-use Rattle.iff.specs.declared.Found.TheVariants.{Missing, Refused}
-use Rattle.iff.specs.declared.Three.{Three}
-use Rattle.iff.specs.Chunk.{Chunk, padded, chunk_at, Walk, walk_on, walk_step, chunks, Part, part_of, first, find, found_of, FindsThree, or_part}
+use Rattle.std.specs.Prelude.{Ok, Err, None, Option as Maybe}
+use Rattle.iff.specs.declared.Part.{Part as FoundPart}
+use Rattle.iff.specs.Chunk.{Chunk, padded, chunk_at, Walk, walk_on, walk_step, chunks, Part, part_of, first, find, found_of, FindsAll, or_part}
 
 -- a chunk at a place lies within the parent, and the next place is past it
 pub record Within (s : List ℕ) (at : ℕ) (c : Chunk) : Type 0 where
@@ -127,44 +130,55 @@ first_more id (d ∷ cs) c = go (eqb d.id id) (eqb c.id id) (first_more id cs c)
     go true false h = refl
     go false t h = h
 
--- a walk at a place, and what the searches for three ids have found up to it
-pub record Searches (s : List ℕ) (x y z at : ℕ) (t : Three) : Type 0 where
+-- a walk at a place, and what the searches for ids have found up to it
+pub record Searches (s ids : List ℕ) (at : ℕ) (found : List (Maybe FoundPart)) : Type 0 where
   pub before : List Chunk
   pub going : Going (walk_step s) (λ w. length s - w.at) (fault 21) (chunks s) (record { at = at; passed = before })
-  pub one : found_of t.first ≡ ok (first before x)
-  pub two : found_of t.second ≡ ok (first before y)
-  pub three : found_of t.third ≡ ok (first before z)
+  pub as_many : length found ≡ length ids
+  pub same : (k : ℕ) → k < length ids → found_of (Ok (get_or found k None)) ≡ ok (first before (get_or ids k 0))
 
-pub search_starts : (s : List ℕ) (x y z : ℕ) → Searches s x y z 0 (record { first = Missing; second = Missing; third = Missing })
+pub search_starts : (s ids : List ℕ) (n : ℕ) → length ids ≡ n → Searches s ids 0 (replicate n None)
 unfolding chunks
-search_starts s x y z = record { before = []; going = starts refl; one = refl; two = refl; three = refl }
+search_starts s ids n e = record { before = []; going = starts refl; as_many = rw length-replicate (omega arith); same = λ k l. let m : k < n = omega arith in rw get_or-replicate refl }
 
 -- what a search has found past a chunk, by what it had found before it
-abbrev Past : ℕ → Chunk → Found → Found → Type 0
-Past id c f g = found_of g ≡ pick (eqb c.id id) (or_part (found_of f) (part_of c)) (found_of f)
+abbrev Past : ℕ → Chunk → Maybe FoundPart → Maybe FoundPart → Type 0
+Past id c f g = found_of (Ok g) ≡ pick (eqb c.id id) (or_part (found_of (Ok f)) (part_of c)) (found_of (Ok f))
 
-module _ {s : List ℕ} {x y z at : ℕ} {t : Three} (h : Searches s x y z at t) where
-  pub search_past : {c : Chunk} {u : Three} → chunk_at s at ≡ ok (some c) → Past x c t.first u.first → Past y c t.second u.second → Past z c t.third u.third
-      → Searches s x y z c.next u
-  search_past {c} e p q r =
+-- the searches for the ids before the i-th are past a chunk, and the others before it
+pub record Passes (ids : List ℕ) (c : Chunk) (i : ℕ) (f g : List (Maybe FoundPart)) : Type 0 where
+  pub done : (k : ℕ) → k < i → Past (get_or ids k 0) c (get_or f k None) (get_or g k None)
+  pub left : (k : ℕ) → i ≤ k → get_or g k None ≡ get_or f k None
+  pub as_many : length g ≡ length f
+
+pub passes_one : {ids : List ℕ} {c : Chunk} {i : ℕ} {f g : List (Maybe FoundPart)} (v : Maybe FoundPart) → Passes ids c i f g → i < length g → Past (get_or ids i 0) c (get_or g i None) v
+    → Passes ids c (i + 1) f (set g i v)
+passes_one {ids} {c} {i} {f} {g} v p l h =
+    record {
+      done = below_more _ _ (λ k m. let ne : k ≢ i = omega arith in rw get_or-set_other (p.done k m)) (rw get_or-set_same (rw (p.left i (le_refl i)) at h));
+      left = λ k m. let ne : k ≢ i = omega arith in rw get_or-set_other (p.left k (omega arith));
+      as_many = rw length-set p.as_many;
+    }
+
+module _ {s ids : List ℕ} {at : ℕ} {f : List (Maybe FoundPart)} (h : Searches s ids at f) where
+  pub search_past : {c : Chunk} {g : List (Maybe FoundPart)} → chunk_at s at ≡ ok (some c) → Passes ids c (length ids) f g → Searches s ids c.next g
+  search_past {c} e p =
       let k : Within s at c = each_some e (chunk_within s at) in
       record {
         before = h.before ++ (c ∷ []);
         going = turns h.going (ap (walk_on (record { at = at; passed = h.before })) e) (omega (arith, k.rises, k.ends));
-        one = p ∙ rw h.one (sym (first_more x h.before c));
-        two = q ∙ rw h.two (sym (first_more y h.before c));
-        three = r ∙ rw h.three (sym (first_more z h.before c));
+        as_many = p.as_many ∙ h.as_many;
+        same = λ i l. p.done i l ∙ rw (h.same i l) (sym (first_more (get_or ids i 0) h.before c));
       }
 
-  pub search_ends : chunk_at s at ≡ ok none → FindsThree s x y z t
+  pub search_ends : chunk_at s at ≡ ok none → FindsAll s ids (Ok f)
   unfolding find
   search_ends e =
       let d : ok h.before ≡ chunks s = stops h.going (ap (walk_on (record { at = at; passed = h.before })) e) in
-      record { first = rw (← d) h.one; second = rw (← d) h.two; third = rw (← d) h.three }
+      record { each = λ k l. rw (← d) (h.same k l) }
 
-  pub search_breaks : {why : Refusal} → chunk_at s at ≡ fault (number_of why)
-      → FindsThree s x y z (record { first = Refused why; second = Refused why; third = Refused why })
+  pub search_breaks : {why : Refusal} → chunk_at s at ≡ fault (number_of why) → FindsAll s ids (Err why)
   unfolding find
   search_breaks {why} e =
       let d : fault (number_of why) ≡ chunks s = stops h.going (ap (walk_on (record { at = at; passed = h.before })) e) in
-      record { first = rw (← d) refl; second = rw (← d) refl; third = rw (← d) refl }
+      record { each = λ k l. rw (← d) refl }

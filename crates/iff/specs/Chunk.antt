@@ -1,15 +1,14 @@
 -- Chunks (document 01, "Chunks"): four id bytes, a big-endian length, the contents, and a pad byte of any value if the
 -- length is odd. Header, contents and pad lie inside the parent. Within a frame the first chunk of each id counts.
-use Rattle.std.specs.Prelude.{ℕ, ◌+◌, ◌-◌, ◌%◌, Bool, true, false, List, [], ◌∷◌, ◌++◌, ◌≡◌, leb, eqb, length, take, drop}
+use Rattle.std.specs.Prelude.{ℕ, ◌+◌, ◌-◌, ◌%◌, Bool, true, false, List, [], ◌∷◌, ◌++◌, ◌≡◌, leb, eqb, length, take, drop, get_or, ◌<◌, Result, Ok, Err, Some, None, Option as Maybe}
 use Rattle.std.proofs.Math.Option.{Option, none, some}
 use Rattle.laws.specs.Result.{Res, Res.ok, Res.fault, ◌>>=◌, need, pick}
 use Rattle.laws.specs.Loop.{Step, Step.next, Step.done, iterate}
 use Rattle.laws.specs.Bytes.{be32}
-use Rattle.refusal.specs.Number.{number_of}
-use Rattle.iff.specs.declared.Standing.{Standing}
-use Rattle.iff.specs.declared.Standing.TheVariants.{Whole, End, Refused}
-use Rattle.iff.specs.declared.Found.{Found}
-use Rattle.iff.specs.declared.Found.TheVariants.{At, Missing, Refused as FoundRefused}
+use Rattle.refusal.specs.Number.{number_of, result_of}
+use Rattle.refusal.specs.declared.Refusal.{Refusal}
+use Rattle.iff.specs.declared.Chunk.{Chunk as ReadChunk}
+use Rattle.iff.specs.declared.Part.{Part as FoundPart}
 use Rattle.iff.specs.declared.Three.{Three}
 
 -- a whole chunk: its id, where its contents start, their length, and the place after it
@@ -88,21 +87,31 @@ unfoldable pub contents : List ℕ → ℕ → List ℕ
 contents s id = found_in s (find s id)
 
 -- what the answers say in the paper's terms
-abbrev pub standing_of : Standing → Res (Option Chunk)
-standing_of (Whole id start len nx) = ok (some (record { id = id; start = start; size = len; next = nx }))
-standing_of End = ok none
-standing_of (Refused why) = fault (number_of why)
+abbrev pub chunk_of : Maybe ReadChunk → Option Chunk
+chunk_of (Some c) = some (record { id = c.id; start = c.start; size = c.len; next = c.next })
+chunk_of None = none
 
-abbrev pub found_of : Found → Res (Option Part)
-found_of (At start len) = ok (some (record { start = start; size = len }))
-found_of Missing = ok none
-found_of (FoundRefused why) = fault (number_of why)
+abbrev pub standing_of : Result (Maybe ReadChunk) Refusal → Res (Option Chunk)
+standing_of (Ok o) = ok (chunk_of o)
+standing_of (Err why) = fault (number_of why)
 
--- the first chunks of three ids, found in one walk
-pub record FindsThree (s : List ℕ) (x y z : ℕ) (r : Three) : Type 0 where
-  pub first : found_of r.first ≡ find s x
-  pub second : found_of r.second ≡ find s y
-  pub third : found_of r.third ≡ find s z
+abbrev pub place_of : Maybe FoundPart → Option Part
+place_of (Some p) = some (record { start = p.start; size = p.len })
+place_of None = none
+
+abbrev pub found_of : Result (Maybe FoundPart) Refusal → Res (Option Part)
+found_of (Ok o) = ok (place_of o)
+found_of (Err why) = fault (number_of why)
+
+-- the first chunks of ids, found in one walk
+pub record FindsAll (s ids : List ℕ) (r : Result (List (Maybe FoundPart)) Refusal) : Type 0 where
+  pub each : (k : ℕ) → k < length ids → (result_of r >>= λ found. ok (place_of (get_or found k None))) ≡ find s (get_or ids k 0)
+
+-- those of three
+pub record FindsThree (s : List ℕ) (x y z : ℕ) (r : Result Three Refusal) : Type 0 where
+  pub first : (result_of r >>= λ t. ok (place_of t.first)) ≡ find s x
+  pub second : (result_of r >>= λ t. ok (place_of t.second)) ≡ find s y
+  pub third : (result_of r >>= λ t. ok (place_of t.third)) ≡ find s z
 
 -- the part found already, or this one if there is none
 abbrev pub or_part : Res (Option Part) → Part → Res (Option Part)

@@ -1,40 +1,26 @@
 // The ids of chunks and the types of FORMs: four letters each, as a number, the first letter the highest byte.
-pub const FORM: usize = (b'F' as usize) << 24
-    | (b'O' as usize) << 16
-    | (b'R' as usize) << 8
-    | b'M' as usize;
+// Kept: an id stays a number, since the definition chunk_at answers any four bytes of a file as one.
+macro_rules! id {
+    ($letters:literal) => {
+        ($letters[0] as usize) << 24
+            | ($letters[1] as usize) << 16
+            | ($letters[2] as usize) << 8
+            | $letters[3] as usize
+    };
+}
 
-pub const ANIM: usize = (b'A' as usize) << 24
-    | (b'N' as usize) << 16
-    | (b'I' as usize) << 8
-    | b'M' as usize;
+pub const FORM: usize = id!(b"FORM");
 
-pub const ILBM: usize = (b'I' as usize) << 24
-    | (b'L' as usize) << 16
-    | (b'B' as usize) << 8
-    | b'M' as usize;
+pub const ANIM: usize = id!(b"ANIM");
 
-pub const BMHD: usize = (b'B' as usize) << 24
-    | (b'M' as usize) << 16
-    | (b'H' as usize) << 8
-    | b'D' as usize;
+pub const ILBM: usize = id!(b"ILBM");
 
-pub const BODY: usize = (b'B' as usize) << 24
-    | (b'O' as usize) << 16
-    | (b'D' as usize) << 8
-    | b'Y' as usize;
+pub const BMHD: usize = id!(b"BMHD");
 
-pub const CMAP: usize = (b'C' as usize) << 24
-    | (b'M' as usize) << 16
-    | (b'A' as usize) << 8
-    | b'P' as usize;
+pub const BODY: usize = id!(b"BODY");
 
-pub const ANHD: usize = (b'A' as usize) << 24
-    | (b'N' as usize) << 16
-    | (b'H' as usize) << 8
-    | b'D' as usize;
+pub const CMAP: usize = id!(b"CMAP");
 
-pub const DLTA: usize = (b'D' as usize) << 24
-    | (b'L' as usize) << 16
-    | (b'T' as usize) << 8
-    | b'A' as usize;
+pub const ANHD: usize = id!(b"ANHD");
+
+pub const DLTA: usize = id!(b"DLTA");

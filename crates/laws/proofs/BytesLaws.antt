@@ -1,4 +1,4 @@
--- Laws of numbers in bytes: their bounds, what stands past the end, a number as the sum of its bytes, and what is written read back.
+-- Laws of numbers in bytes: their bounds, a number as the sum of its bytes, and what is written read back.
 use Prim.Native.Nat.{ℕ, ◌+◌, ◌*◌, ◌/◌, ◌%◌, ◌^◌, ◌<◌, ◌≤◌}
 use native.Mathlib.Nat.{div-add-mod', div-lt_iff_lt-mul, div-div-eq-div-mul, mod-eq_of_lt, pow-suc}
 use native.Mathlib.Decide.{dec_lt}
@@ -8,22 +8,12 @@ use mathlib.Core.List.{List, [], ◌∷◌, ◌++◌}
 use lib.Dec.{lit<}
 use lib.ListN.{length, get_or, take, drop, length-take, get_or-eq_default}
 use lib.Seq.{get_or-drop, get_or-take, take-add, drop-drop, get_or-append-add, get_or-append_seam}
-use Rattle.laws.specs.Bytes.{be16, be32, be32_bytes, word_of, Bytes}
+use Rattle.laws.specs.Bytes.{be32, be32_bytes, word_of, Bytes}
 use Rattle.laws.proofs.StoreLaws.{four_at, length_part}
 
 pub be32_bound : (s : List ℕ) (at : ℕ) → Bytes s → be32 s at < 4294967296
 unfolding be32
 be32_bound s at h = omega (arith, h at, h (at + 1), h (at + 2), h (at + 3))
-
--- past the end there are only zeros
-pub be16_past : (s : List ℕ) (at : ℕ) → length s ≤ at → be16 s at ≡ 0
-unfolding be16
-be16_past s at h = simp (get_or-eq_default s 0 {n = at} h, get_or-eq_default s 0 {n = at + 1} (omega arith))
-
-pub be32_past : (s : List ℕ) (at : ℕ) → length s ≤ at → be32 s at ≡ 0
-unfolding be32
-be32_past s at h =
-    simp (get_or-eq_default s 0 {n = at} h, get_or-eq_default s 0 {n = at + 1} (omega arith), get_or-eq_default s 0 {n = at + 2} (omega arith), get_or-eq_default s 0 {n = at + 3} (omega arith))
 
 -- what is left of bytes is bytes
 pub bytes_drop : (n : ℕ) (s : List ℕ) → Bytes s → Bytes (drop n s)

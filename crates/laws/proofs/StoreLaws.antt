@@ -1,4 +1,4 @@
--- What copies, fills and stores leave in a buffer.
+-- What copies and stores leave in a buffer.
 use Prim.Native.Nat.{ℕ, zero, suc, ◌+◌, ◌-◌, ◌<◌, ◌≤◌, min}
 use native.Mathlib.Nat.{not-suc-le-zero, le_of_suc-le-suc, zero-add, suc-add, add-suc}
 use native.Mathlib.Numerals.{add-one}
@@ -8,9 +8,8 @@ use mathlib.Core.Bool.{Bool}
 use mathlib.Core.Path.{◌≡◌, refl, sym, ap, ◌∙◌}
 use mathlib.Core.Logic.{◌⊎◌, inl, inr}
 use mathlib.Core.List.{List, [], ◌∷◌, ◌++◌, append-nil, append_assoc}
-use lib.ListN.{length, get_or, set, take, drop, replicate, take-append-drop, drop_of_length-le, length-set, length-append, length-take, length-drop, length-replicate}
-use lib.Seq.{take-take, take_all, take-append-le, length-take-le, drop-length, drop-cons, drop_at, drop-drop, set_out, sets, sets-eq, length-sets, take-add, take_at, get_or-set_same, get_or-set_other}
-use borrow.Author.Fill.{fill_more}
+use lib.ListN.{length, get_or, set, take, drop, replicate, drop_of_length-le, length-set, length-append, length-take, length-drop, length-replicate}
+use lib.Seq.{take-take, take_all, take-append-le, length-take-le, drop-cons, drop-drop, set_out, sets, sets-eq, length-sets, get_or-set_same, get_or-set_other}
 use Rattle.laws.specs.Result.{pick}
 use Rattle.laws.specs.Store.{Copied, over}
 use Rattle.laws.proofs.ResultLaws.{pick_both}
@@ -31,9 +30,6 @@ copy_suc (suc n) (x ∷ s) (y ∷ d) h k = ap (λ (t : List ℕ). x ∷ t) (copy
 pub copied_more : {s d x : List ℕ} {n : ℕ} → Copied d s n x → n < length s → n < length d → Copied d s (n + 1) (set x n (get_or s n 0))
 copied_more {s} {d} {x} {n} w h k = record { is = rw (add-one, w.is) (copy_suc n s d h k) }
 
-pub copied_to : {s d x : List ℕ} {m n : ℕ} → Copied d s m x → m ≡ n → Copied d s n x
-copied_to w e = rw e at w
-
 pub copied_all : {s d x : List ℕ} {n : ℕ} → Copied d s n x → n ≡ min (length d) (length s) → x ≡ over d s
 unfolding over
 copied_all {s} {d} {x} {n} w e = w.is ∙ go (dec_le (length d) (length s))
@@ -47,47 +43,6 @@ pub copied_front : {s d x : List ℕ} {n : ℕ} → Copied d s n x → n ≤ len
 copied_front {s} {d} {x} {n} w h m k =
     rw w.is (take-append-le m (take n s) (drop n d) (simp (length-take-le n s h) k) ∙ take-take m n s k)
 
--- past the front of p ++ drop m x stands what stands there in x
-past_front : (m n : ℕ) (p x : List ℕ) → length p ≡ m → m ≤ n → drop n (p ++ drop m x) ≡ drop n x
-past_front m n p x l h =
-    let i : m + (n - m) ≡ n = omega arith in
-    rw i at (sym (drop-drop (n - m) m (p ++ drop m x)) ∙ ap (drop (n - m)) (drop_at p (drop m x) m l) ∙ drop-drop (n - m) m x)
-
--- a copy that goes on from another
-pub copied_then : {s d x y : List ℕ} {m n : ℕ} → Copied d s m x → m ≤ length s → m ≤ n → Copied x s n y → Copied d s n y
-copied_then {s} {d} {x} {y} {m} {n} w h k v =
-    record { is = v.is ∙ ap (λ (t : List ℕ). take n s ++ t) (rw w.is (past_front m n (take m s) d (length-take-le m s h) k)) }
-
--- a copy of n bytes, of which the first j are those of s already
-pub record Going (s d : List ℕ) (n j : ℕ) (x : List ℕ) : Type 0 where
-  pub front : take j x ≡ take j s
-  pub rest : drop n x ≡ drop n d
-  pub long : length x ≡ length d
-
-pub going_from : {s d : List ℕ} {n j : ℕ} → take j d ≡ take j s → Going s d n j d
-going_from e = record { front = e; rest = refl; long = refl }
-
-pub going_block : {s d x : List ℕ} {n j : ℕ} → Going s d n j x → (k : ℕ) → j + k ≤ n → n ≤ length s → n ≤ length d → Going s d n (j + k) (sets x j (take k (drop j s)))
-going_block {s} {d} {x} {n} {j} w k h a b =
-    let l : length (take k (drop j s)) ≡ k = length_part s j k (omega arith) in
-    let c = w.long in
-    let e : sets x j (take k (drop j s)) ≡ take (j + k) s ++ drop (j + k) x =
-    sets-eq (take k (drop j s)) x j (omega arith) ∙ rw (l, w.front, take-add j k s) refl in
-    let m : length (take (j + k) s) ≡ j + k = length-take-le (j + k) s (omega arith) in
-    record { front = rw e (take_at (take (j + k) s) (drop (j + k) x) (j + k) m); rest = rw e (past_front (j + k) n (take (j + k) s) x m h ∙ w.rest); long = length-sets x j (take k (drop j s)) ∙ c }
-
-pub going_done : {s d x : List ℕ} {n : ℕ} → Going s d n n x → Copied d s n x
-going_done {s} {d} {x} {n} w = record { is = sym (take-append-drop n x) ∙ rw (w.front, w.rest) refl }
-
--- the last 32 of n bytes, eight at a time
-pub copied_last : {s d x y z v : List ℕ} {n : ℕ} → 32 ≤ n → n ≤ length s → n ≤ length d → take (n - 32) d ≡ take (n - 32) s
-    → x ≡ sets d (n - 32) (take 8 (drop (n - 32) s)) → y ≡ sets x (n - 24) (take 8 (drop (n - 24) s)) → z ≡ sets y (n - 16) (take 8 (drop (n - 16) s)) → v ≡ sets z (n - 8) (take 8 (drop (n - 8) s))
-    → Copied d s n v
-copied_last {s} {d} {x} {y} {z} {v} {n} h k l e ex ey ez ev = going_done (step (n - 8) n (omega arith, omega arith) ev (step (n - 16) (n - 8) (omega arith, omega arith) ez (step (n - 24) (n - 16) (omega arith, omega arith) ey (step (n - 32) (n - 24) (omega arith, omega arith) ex (going_from e)))))
-  where
-    step : (i j : ℕ) → (i + 8 ≡ j) × (j ≤ n) → {f g : List ℕ} → g ≡ sets f i (take 8 (drop i s)) → Going s d n i f → Going s d n j g
-    step i j b q w = rw (q, ← b.0) (going_block w 8 (omega (arith, b.0, b.1)) k l)
-
 -- four bytes that are stored one after the other, and four that stand so
 pub stored_four : (d : List ℕ) (at w x y z : ℕ) → set (set (set (set d at w) (at + 1) x) (at + 2) y) (at + 3) z ≡ sets d at (w ∷ x ∷ y ∷ z ∷ [])
 stored_four d at w x y z =
@@ -100,19 +55,6 @@ four_at s at h =
     let e : at + 2 ≡ suc (suc at) = omega arith in
     let f : at + 3 ≡ suc (suc (suc at)) = omega arith in
     rw (drop-cons s at 0 (omega arith), drop-cons s (suc at) 0 (omega arith), drop-cons s (suc (suc at)) 0 (omega arith), drop-cons s (suc (suc (suc at))) 0 (omega arith), add-one at, e, f)
-
--- eight bytes that are stored one after the other
-pub stored_eight : (s d : List ℕ) (at : ℕ) → at + 8 ≤ length s
-    → set (set (set (set (set (set (set (set d at (get_or s at 0)) (at + 1) (get_or s (at + 1) 0)) (at + 2) (get_or s (at + 2) 0)) (at + 3) (get_or s (at + 3) 0)) (at + 4) (get_or s (at + 4) 0)) (at + 5) (get_or s (at + 5) 0)) (at + 6) (get_or s (at + 6) 0)) (at + 7) (get_or s (at + 7) 0)
-    ≡ sets d at (take 8 (drop at s))
-stored_eight s d at h =
-    let e2 : at + 2 ≡ suc (suc at) = omega arith in
-    let e3 : at + 3 ≡ suc (suc (suc at)) = omega arith in
-    let e4 : at + 4 ≡ suc (suc (suc (suc at))) = omega arith in
-    let e5 : at + 5 ≡ suc (suc (suc (suc (suc at)))) = omega arith in
-    let e6 : at + 6 ≡ suc (suc (suc (suc (suc (suc at))))) = omega arith in
-    let e7 : at + 7 ≡ suc (suc (suc (suc (suc (suc (suc at)))))) = omega arith in
-    rw (add-one at, e2, e3, e4, e5, e6, e7, drop-cons s at 0 (omega arith), drop-cons s (suc at) 0 (omega arith), drop-cons s (suc (suc at)) 0 (omega arith), drop-cons s (suc (suc (suc at))) 0 (omega arith), drop-cons s (suc (suc (suc (suc at)))) 0 (omega arith), drop-cons s (suc (suc (suc (suc (suc at))))) 0 (omega arith), drop-cons s (suc (suc (suc (suc (suc (suc at)))))) 0 (omega arith), drop-cons s (suc (suc (suc (suc (suc (suc (suc at))))))) 0 (omega arith)) refl
 
 -- as long as d, s takes its place whole
 pub over_whole : (s d : List ℕ) → length d ≡ length s → over d s ≡ s
@@ -135,19 +77,6 @@ over_front d s = go (dec_le (length s) (length d))
         let h : length d ≤ length s = omega (arith, n) in
         let l = length-take-le (length d) s h in
         rw (take_all (length d) (take (length d) s) (omega (arith, l)), drop_of_length-le d {i = length (take (length d) s)} (omega (arith, l)), drop_of_length-le d {i = length s} h)
-
--- a fill that has gone n bytes far
-pub record Filled (v : ℕ) (d : List ℕ) (n : ℕ) (x : List ℕ) : Type 0 where
-  pub is : x ≡ replicate n v ++ drop n d
-
-pub filled_none : {v : ℕ} {d : List ℕ} → Filled v d 0 d
-filled_none = record { is = refl }
-
-pub filled_more : {v : ℕ} {d x : List ℕ} {n : ℕ} → Filled v d n x → n < length d → Filled v d (n + 1) (set x n v)
-filled_more {v} {d} {x} {n} w h = record { is = rw w.is (fill_more n v d h) }
-
-pub filled_all : {v : ℕ} {d x : List ℕ} {n : ℕ} → Filled v d n x → n ≡ length d → x ≡ replicate (length d) v
-filled_all {v} {d} {x} {n} w e = w.is ∙ simp (e, drop-length d, append-nil)
 
 -- a part of a buffer that was lent and came back with other bytes
 pub sets_part : (a e : ℕ) (xs vs : List ℕ) → a ≤ e → e ≤ length xs → length vs ≡ e - a → take a xs ++ (vs ++ drop (e - a) (drop a xs)) ≡ sets xs a vs

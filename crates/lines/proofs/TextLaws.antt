@@ -2,11 +2,11 @@
 use Prim.Native.Nat.{ℕ, zero, suc, ◌+◌, ◌-◌, ◌/◌, ◌%◌, ◌<◌, ◌≤◌, min}
 use native.Mathlib.Omega.{arith}
 use mathlib.Core.Bool.{Bool, true, false}
-use mathlib.Core.List.{List, [], ◌∷◌, ◌++◌, append_assoc, append-nil}
+use mathlib.Core.List.{List, [], ◌∷◌, ◌++◌, append_assoc}
 use mathlib.Core.Path.{◌≡◌, refl, sym, ap, ◌∙◌}
 use lib.Dec.{ltb}
-use lib.ListN.{length, set, take, drop, length-append, length-take, length-drop, drop_of_length-le}
-use lib.Seq.{take_all, take-nil, drop-nil, take_at, drop_at, take-append-add, drop-append-add, drop-drop, set_split, length-take-le}
+use lib.ListN.{length, take, drop, length-append, length-take, length-drop}
+use lib.Seq.{take_at, drop_at, take-append-add, drop-append-add, drop-drop, length-take-le}
 use borrow.Author.Tests.{lt-ltb, le-ltb, ltb-false}
 use Rattle.laws.specs.Store.{over}
 use Rattle.laws.proofs.StoreLaws.{length_over}
@@ -69,39 +69,7 @@ adds_then {out} {at} {xs} {ys} {out'} {out''} {p} {q} v w =
 pub adds_as : {out : List ℕ} {at : ℕ} {xs ys out' : List ℕ} {next : ℕ} → Adds out at xs out' next → ys ≡ xs → Adds out at ys out' next
 adds_as v e = rw e v
 
--- a byte, where there is room for it and where there is none
-pub adds_byte : {out : List ℕ} {at : ℕ} (b : ℕ) → at < length out → Adds out at (b ∷ []) (set out at b) (at + 1)
-unfolding over
-adds_byte {out} {at} b h =
-    let l : length (drop at out) ≡ suc (length out - suc at) = length-drop at out ∙ omega arith in
-    let e : at + 1 ≡ suc at = omega arith in
-    record { from = omega arith; place = omega arith; left = set_split out at b h ∙ ap (λ (t : List ℕ). take at out ++ t) (sym (ap (λ (k : ℕ). take k (b ∷ []) ++ drop 1 (drop at out)) l ∙ ap (λ (t : List ℕ). b ∷ (t ++ drop 1 (drop at out))) (take-nil (length out - suc at)) ∙ ap (λ (t : List ℕ). b ∷ t) (drop-drop 1 at out ∙ rw e refl))) }
-
-pub adds_nothing : {out : List ℕ} {at : ℕ} (b : ℕ) → at ≤ length out → length out ≤ at → Adds out at (b ∷ []) out at
-unfolding over
-adds_nothing {out} {at} b h k =
-    let d : drop at out ≡ [] = drop_of_length-le out {i = at} k in
-    record { from = h; place = omega arith; left = rw d (sym (append-nil (take at out) ∙ take_all at out k)) }
-
--- a text that was copied to the rest of the buffer
-pub adds_text : (out : List ℕ) (at size : ℕ) (bytes : List ℕ) {y : List ℕ} {next : ℕ} → at ≤ length out → size ≡ length out → y ≡ over (take (size - at) (drop at out)) bytes
-    → next ≡ min (at + length bytes) (length out) → Adds out at bytes (take at out ++ (y ++ drop (size - at) (drop at out))) next
-adds_text out at size bytes {y} h l e p =
-    let k : length (drop at out) ≤ size - at = simp length-drop (omega arith) in
-    let f : y ++ drop (size - at) (drop at out) ≡ over (drop at out) bytes = rw (drop_of_length-le (drop at out) {i = size - at} k) (append-nil y ∙ e ∙ rw (take_all (size - at) (drop at out) k) refl) in
-    record { from = h; place = p; left = ap (λ (t : List ℕ). take at out ++ t) f }
-
--- at a place within the buffer, and past its end
-pub adds_within : {out : List ℕ} {at : ℕ} {bytes out' : List ℕ} {next : ℕ} → at ≤ length out → Adds out at bytes out' next → Adds out (min at (length out)) bytes out' next
-adds_within {out} {at} h v = let e : min at (length out) ≡ at = omega arith in rw e v
-
-pub adds_past : {out : List ℕ} {at : ℕ} (bytes : List ℕ) → length out < at → Adds out (min at (length out)) bytes out (length out)
-unfolding over
-adds_past {out} {at} bytes h =
-    let e : min at (length out) ≡ length out = omega arith in
-    let d : drop (length out) out ≡ [] = drop_of_length-le out {i = length out} (omega arith) in
-    rw e (record { from = omega arith; place = omega arith; left = rw d (sym (ap (λ (t : List ℕ). take (length out) out ++ t) (drop-nil (length bytes)) ∙ append-nil (take (length out) out) ∙ take_all (length out) out (omega arith))) })
-
+-- at a place within the buffer
 pub adds_at : {out : List ℕ} {at : ℕ} {bytes out' : List ℕ} {next : ℕ} → at ≤ length out → Adds out (min at (length out)) bytes out' next → Adds out at bytes out' next
 adds_at {out} {at} h v = let e : min at (length out) ≡ at = omega arith in rw e at v
 

@@ -1,7 +1,7 @@
 // The lines of a listing, as text in a lent buffer.
 #![tactic(auto)]
 
-ghost use Rattle.std.specs.Prelude.{[], ◌∷◌, ◌++◌, ◌≤◌, min, length};
+ghost use Rattle.std.specs.Prelude.{◌≡◌, ◌++◌, ◌≤◌, min, length};
 ghost use Rattle.lines.specs.Lines.{decimal, newline, picture_line, frame_line, line_of, Adds};
 
 use copies::copy;
@@ -9,7 +9,7 @@ use refusal::Refusal;
 use state::{Report, Sizes};
 
 // A line of a listing.
-#[derive(Clone, Copy)]
+#[derive(Clone, Copy, Debug, PartialEq, Eq)]
 pub enum Line {
     TooLarge,
     Picture(Sizes),
@@ -20,101 +20,101 @@ pub enum Line {
     Refused(Refusal),
 }
 
-// Adds a byte, if there is room for it.
-fn put_byte(out: &mut [u8], at: usize, byte: u8) -> usize
-    requires { at ≤ length out.old }
-    ensures { Adds out.old at (byte ∷ []) out.new result }
-{
-    if at < out.len() {
-        out[at] = byte;
-        return at + 1;
+// A text in a lent buffer, and the place after it.
+#[derive(Drop)]
+struct Text<'a> {
+    out: &'a mut [u8],
+    at: usize,
+    ghost inside: { at ≤ length out.now },
+}
+
+impl Text<'_> {
+    // Adds a text, as far as the buffer goes.
+    fn put(&mut self, text: &[u8])
+        ensures same { self.new.out.ghost_name ≡ self.old.out.ghost_name }
+        ensures adds { Adds self.old.out.now self.old.at (text.now) self.new.out.now self.new.at }
+    {
+        let at = self.at;
+        copy(&mut self.out[at..], text);
+        self.at += text.len().min(self.out.len() - at);
     }
-    at
-}
 
-// Adds a text, as far as the buffer goes.
-fn put_text(out: &mut [u8], at: usize, text: &[u8]) -> usize
-    requires { at ≤ length out.old }
-    ensures { Adds out.old at text.now out.new result }
-{
-    let size = out.len();
-    copy(&mut out[at..], text);
-    if size - at < text.len() {
-        return size;
+    // Adds a number in decimal.
+    // Kept: by hand and not by write!, since an impl of fmt::Write for Text, with what it has to state, is longer than this function.
+    fn put_number(&mut self, number: usize)
+        ensures same { self.new.out.ghost_name ≡ self.old.out.ghost_name }
+        ensures adds { Adds self.old.out.now self.old.at (decimal number) self.new.out.now self.new.at }
+    {
+        if 10 <= number {
+            self.put_number(number / 10);
+        }
+        self.put(&[b'0' + (number % 10) as u8]);
     }
-    at + text.len()
-}
 
-// Adds a number in decimal.
-fn put_number(out: &mut [u8], at: usize, number: usize) -> usize
-    requires { at ≤ length out.old }
-    ensures { Adds out.old at (decimal number) out.new result }
-{
-    if number < 10 {
-        return put_byte(out, at, 48 + number as u8);
+    // Adds a word and a number.
+    fn put_field(&mut self, word: &[u8], number: usize)
+        ensures same { self.new.out.ghost_name ≡ self.old.out.ghost_name }
+        ensures adds { Adds self.old.out.now self.old.at (word.now ++ decimal number) self.new.out.now self.new.at }
+    {
+        self.put(word);
+        self.put_number(number);
     }
-    let next = put_number(out, at, number / 10);
-    put_byte(out, next, 48 + (number % 10) as u8)
-}
 
-// Adds a word and a number.
-fn put_field(out: &mut [u8], at: usize, word: &[u8], number: usize) -> usize
-    requires { at ≤ length out.old }
-    ensures { Adds out.old at (word.now ++ decimal number) out.new result }
-{
-    let next = put_text(out, at, word);
-    put_number(out, next, number)
-}
+    // Adds a last line: a word and a number.
+    fn put_last(&mut self, word: &[u8], number: usize)
+        ensures same { self.new.out.ghost_name ≡ self.old.out.ghost_name }
+        ensures adds { Adds self.old.out.now self.old.at ((word.now ++ decimal number) ++ newline) self.new.out.now self.new.at }
+    {
+        self.put_field(word, number);
+        self.put(b"\n");
+    }
 
-// Adds a last line: a word and a number.
-fn put_last(out: &mut [u8], at: usize, word: &[u8], number: usize) -> usize
-    requires { at ≤ length out.old }
-    ensures { Adds out.old at ((word.now ++ decimal number) ++ newline) out.new result }
-{
-    let next = put_field(out, at, word, number);
-    put_byte(out, next, b'\n')
-}
+    // Adds the first line: the picture's sizes.
+    fn put_picture(&mut self, sizes: Sizes)
+        ensures same { self.new.out.ghost_name ≡ self.old.out.ghost_name }
+        ensures adds { Adds self.old.out.now self.old.at (picture_line sizes) self.new.out.now self.new.at }
+    {
+        self.put_field(b"picture ", sizes.width);
+        self.put_field(b"x", sizes.height);
+        self.put_field(b"x", sizes.planes);
+        self.put(b"\n");
+    }
 
-// Adds the first line: the picture's sizes.
-fn put_picture(out: &mut [u8], from: usize, sizes: Sizes) -> usize
-    requires { from ≤ length out.old }
-    ensures { Adds out.old from (picture_line sizes) out.new result }
-{
-    let mut at = put_field(out, from, b"picture ", sizes.width);
-    at = put_field(out, at, b"x", sizes.height);
-    at = put_field(out, at, b"x", sizes.planes);
-    put_byte(out, at, b'\n')
-}
+    // Adds a frame's line: what stepping on reported of it.
+    fn put_frame(&mut self, frame: usize, report: Report)
+        ensures same { self.new.out.ghost_name ≡ self.old.out.ghost_name }
+        ensures adds { Adds self.old.out.now self.old.at (frame_line frame report) self.new.out.now self.new.at }
+    {
+        self.put_field(b"frame ", frame);
+        self.put_field(b" method ", report.method);
+        self.put_field(b" time ", report.time);
+        self.put_field(b" changed ", report.changed);
+        self.put_field(b" record ", report.record_length);
+        self.put(b"\n");
+    }
 
-// Adds a frame's line: what stepping on reported of it.
-fn put_frame(out: &mut [u8], from: usize, frame: usize, report: Report) -> usize
-    requires { from ≤ length out.old }
-    ensures { Adds out.old from (frame_line frame report) out.new result }
-{
-    let mut at = put_field(out, from, b"frame ", frame);
-    at = put_field(out, at, b" method ", report.method);
-    at = put_field(out, at, b" time ", report.time);
-    at = put_field(out, at, b" changed ", report.changed);
-    at = put_field(out, at, b" record ", report.record_length);
-    put_byte(out, at, b'\n')
+    // Adds a line.
+    #[tactic(auto, unfolding(crate::specs::Lines::end_line, crate::specs::Lines::refused_line))]
+    fn put_line(&mut self, line: Line)
+        ensures same { self.new.out.ghost_name ≡ self.old.out.ghost_name }
+        ensures adds { Adds self.old.out.now self.old.at (line_of line) self.new.out.now self.new.at }
+    {
+        match line {
+            Line::TooLarge => self.put(b"too large\n"),
+            Line::Picture(sizes) => self.put_picture(sizes),
+            Line::Frame(frame, report) => self.put_frame(frame, report),
+            Line::End(frame) => self.put_last(b"end ", frame),
+            Line::Refused(why) => self.put_last(b"refused ", why.number() as usize),
+        }
+    }
 }
 
 // Adds a line at a place of a text, as far as the buffer goes, and answers the place after it. A place past the buffer's end is its end.
 pub fn put_line(out: &mut [u8], at: usize, line: Line) -> usize
     ensures { Adds out.old (min at (length out.old)) (line_of line) out.new result }
 {
-    let size = out.len();
-    if size < at {
-        return size;
-    }
-    match line {
-        Line::TooLarge => put_text(out, at, b"too large\n"),
-        Line::Picture(sizes) => put_picture(out, at, sizes),
-        Line::Frame(frame, report) => put_frame(out, at, frame, report),
-        Line::End(frame) => put_last(out, at, b"end ", frame),
-        Line::Refused(why) => {
-            let number = why.number();
-            put_last(out, at, b"refused ", number as usize)
-        }
-    }
+    let at = at.min(out.len());
+    let mut text = Text { out, at };
+    text.put_line(line);
+    text.at
 }

@@ -13,10 +13,11 @@ use Rattle.laws.proofs.ResultLaws.{two_true, never, answer_refused, answered}
 use Rattle.laws.specs.Loop.{Step.next, Step.done, run, iterate}
 use Rattle.laws.specs.Store.{over}
 use Rattle.laws.proofs.StoreLaws.{length_over}
+use Rattle.refusal.specs.Number.{result_of}
 use Rattle.colours.specs.Colours.{MAP}
 use Rattle.opening.specs.declared.OpenedFile.{OpenedFile}
 use Rattle.state.specs.Film.{Film}
-use Rattle.opening.specs.Open.{MeetsOpen, opening_of, world_opened, opening, frame_size}
+use Rattle.opening.specs.Open.{MeetsOpen, world_opened, opening, frame_size}
 use Rattle.state.specs.World.{World}
 use Rattle.state.specs.After.{Answer, Answer.refused, Answer.ended, Answer.took_on, Answer.took_back, lent, lent_after}
 use Rattle.step_on.specs.Step.{step_on}
@@ -78,7 +79,7 @@ lists_line l e v = let t = adds_front (adds_at (omega arith) v) in rw e (record 
 
 -- an opening that is refused, and one that isn't
 module _ (file : List ℕ) (l : Buffers) {r : OpenedFile} {a b map : List ℕ} (m : MeetsOpen file l.a l.b l.map r (record { a = a; b = b; map = map; state = r.state })) where
-  pub film_refused : {i : ℕ} {out : List ℕ} {n : ℕ} {out' : List ℕ} → opening_of r.answer ≡ fault i → Adds out (min 0 (length out)) (refused_line i) out' n
+  pub film_refused : {i : ℕ} {out : List ℕ} {n : ℕ} {out' : List ℕ} → result_of r.answer ≡ fault i → Adds out (min 0 (length out)) (refused_line i) out' n
       → Lists (list_film file l) out n (record { a = a; b = b; map = map; work = l.work; rec = l.rec }) out'
   unfolding list_film list_opened
   film_refused {i} e v =
@@ -86,7 +87,7 @@ module _ (file : List ℕ) (l : Buffers) {r : OpenedFile} {a b map : List ℕ} (
       let k = m.left ∙ ap (world_opened l.a l.b l.map) q in
       rw (q, ap (λ (w : World). w.a) k, ap (λ (w : World). w.b) k, ap (λ (w : World). w.map) k) (lists_line l refl v)
 
-  pub film_opened : {out : List ℕ} {n : ℕ} {l' : Buffers} {out' : List ℕ} → opening_of r.answer ≡ ok tt
+  pub film_opened : {out : List ℕ} {n : ℕ} {l' : Buffers} {out' : List ℕ} → result_of r.answer ≡ ok tt
       → Lists (list_frames file (length l.work) (length l.rec) (begun (lent a b map r.state l.work l.rec))) out n l' out' → Lists (list_film file l) out n l' out'
   unfolding list_film list_opened
   film_opened e v =

@@ -1,7 +1,7 @@
 -- The listing of a file (document 01, "Bench examples"): a line for its first picture, a line for each frame that is stepped on to,
 -- and `end N` or `refused N` as the last line. Files of more than 65,536 bytes and frames of more than 16,384 bytes are too large;
 -- the file's length is looked at before all else, the frame's right after 24. A map is lent to opening and to each step (document 02, E6).
-use Rattle.std.specs.Prelude.{ℕ, ◌-◌, ◌≤◌, min, Bool, true, false, ◌&&◌, List, [], ◌++◌, ◌≡◌, leb, length, take, drop}
+use Rattle.std.specs.Prelude.{ℕ, ◌-◌, ◌≤◌, min, Bool, true, false, ◌&&◌, List, [], ◌++◌, ◌≡◌, leb, length, take, drop, Result, Ok, Err}
 use Rattle.laws.specs.Result.{Res, Res.ok, Res.fault, pick}
 use Rattle.laws.specs.Loop.{Step, Step.next, Step.done, iterate}
 use Rattle.laws.specs.Store.{over}
@@ -12,8 +12,7 @@ use Rattle.state.specs.After.{Answer, Answer.refused, Answer.ended, Answer.took_
 use Rattle.opening.specs.Open.{opening, frame_size}
 use Rattle.step_on.specs.Step.{step_on}
 use Rattle.lines.specs.Lines.{refused_line, end_line, picture_line, frame_line, too_large, line_of}
-use Rattle.listing.specs.declared.Plan.{Plan}
-use Rattle.listing.specs.declared.Plan.TheVariants.{Single, Frames}
+use Rattle.lines.specs.declared.Line.{Line}
 
 -- what stands while a file is listed: what a step on is lent, and the text so far
 pub record Listing : Type 0 where
@@ -112,9 +111,9 @@ plan_sized (fault n) = single (refused_line n)
 unfoldable pub plan_for : List ℕ → Planned
 plan_for file = pick (leb (length file) 65_536) (plan_sized (frame_size file)) (single too_large)
 
-abbrev pub plan_of : Plan → Planned
-plan_of (Single line) = single (line_of line)
-plan_of (Frames n) = pictures n
+abbrev pub plan_of : Result ℕ Line → Planned
+plan_of (Err line) = single (line_of line)
+plan_of (Ok n) = pictures n
 
 abbrev pub list_planned : List ℕ → Buffers → Planned → Listing
 list_planned file l (single line) = add_line (unlisted l) line

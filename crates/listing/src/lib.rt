@@ -1,5 +1,5 @@
 // The listing of a file: what document 01 has the listing program write.
-#![tactic(auto)]
+#![tactic(auto, unfolding(crate::specs::Listing::plan_for))]
 
 ghost use Rattle.std.specs.Prelude.{◌&&◌, ◌≡◌, leb, length};
 ghost use Rattle.lines.specs.Lines.{line_of};
@@ -9,9 +9,8 @@ ghost use Rattle.listing.specs.Listing.{step_line, taken, begun, list_frames, li
 
 use colours::MAP;
 use lines::{Line, put_line};
-use opening::{Opening, Size};
 use state::State;
-use step_on::{On, SteppedOn};
+use step_on::SteppedOn;
 
 // The longest file that is listed.
 pub const FILE: usize = 65536;
@@ -27,11 +26,10 @@ fn step_line(s: SteppedOn) -> Line
     ensures { line_of result ≡ step_line (on_of s.answer) s.state.frame }
 {
     let state = s.state;
-    let answer = s.answer;
-    match answer {
-        On::Refused(why) => Line::Refused(why),
-        On::End => Line::End(state.frame),
-        On::Taken(report) => Line::Frame(state.frame, report),
+    match s.answer {
+        Err(why) => Line::Refused(why),
+        Ok(None) => Line::End(state.frame),
+        Ok(Some(report)) => Line::Frame(state.frame, report),
     }
 }
 
@@ -39,15 +37,11 @@ fn step_line(s: SteppedOn) -> Line
 fn taken(s: SteppedOn) -> bool
     ensures { result ≡ taken (on_of s.answer) }
 {
-    let answer = s.answer;
-    match answer {
-        On::Taken(_) => true,
-        On::End => false,
-        On::Refused(_) => false,
-    }
+    matches!(s.answer, Ok(Some(_)))
 }
 
 // Lists an opened file: the picture's line, then a line for each step on until the end or a refusal.
+// Kept: five lent buffers as parameters here and below, since a struct of them needs a clause for each that it stays the same reference.
 fn list_frames(
     file: &[u8],
     start: State,
@@ -66,6 +60,7 @@ fn list_frames(
     let mut state = start;
     let sizes = start.sizes;
     let mut at = put_line(out, 0, Line::Picture(sizes));
+    // Kept: the file says where its frames end, so that no range says how often this loop turns.
     loop {
         let s = step_on::step_on(file, state, a, b, map, work, rec);
         at = put_line(out, at, step_line(s));
@@ -92,11 +87,9 @@ fn list_film(
         (record { a = a.new; b = b.new; map = map.new; work = work.new; rec = rec.new }) out.new }
 {
     let o = opening::open(file, a, b, map);
-    let state = o.state;
-    let answer = o.answer;
-    match answer {
-        Opening::Refused(why) => put_line(out, 0, Line::Refused(why)),
-        Opening::Opened => list_frames(file, state, a, b, map, work, rec, out),
+    match o.answer {
+        Err(why) => put_line(out, 0, Line::Refused(why)),
+        Ok(()) => list_frames(file, o.state, a, b, map, work, rec, out),
     }
 }
 
@@ -128,28 +121,20 @@ fn list_front(
     )
 }
 
-// How a file is listed: by one line, or frame by frame with frames of so many bytes.
-#[derive(Clone, Copy)]
-enum Plan {
-    Single(Line),
-    Frames(usize),
-}
-
-// How a file is listed, by its length and its frames' length.
-fn plan_for(file: &[u8]) -> Plan
+// How a file is listed, by its length and its frames' length: frame by frame with frames of so many bytes, or by one line.
+fn plan_for(file: &[u8]) -> Result<usize, Line>
     ensures { plan_of result ≡ plan_for file.now }
 {
     if FILE < file.len() {
-        return Plan::Single(Line::TooLarge);
+        return Err(Line::TooLarge);
     }
-    let s = opening::frame_size(file);
-    match s {
-        Size::Refused(why) => Plan::Single(Line::Refused(why)),
-        Size::Bytes(n) => {
+    match opening::frame_size(file) {
+        Err(why) => Err(Line::Refused(why)),
+        Ok(n) => {
             if FRAME < n {
-                return Plan::Single(Line::TooLarge);
+                return Err(Line::TooLarge);
             }
-            Plan::Frames(n)
+            Ok(n)
         }
     }
 }
@@ -170,10 +155,9 @@ fn list_file(
         out.old result
         (record { a = a.new; b = b.new; map = map.new; work = work.new; rec = rec.new }) out.new }
 {
-    let p = plan_for(file);
-    match p {
-        Plan::Single(line) => put_line(out, 0, line),
-        Plan::Frames(n) => list_front(file, n, a, b, map, work, rec, out),
+    match plan_for(file) {
+        Err(line) => put_line(out, 0, line),
+        Ok(n) => list_front(file, n, a, b, map, work, rec, out),
     }
 }
 

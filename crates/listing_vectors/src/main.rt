@@ -1,27 +1,11 @@
 // Lists the outside vectors, 001.anim to 168.anim, each under its name.
 #![tactic(auto)]
 
-ghost use Rattle.std.specs.Prelude.{◌≤◌, length, IfOk};
-
+use input::read_full;
 use listing::list;
 use std::fs::File;
 use std::io;
-use std::io::{Read, Write};
-
-// Reads a file to its end, or until the buffer is full, and answers how many bytes were read.
-fn read_full(file: &mut File, buf: &mut [u8]) -> io::Result<usize>
-    ensures { IfOk result (λ n. n ≤ length buf.new) }
-{
-    let mut done = 0;
-    while done < buf.len() {
-        let n = file.read(&mut buf[done..])?;
-        if n == 0 {
-            break;
-        }
-        done += n;
-    }
-    Ok(done)
-}
+use std::io::Write;
 
 // Lists one file.
 fn show(rt: &HostRuntime, opened: &mut File) -> io::Result<()> {
@@ -47,21 +31,9 @@ fn show(rt: &HostRuntime, opened: &mut File) -> io::Result<()> {
 
 // Opens one file by its number and lists it.
 fn open(rt: &HostRuntime, number: u8) -> io::Result<()> {
-    let name = [
-        48 + number / 100,
-        48 + number / 10 % 10,
-        48 + number % 10,
-        b'.',
-        b'a',
-        b'n',
-        b'i',
-        b'm',
-    ];
-    let Ok(name) = str::from_utf8(&name) else {
-        return Err(io::Error::from(io::ErrorKind::InvalidInput));
-    };
+    let name = format!(in rt.alloc(); "{number:03}.anim")?;
     println!(rt; "{name}")?;
-    let mut file = File::open(rt, name)?;
+    let mut file = File::open(rt, &name)?;
     show(rt, &mut file)
 }
 

@@ -6,6 +6,7 @@ use mathlib.Core.List.{List}
 use mathlib.Core.Path.{◌≡◌, refl, ap, ◌∙◌}
 use lib.ListN.{length, take, replicate}
 use Rattle.laws.specs.Result.{Res.ok, Res.fault}
+use Rattle.refusal.specs.Number.{result_of}
 use Rattle.state.specs.State.{frame_bytes, zeros}
 use Rattle.state.specs.World.{World}
 use Rattle.bmhd.specs.declared.Header.{Header}
@@ -16,19 +17,19 @@ use Rattle.delta.specs.Reading.{Op}
 use Rattle.writer.specs.Write.{Writes}
 use Rattle.roundtrip.proofs.Calls.{delta_makes}
 use Rattle.opening.specs.declared.OpenedFile.{OpenedFile}
-use Rattle.opening.specs.Open.{Places, film_of, opening, opening_of, Opens, MeetsOpen}
+use Rattle.opening.specs.Open.{Places, film_of, opening, Opens, MeetsOpen}
 use Rattle.model.specs.Demands.{first_cmap, FreeFirst, first_dlta, first_ops, first_new, OpensAt}
 use Rattle.model.proofs.Demand2FirstLaws.{free_opening}
 
 module _ (file a b map : List ℕ) (r : OpenedFile) (a' b' map' : List ℕ) (m : MeetsOpen file a b map r (record { a = a'; b = b'; map = map'; state = r.state })) (p : Places) (z : Header) (h : FrameHeader)
     (f : FreeFirst file (length a) (length b) (length map) p z h) where
-  pub demand_2_first_refused : (n : ℕ) → first_ops file p z h ≡ fault n → (opening_of r.answer ≡ fault n) × (r.state ≡ zeros) × (a' ≡ a) × (b' ≡ b) × (map' ≡ map)
+  pub demand_2_first_refused : (n : ℕ) → first_ops file p z h ≡ fault n → (result_of r.answer ≡ fault n) × (r.state ≡ zeros) × (a' ≡ a) × (b' ≡ b) × (map' ≡ map)
   demand_2_first_refused n e =
       let q : opening file (length a) (length b) (length map) ≡ fault n = free_opening file (length a) (length b) (length map) p z h f ∙ rw e refl in
       let o : Opens (fault n) a b map r (record { a = a'; b = b'; map = map'; state = r.state }) = rw q at m in
       (o.answer, ap (λ (w : World). w.state) o.left, ap (λ (w : World). w.a) o.left, ap (λ (w : World). w.b) o.left, ap (λ (w : World). w.map) o.left)
 
-  pub demand_2_first_taken : (ops : List Op) → first_ops file p z h ≡ ok ops → OpensAt file p z.sizes (first_new file p z h ops) (opening_of r.answer) r.state a' b' map'
+  pub demand_2_first_taken : (ops : List Op) → first_ops file p z h ≡ ok ops → OpensAt file p z.sizes (first_new file p z h ops) (result_of r.answer) r.state a' b' map'
   demand_2_first_taken ops e =
       let F = film_of file p.end p.form.next (record { sizes = z.sizes; picture = first_new file p z h ops; map = coloured unset (first_cmap file p) }) in
       let q : opening file (length a) (length b) (length map) ≡ ok F = free_opening file (length a) (length b) (length map) p z h f ∙ rw e refl in
@@ -37,7 +38,7 @@ module _ (file a b map : List ℕ) (r : OpenedFile) (a' b' map' : List ℕ) (m :
 
   -- a delta that `writer::write` wrote for an all-zero picture and a new one opens as the new one
   pub demand_2_first_written : (new out out' : List ℕ) (n : ℕ) → Writes out (replicate (frame_bytes z.sizes) 0) new z.sizes (ok n) out' → h.items ≡ Bytes → first_dlta file p ≡ take n out'
-      → OpensAt file p z.sizes new (opening_of r.answer) r.state a' b' map'
+      → OpensAt file p z.sizes new (result_of r.answer) r.state a' b' map'
   demand_2_first_written new out out' n g i d =
       let t = delta_makes z.sizes (replicate (frame_bytes z.sizes) 0) new out n out' g in
       let e : first_ops file p z h ≡ ok t.0 = rw (i, d) t.1 in

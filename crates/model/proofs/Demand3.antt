@@ -6,16 +6,17 @@ use mathlib.Core.Path.{◌≡◌, refl, sym, ◌∙◌, ap}
 use lib.ListN.{length}
 use Rattle.laws.specs.Result.{Res.ok}
 use Rattle.laws.proofs.ResultLaws.{answered, each_is}
+use Rattle.refusal.specs.Number.{result_of}
 use Rattle.state.specs.World.{World}
 use Rattle.opening.specs.declared.OpenedFile.{OpenedFile}
-use Rattle.opening.specs.Open.{opening, world_opened, opening_of, MeetsOpen}
+use Rattle.opening.specs.Open.{opening, world_opened, MeetsOpen}
 use Rattle.model.specs.Model.{Call, Seen, stands, model_of}
 use Rattle.model.specs.Trace.{Trace}
 use Rattle.model.proofs.Opened.{opening_opened}
 use Rattle.model.proofs.Reached.{records, Reached.first}
 use Rattle.model.proofs.Demand3Laws.{from_there, opened_stands}
 
-pub demand_3 : (file a b map : List ℕ) (r : OpenedFile) (a' b' map' : List ℕ) → MeetsOpen file a b map r (record { a = a'; b = b'; map = map'; state = r.state }) → opening_of r.answer ≡ ok tt
+pub demand_3 : (file a b map : List ℕ) (r : OpenedFile) (a' b' map' : List ℕ) → MeetsOpen file a b map r (record { a = a'; b = b'; map = map'; state = r.state }) → result_of r.answer ≡ ok tt
     → (calls : List Call) (seen : List Seen) → Trace file (record { a = a'; b = b'; map = map'; state = r.state }) [] calls seen
     → model_of file calls ≡ ok (record { opened = record { a = a'; b = b'; map = map'; state = r.state }; seen = seen })
 unfolding model_of records

@@ -1,9 +1,11 @@
 -- What demands 1 and 2 speak of (document 01, "Refusal numbers", "Deltas" and "Opening, stepping on, stepping back", and document 02, E1 and
 -- E5 to E8).
-use Rattle.std.specs.Prelude.{ℕ, suc, ◌≤◌, true, false, List, [], ◌≡◌, eqb, length, take, replicate}
+use Rattle.std.specs.Prelude.{ℕ, suc, ◌≤◌, true, false, List, [], ◌≡◌, eqb, length, take, replicate, Result}
 use Rattle.std.proofs.Math.Option.{Option, none, some}
 use Rattle.laws.specs.Result.{Res, Res.ok, Res.fault, pick}
 use Rattle.laws.specs.Store.{with_front}
+use Rattle.refusal.specs.Number.{result_of}
+use Rattle.refusal.specs.declared.Refusal.{Refusal}
 use Rattle.state.specs.declared.Sizes.{Sizes}
 use Rattle.state.specs.State.{row_bytes, frame_bytes, zeros}
 use Rattle.state.specs.declared.State.{State}
@@ -24,13 +26,12 @@ use Rattle.runs.specs.Runs.{differing}
 use Rattle.record.specs.Record.{record_bytes}
 use Rattle.frame.specs.Frame.{Frame, frame_at}
 use Rattle.opening.specs.declared.OpenedFile.{OpenedFile}
-use Rattle.opening.specs.Open.{Places, first_places, first_header, opening_of, MeetsOpen}
+use Rattle.opening.specs.Open.{Places, first_places, first_header, MeetsOpen}
 use Rattle.step_on.specs.declared.SteppedOn.{SteppedOn}
 use Rattle.step_on.specs.Step.{ready, on_of, MeetsOn}
 use Rattle.step_back.specs.declared.SteppedBack.{SteppedBack}
 use Rattle.step_back.specs.Back.{back_of, MeetsBack}
-use Rattle.writer.specs.declared.Delta.{Delta}
-use Rattle.writer.specs.Write.{delta_of, Writes}
+use Rattle.writer.specs.Write.{Writes}
 use Rattle.model.specs.Model.{ops_counted}
 
 -- the number with which a step is refused, if it is
@@ -51,13 +52,13 @@ refusal_in (fault n) = some n
 pub data Met : Lent → Option ℕ → Lent → Type 0 where
   opens : (file a b map : List ℕ) (r : OpenedFile) (a' b' map' : List ℕ)
       → MeetsOpen file a b map r (record { a = a'; b = b'; map = map'; state = r.state })
-      → Met (lent a b map zeros [] []) (refusal_in (opening_of r.answer)) (lent a' b' map' r.state [] [])
+      → Met (lent a b map zeros [] []) (refusal_in (result_of r.answer)) (lent a' b' map' r.state [] [])
   steps_on : (file : List ℕ) (l : Lent) (r : SteppedOn) (a b map work rec : List ℕ) → MeetsOn file l r (lent a b map r.state work rec)
       → Met l (refusal_of (on_of r.answer)) (lent a b map r.state work rec)
   steps_back : (w : World) (bytes : List ℕ) (r : SteppedBack) (a b map : List ℕ) → MeetsBack w bytes r (record { a = a; b = b; map = map; state = r.state })
       → Met (record { world = w; work = []; rec = [] }) (refusal_of (back_of r.answer)) (lent a b map r.state [] [])
-  writes : (w : World) (z : Sizes) (old new out : List ℕ) (d : Delta) (out' : List ℕ) → Writes out old new z (delta_of d) out'
-      → Met (record { world = w; work = []; rec = out }) (refusal_in (delta_of d)) (record { world = w; work = []; rec = out' })
+  writes : (w : World) (z : Sizes) (old new out : List ℕ) (d : Result ℕ Refusal) (out' : List ℕ) → Writes out old new z (result_of d) out'
+      → Met (record { world = w; work = []; rec = out }) (refusal_in (result_of d)) (record { world = w; work = []; rec = out' })
 
 -- what a call refused with n leaves: neither picture, nor the map, nor the state, nor the record buffer is changed, nor the work
 -- buffer unless n is 51

@@ -5,16 +5,16 @@ use native.Mathlib.Omega.{arith}
 use mathlib.Core.List.{List, [], ◌∷◌, ◌++◌}
 use mathlib.Core.Logic.{inr}
 use mathlib.Core.Option.{none, some}
-use mathlib.Core.Path.{◌≡◌, refl, sym, ap, subst, ◌∙◌}
+use mathlib.Core.Path.{◌≡◌, refl, sym, ap, ◌∙◌}
 use lib.Dec.{lit<}
 use lib.ListN.{length, drop, length-drop}
 use lib.Seq.{sets}
 use borrow.Author.Tests.{le-leb, lt-leb}
 use Rattle.laws.specs.Bytes.{Bytes}
 use Rattle.laws.proofs.BytesLaws.{bytes_drop}
-use Rattle.number.specs.Number.{Value, read_number, write_number, read_of, Within, ReadAt, fits, after, laid}
-use Rattle.number.specs.declared.Parsed.{Parsed}
-use Rattle.number.specs.declared.Parsed.TheVariants.{Number, Malformed}
+use Rattle.number.specs.Number.{Value, read_number, write_number, ReadAt, fits, after, laid}
+use Rattle.std.specs.Prelude.{Some, None}
+use Rattle.number.specs.declared.Number.{Number}
 use Rattle.number.proofs.GroupLaws.{last_written, more_written, groups_most, groups_short, groups_few, high_below, Encoded, encoded, encoded_is, wider, encoded_length, read_back, Decoded, decoded, Front, decoded_front, decoded_taken}
 
 -- one group of a number that is written
@@ -98,12 +98,10 @@ pub record Found (s : List ℕ) (at value next : ℕ) : Type 0 where
   pub inside : next ≤ length s
   pub small : value < 2 ^ 32
 
-pub number_found : {s : List ℕ} {at value next : ℕ} {r : Parsed} → ReadAt s at r → r ≡ Number value next → Found s at value next
-number_found {s} {at} {value} {next} w e =
-    let is : some (record { value = value; rest = drop next s }) ≡ read_number (drop at s) = subst (λ (x : Parsed). read_of s x ≡ read_number (drop at s)) e w.is in
-    let inside : next ≤ length s = subst (Within s) e w.within in
-    let front = read_front (drop at s) (record { value = value; rest = drop next s }) (sym is) in
-    record { is = sym is; later = omega (arith, length-drop next s, length-drop at s, front.shorter); inside = inside; small = front.small }
+pub number_found : {s : List ℕ} {at : ℕ} {n : Number} → ReadAt s at (Some n) → Found s at n.value n.next
+number_found {s} {at} {n} w =
+    let front = read_front (drop at s) (record { value = n.value; rest = drop n.next s }) (sym w.is) in
+    record { is = sym w.is; later = omega (arith, w.within, length-drop n.next s, length-drop at s, front.shorter); inside = w.within; small = front.small }
 
-pub none_found : {s : List ℕ} {at : ℕ} {r : Parsed} → ReadAt s at r → r ≡ Malformed → read_number (drop at s) ≡ none
-none_found {s} {at} w e = sym (subst (λ (x : Parsed). read_of s x ≡ read_number (drop at s)) e w.is)
+pub none_found : {s : List ℕ} {at : ℕ} → ReadAt s at None → read_number (drop at s) ≡ none
+none_found w = sym w.is

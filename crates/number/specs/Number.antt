@@ -1,13 +1,10 @@
 -- The numbers of a record (document 01, "Opening, stepping on, stepping back"): groups of seven bits, low group first, top bit set
 -- on all but the last group, shortest form only, below 2^32.
-use Rattle.std.specs.Prelude.{ℕ, zero, suc, ◌+◌, ◌-◌, ◌*◌, ◌/◌, ◌%◌, ◌^◌, ◌≤◌, Bool, true, false, List, [], ◌∷◌, ◌≡◌, ltb, leb, eqb, length, drop}
+use Rattle.std.specs.Prelude.{ℕ, zero, suc, ◌+◌, ◌-◌, ◌*◌, ◌/◌, ◌%◌, ◌^◌, ◌≤◌, Bool, true, false, List, [], ◌∷◌, ◌≡◌, ltb, leb, eqb, length, drop, Option as Answer, Some, None}
 use Rattle.std.proofs.Math.Option.{Option, none, some}
 use Rattle.std.proofs.lemmas.List.Edits.{sets}
 use Rattle.laws.specs.Result.{pick, ◌>>?◌, given}
-use Rattle.number.specs.declared.Parsed.{Parsed}
-use Rattle.number.specs.declared.Parsed.TheVariants.{Number, Malformed}
-use Rattle.number.specs.declared.Written.{Written}
-use Rattle.number.specs.declared.Written.TheVariants.{Next, NoRoom}
+use Rattle.number.specs.declared.Number.{Number}
 
 -- a number that was read, and the bytes after it
 pub record Value : Type 0 where
@@ -40,19 +37,18 @@ write_groups (suc k) n = elim (ltb n 128) [ true ↦ n ∷ [] | false ↦ (128 +
 unfoldable pub write_number : ℕ → List ℕ
 write_number n = write_groups 4 n
 
--- an answer's value and the bytes after it, which are those from the next place on; Malformed is none, and a record's reader
--- makes 61 of it
-abbrev pub read_of : List ℕ → Parsed → Option Value
-read_of s (Number value next) = some (record { value = value; rest = drop next s })
-read_of s Malformed = none
+-- an answer's value and the bytes after it, which are those from the next place on; of None a record's reader makes 61
+abbrev pub read_of : List ℕ → Answer Number → Option Value
+read_of s (Some n) = some (record { value = n.value; rest = drop n.next s })
+read_of s None = none
 
 -- the next place lies in s, or at its end
-abbrev pub Within : List ℕ → Parsed → Type 0
-Within s (Number value next) = next ≤ length s
-Within s Malformed = Unit
+abbrev pub Within : List ℕ → Answer Number → Type 0
+Within s (Some n) = n.next ≤ length s
+Within s None = Unit
 
 -- what reading at a place of s answers
-pub record ReadAt (s : List ℕ) (at : ℕ) (r : Parsed) : Type 0 where
+pub record ReadAt (s : List ℕ) (at : ℕ) (r : Answer Number) : Type 0 where
   pub is : read_of s r ≡ read_number (drop at s)
   pub within : Within s r
 
@@ -68,7 +64,7 @@ laid out at bytes = pick (fits out at bytes) (sets out at bytes) out
 unfoldable pub after : List ℕ → ℕ → List ℕ → Option ℕ
 after out at bytes = pick (fits out at bytes) (some (at + length bytes)) none
 
--- an answer's place; NoRoom is none, which a record's writer never comes to, since it gives 51 first
-abbrev pub written_of : Written → Option ℕ
-written_of (Next at) = some at
-written_of NoRoom = none
+-- an answer's place; None is none, which a record's writer never comes to, since it gives 51 first
+abbrev pub written_of : Answer ℕ → Option ℕ
+written_of (Some at) = some at
+written_of None = none

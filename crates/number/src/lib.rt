@@ -5,66 +5,55 @@ ghost use Rattle.std.specs.Prelude.{◌≡◌, ◌+◌, ◌≤◌, length};
 ghost use Rattle.std.proofs.lemmas.List.Edits.{sets};
 ghost use Rattle.number.specs.Number.{ReadAt, write_number, laid, after, written_of};
 
-// What stands at a place: a number below 2^32 and the place after it, or no well-formed number.
-#[derive(Clone, Copy)]
-pub enum Parsed {
-    Number { value: usize, next: usize },
-    Malformed,
+// What stands at a place: a number below 2^32, and the place after it.
+#[derive(Clone, Copy, Debug, PartialEq, Eq)]
+pub struct Number {
+    pub value: usize,
+    pub next: usize,
 }
 
-// The place after a number that was written, or that it doesn't fit.
-#[derive(Clone, Copy)]
-pub enum Written {
-    Next(usize),
-    NoRoom,
-}
-
-// The number at a place of s, group by group.
-fn read_groups(s: &[u8], at: usize) -> Parsed
+// The number at a place of s, group by group, or None if it isn't well-formed.
+fn read_groups(s: &[u8], at: usize) -> Option<Number>
     ensures { ReadAt s.now at result }
 {
-    let mut i = at;
     let mut weight: usize = 1;
     let mut sum: usize = 0;
-    let mut left: usize = 5;
-    while 0 < left {
+    for k in 0..5 {
+        let i = at + k;
         if s.len() <= i {
-            return Parsed::Malformed;
+            return None;
         }
         let b = s[i] as usize;
-        i += 1;
         if b < 128 {
             let value = sum + weight * b;
             if 4294967296 <= value {
-                return Parsed::Malformed;
+                return None;
             }
-            if weight != 1 {
-                if b == 0 {
-                    return Parsed::Malformed;
-                }
+            let empty = b == 0;
+            if empty && weight != 1 {
+                return None;
             }
-            return Parsed::Number { value, next: i };
+            return Some(Number { value, next: i + 1 });
         }
         sum += weight * (b - 128);
         weight *= 128;
-        left -= 1;
     }
-    Parsed::Malformed
+    None
 }
 
-// The number at a place of s. Most numbers have one byte, which is the value.
-pub fn read(s: &[u8], at: usize) -> Parsed
+// The number at a place of s, or None if it isn't well-formed. Most numbers have one byte, which is the value.
+pub fn read(s: &[u8], at: usize) -> Option<Number>
     ensures { ReadAt s.now at result }
 {
     if s.len() <= at {
-        return Parsed::Malformed;
+        return None;
     }
     let first = s[at] as usize;
     if first < 128 {
-        return Parsed::Number {
+        return Some(Number {
             value: first,
             next: at + 1,
-        };
+        });
     }
     read_groups(s, at)
 }
@@ -95,6 +84,7 @@ fn write_groups(out: &mut [u8], at: usize, n: u32) -> usize
 {
     let mut i = at;
     let mut rest = n;
+    // Kept: a number has as many groups as it needs, so that no range says how often this loop turns.
     while 128 <= rest {
         out[i] = (128 + rest % 128) as u8;
         rest /= 128;
@@ -104,15 +94,15 @@ fn write_groups(out: &mut [u8], at: usize, n: u32) -> usize
     i + 1
 }
 
-// Writes a number at a place of out, if it fits there; else out stays as it is.
-pub fn write(out: &mut [u8], at: usize, n: u32) -> Written
+// Writes a number at a place of out, if it fits there, and answers the place after it; else out stays as it is.
+pub fn write(out: &mut [u8], at: usize, n: u32) -> Option<usize>
     ensures { (written_of result ≡ after out.old at (write_number n)) × (out.new ≡ laid out.old at (write_number n)) }
 {
     if out.len() < at {
-        return Written::NoRoom;
+        return None;
     }
     if out.len() - at < written_length(n) {
-        return Written::NoRoom;
+        return None;
     }
-    Written::Next(write_groups(out, at, n))
+    Some(write_groups(out, at, n))
 }

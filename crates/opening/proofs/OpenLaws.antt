@@ -11,7 +11,7 @@ use lib.ListN.{length, take, drop, replicate, length-replicate}
 use lib.Seq.{length-take-le}
 use borrow.Author.Tests.{eq-eqb, ne_eqb, le-leb, lt-leb, leb-true, eqb-true}
 use Rattle.laws.specs.Result.{Res, Res.ok, Res.fault, ◌>>=◌, need, or_refuse, pick, answer, or_keep}
-use Rattle.laws.proofs.ResultLaws.{Each, Each.each, Each.no_value, All, told, answer_refused, answered, each_any, each_self, each_map, each_need, each_bind, each_is, all_value}
+use Rattle.laws.proofs.ResultLaws.{Each, Each.each, Each.no_value, All, told, answer_refused, answered, each_any, each_self, each_map, each_need, each_bind, each_is, each_some, all_value, never}
 use Rattle.refusal.specs.Number.{number_of}
 use Rattle.refusal.specs.declared.Refusal.{Refusal}
 use Rattle.refusal.specs.declared.Refusal.TheVariants.{BadColours}
@@ -24,7 +24,7 @@ use Rattle.state.proofs.StateLaws.{sizes_sound}
 use Rattle.state.specs.Film.{Film}
 use Rattle.iff.specs.Ids.{BMHD, BODY, CMAP, ANHD, DLTA}
 use Rattle.iff.specs.Chunk.{has, contents}
-use Rattle.form.specs.Form.{FormIlbm, chunks_of, anim_end, next_form}
+use Rattle.form.specs.Form.{FormIlbm, chunks_of, anim_end, next_form, form_of}
 use Rattle.form.proofs.FormLaws.{Closes, Follows, anim_closes, form_follows}
 use Rattle.bmhd.specs.declared.Header.{Header}
 use Rattle.bmhd.specs.Header.{bitmap_header}
@@ -39,12 +39,12 @@ use Rattle.delta.specs.Delta.{read_delta, new_frame, Applies}
 use Rattle.delta.proofs.DeltaLaws.{draw_length}
 use Rattle.delta.proofs.ApplyLaws.{frame_delta, new_refused, new_drawn}
 use Rattle.state.specs.declared.Sizes.{Sizes}
-use Rattle.opening.specs.declared.Opening.TheVariants.{Opened, Refused}
+use Rattle.std.specs.Prelude.{Ok, Err, Some, None, ok_or}
+use Rattle.std.specs.Prelude as Lib
+use Rattle.form.specs.declared.Ilbm.{Ilbm}
 use Rattle.opening.specs.declared.OpenedFile.{OpenedFile}
-use Rattle.opening.specs.declared.picture.Filled.{Filled}
-use Rattle.opening.specs.declared.picture.Filled.TheVariants.{Done, Refused as NotFilled}
 use Rattle.opening.specs.Open.{Places, body_in, places_in, first_places, first_header, frame_size, first_delta, first_body, first_picture, first_map, First, first_of, opening, Opens}
-use Rattle.opening.specs.Parts.{OpensFirst, filled_of, Fills}
+use Rattle.opening.specs.Parts.{OpensFirst, Fills}
 
 -- the walk through FORM ANIM
 module _ (s : List ℕ) where
@@ -65,6 +65,15 @@ module _ (s : List ℕ) where
         → places_in s ≡ ok (record { end = length s; form = record { start = start; size = size; next = nx }; body = t })
     unfolding places_in
     form_given h = rw e (rw (rw (add-sub_cancel_left start size) at h))
+
+-- a FORM that was found lies within FORM ANIM
+pub form_inside : (s : List ℕ) (from : ℕ) (o : Lib.Option Ilbm) {form : Ilbm} (why : Refusal) → form_of (Ok o) ≡ next_form s from → Ok form ≡ ok_or o why → form.start + form.len ≤ length s
+form_inside s from (Some x) {form} why e k =
+    let h : x ≡ form = cc in
+    let f : Follows s from (record { start = x.start; size = x.len; next = x.next }) = each_some (sym e) (form_follows s from) in
+    let i : x.start + x.len ≤ length s = omega (arith, f.holds, f.ends) in
+    rw h at i
+form_inside s from None why e k = never (cc)
 
 -- the walk through the file
 module _ (file : List ℕ) where
@@ -120,22 +129,22 @@ module _ (file : List ℕ) where
   size_header e i k = rw e (rw (rw i at k))
 
 -- a refused opening
-opens_refused : {q : Res Film} {why : Refusal} {r : OpenedFile} {a b map : List ℕ} → q ≡ fault (number_of why) → r ≡ record { answer = Refused why; state = zeros }
+opens_refused : {q : Res Film} {why : Refusal} {r : OpenedFile} {a b map : List ℕ} → q ≡ fault (number_of why) → r ≡ record { answer = Err why; state = zeros }
     → Opens q a b map r (record { a = a; b = b; map = map; state = r.state })
 opens_refused e h = rw (e, h) (record { answer = refl; left = refl })
 
-pub first_refused : {end start : ℕ} {q : Res First} {why : Refusal} {r : OpenedFile} {a b map a' : List ℕ} → q ≡ fault (number_of why) → r ≡ record { answer = Refused why; state = zeros } → a' ≡ a
+pub first_refused : {end start : ℕ} {q : Res First} {why : Refusal} {r : OpenedFile} {a b map a' : List ℕ} → q ≡ fault (number_of why) → r ≡ record { answer = Err why; state = zeros } → a' ≡ a
     → OpensFirst q start end a b map r (record { a = a'; b = b; map = map; state = r.state })
 first_refused e h l = rw l (record { opens = λ file. opens_refused (rw e) h })
 
 -- an opening that is taken
 pub first_opened : {end start : ℕ} {q : Res First} {p : First} {s : State} {a b map a' b' map' : List ℕ} → q ≡ ok p → s ≡ opened p.sizes start end
-    → a' ≡ p.picture → b' ≡ p.picture → map' ≡ p.map → OpensFirst q start end a b map (record { answer = Opened; state = s }) (record { a = a'; b = b'; map = map'; state = s })
+    → a' ≡ p.picture → b' ≡ p.picture → map' ≡ p.map → OpensFirst q start end a b map (record { answer = Ok tt; state = s }) (record { a = a'; b = b'; map = map'; state = s })
 first_opened e h l m n = rw (e, h, l, m, n) (record { opens = λ file. record { answer = refl; left = refl } })
 
 -- a file that is opened
 module _ (file a b map : List ℕ) where
-  pub opens_nowhere : {why : Refusal} {r : OpenedFile} → first_places file ≡ fault (number_of why) → r ≡ record { answer = Refused why; state = zeros }
+  pub opens_nowhere : {why : Refusal} {r : OpenedFile} → first_places file ≡ fault (number_of why) → r ≡ record { answer = Err why; state = zeros }
       → Opens (opening file (length a) (length b) (length map)) a b map r (record { a = a; b = b; map = map; state = r.state })
   unfolding opening
   opens_nowhere e h = opens_refused (rw e) h
@@ -190,59 +199,52 @@ module _ (s : List ℕ) (t : Bool) (a b map : ℕ) where
           first_taken x y k h = let w = answered (first_picture s t z) (sym k) in rw (first_is, h, w.1)
 
 -- what filling A comes to
-pub fills_kept : {q : Res (List ℕ)} {a a' : List ℕ} {r : Filled} {why : Refusal} → Fills q a r a' → r ≡ NotFilled why → a' ≡ a
-fills_kept {q} d e = rw (answer_refused q (told filled_of d.answer e)) at d.left
+pub fills_kept : {q : Res (List ℕ)} {a a' : List ℕ} {n : ℕ} → Fills q a (fault n) a' → a' ≡ a
+fills_kept {q} d = rw (answer_refused q (sym d.answer)) at d.left
 
-fills_refused : {q : Res (List ℕ)} {a a' : List ℕ} {why : Refusal} → q ≡ fault (number_of why) → a' ≡ a → Fills q a (NotFilled why) a'
+fills_refused : {q : Res (List ℕ)} {a a' : List ℕ} {n : ℕ} → q ≡ fault n → a' ≡ a → Fills q a (fault n) a'
 fills_refused e l = rw (e, l) (record { answer = refl; left = refl })
 
-fills_done : {q : Res (List ℕ)} {a a' : List ℕ} → q ≡ ok a' → Fills q a Done a'
+fills_done : {q : Res (List ℕ)} {a a' : List ℕ} → q ≡ ok a' → Fills q a (ok tt) a'
 fills_done e = rw e (record { answer = refl; left = refl })
 
 -- a BODY that is unpacked
 module _ (packed : Bool) (z : Sizes) (c d a : List ℕ) where
-  pub body_uncoloured : good_length (length c) ≡ false → Fills (first_body c d z packed) a (NotFilled BadColours) a
+  pub body_uncoloured : {n : ℕ} → fault n ≡ answer (colours c) → Fills (first_body c d z packed) a (fault n) a
   unfolding first_body
-  body_uncoloured g = fills_refused (rw (colours_bad c g)) refl
+  body_uncoloured g = fills_refused (rw (answer_refused (colours c) (sym g))) refl
 
-  module _ (e : frame_length z ≡ ok (length a)) (g : good_length (length c) ≡ true) where
+  module _ (e : frame_length z ≡ ok (length a)) (g : ok tt ≡ answer (colours c)) where
     body_is : first_body c d z packed ≡ unpack (length a) d z packed
     unfolding first_body
-    body_is = rw (colours_good c g) (sym (picture_body packed z d (length a) e refl))
+    body_is = rw (answered (colours c) g).1 (sym (picture_body packed z d (length a) e refl))
 
-    pub body_bad : {why : Refusal} {p : List ℕ} → answer (unpack (length a) d z packed) ≡ fault (number_of why) → p ≡ or_keep a (unpack (length a) d z packed) → Fills (first_body c d z packed) a (NotFilled why) p
-    body_bad q l =
-        let k : unpack (length a) d z packed ≡ fault _ = answer_refused (unpack (length a) d z packed) q in
-        fills_refused (body_is ∙ k) (rw k at l)
-
-    pub body_done : {p : List ℕ} → answer (unpack (length a) d z packed) ≡ ok tt → p ≡ or_keep a (unpack (length a) d z packed) → Fills (first_body c d z packed) a Done p
-    body_done q l =
-        let k = answered (unpack (length a) d z packed) (sym q) in
-        fills_done (body_is ∙ rw (l, k.1) refl)
+    pub body_unpacked : {r : Res (Unit {0})} {p : List ℕ} → r ≡ answer (unpack (length a) d z packed) → p ≡ or_keep a (unpack (length a) d z packed) → Fills (first_body c d z packed) a r p
+    body_unpacked q l = rw body_is (record { answer = q; left = l })
 
 -- a delta that is drawn into zeros
 module _ (h c d : List ℕ) (z : Sizes) (a : List ℕ) where
-  pub delta_unread : {why : Refusal} → frame_header true (row_bytes z.width) h ≡ fault (number_of why) → Fills (first_delta h c d z) a (NotFilled why) a
+  pub delta_unread : {n : ℕ} → frame_header true (row_bytes z.width) h ≡ fault n → Fills (first_delta h c d z) a (fault n) a
   unfolding first_delta
   delta_unread q = fills_refused (rw q) refl
 
   module _ {x : FrameHeader} (q : frame_header true (row_bytes z.width) h ≡ ok x) where
-    pub delta_uncoloured : good_length (length c) ≡ false → Fills (first_delta h c d z) a (NotFilled BadColours) a
+    pub delta_uncoloured : {n : ℕ} → fault n ≡ answer (colours c) → Fills (first_delta h c d z) a (fault n) a
     unfolding first_delta
-    delta_uncoloured g = fills_refused (rw q (rw (colours_bad c g))) refl
+    delta_uncoloured g = fills_refused (rw (q, answer_refused (colours c) (sym g))) refl
 
-    module _ (e : frame_length z ≡ ok (length a)) (g : good_length (length c) ≡ true) where
+    module _ (e : frame_length z ≡ ok (length a)) (g : ok tt ≡ answer (colours c)) where
       delta_is : first_delta h c d z ≡ new_frame (length a) (replicate (length a) 0) d z x.items
       unfolding first_delta new_frame
       delta_is =
           let n : length a ≡ frame_bytes z = (each_is e (sizes_sound z)).length in
           let k = frame_delta z x.items d (length (replicate {A = ℕ} (length a) 0)) (length a) e (length-replicate {A = ℕ} (length a) 0) refl (each_is q (header_read true (row_bytes z.width) h)).columns in
-          rw q (rw (colours_good c g) (rw (k, n) refl))
+          rw q (rw (answered (colours c) g).1 (rw (k, n) refl))
 
-      pub delta_bad : {why : Refusal} {p : List ℕ} → Applies a (replicate (length a) 0) d z x.items (fault (number_of why)) p → Fills (first_delta h c d z) a (NotFilled why) p
+      pub delta_bad : {n : ℕ} {p : List ℕ} → Applies a (replicate (length a) 0) d z x.items (fault n) p → Fills (first_delta h c d z) a (fault n) p
       delta_bad w = let k = new_refused w in fills_refused (delta_is ∙ k) (rw k at w.leaves)
 
-      pub delta_done : {n : ℕ} {p : List ℕ} → Applies a (replicate (length a) 0) d z x.items (ok n) p → Fills (first_delta h c d z) a Done p
+      pub delta_done : {n : ℕ} {p : List ℕ} → Applies a (replicate (length a) 0) d z x.items (ok n) p → Fills (first_delta h c d z) a (ok tt) p
       delta_done w = fills_done (delta_is ∙ new_drawn w)
 
 -- a first picture of n bytes, the length of a frame of its sizes, with a map as long as all are

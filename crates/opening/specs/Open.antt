@@ -2,9 +2,9 @@
 -- 22, 21 for the outer length, 21 or 23 as chunks are walked, a frame walked whole before 23; 31 with neither a BODY nor an ANHD; 24 and 12;
 -- then 37 and 25 for a BODY, or 32, 33, 35, 36, 37 and the delta's refusals. Without a BODY the first picture is what its delta makes of an
 -- all-zero one. The map is cleared, and gets the colours of the first picture's CMAP.
-use Rattle.std.specs.Prelude.{ℕ, Bool, true, false, List, ◌≡◌, leb, eqb, length, take, replicate}
+use Rattle.std.specs.Prelude.{ℕ, Bool, true, false, List, ◌≡◌, leb, eqb, length, take, replicate, Result, Ok, Err}
 use Rattle.laws.specs.Result.{Res, Res.ok, Res.fault, ◌>>=◌, need, or_refuse, pick, answer}
-use Rattle.refusal.specs.Number.{number_of}
+use Rattle.refusal.specs.Number.{result_of}
 use Rattle.state.specs.State.{row_bytes, frame_bytes, opened, zeros}
 use Rattle.state.specs.World.{World}
 use Rattle.state.specs.Film.{Film}
@@ -19,11 +19,9 @@ use Rattle.anhd.specs.Anhd.{frame_header}
 use Rattle.delta.specs.Reading.{shape_of}
 use Rattle.delta.specs.Delta.{read_delta, draw}
 use Rattle.colours.specs.Colours.{MAP, unset, colours, coloured}
-use Rattle.opening.specs.declared.Opening.{Opening}
-use Rattle.opening.specs.declared.Opening.TheVariants.{Opened, Refused}
 use Rattle.opening.specs.declared.OpenedFile.{OpenedFile}
-use Rattle.opening.specs.declared.Size.{Size}
-use Rattle.opening.specs.declared.Size.TheVariants.{Bytes, Refused as SizeRefused}
+use Rattle.refusal.specs.declared.Refusal.{Refusal}
+use Rattle.state.specs.declared.State.{State}
 
 -- where the first picture stands: the end place of FORM ANIM, the first FORM ILBM in it, and whether that has a BODY
 pub record Places : Type 0 where
@@ -121,18 +119,14 @@ abbrev pub world_opened : (a b map : List ℕ) → Res Film → World
 world_opened a b map (ok F) = record { a = F.first; b = F.first; map = F.map; state = opened F.sizes F.start F.end }
 world_opened a b map (fault n) = record { a = a; b = b; map = map; state = zeros }
 
--- what the answers say in the paper's terms
-abbrev pub opening_of : Opening → Res (Unit {0})
-opening_of Opened = ok tt
-opening_of (Refused why) = fault (number_of why)
-
-abbrev pub size_of : Size → Res ℕ
-size_of (Bytes n) = ok n
-size_of (SizeRefused why) = fault (number_of why)
+-- the answer and the state after an opening that comes to a state: six zeros where it is refused
+abbrev pub opened_file : Result State Refusal → OpenedFile
+opened_file (Ok s) = record { answer = Ok tt; state = s }
+opened_file (Err why) = record { answer = Err why; state = zeros }
 
 -- what an opening answers and leaves, where it comes to q
 pub record Opens (q : Res Film) (a b map : List ℕ) (r : OpenedFile) (w : World) : Type 0 where
-  pub answer : opening_of r.answer ≡ answer q
+  pub answer : result_of r.answer ≡ answer q
   pub left : w ≡ world_opened a b map q
 
 -- the contract of opening

@@ -8,18 +8,22 @@ use lib.Seq.{sets}
 use Rattle.laws.proofs.ResultLaws.{none_some, some_same}
 use Rattle.number.specs.Number.{after, laid, written_of}
 use Rattle.number.proofs.NumberLaws.{fitting}
-use Rattle.number.specs.declared.Written.{Written}
-use Rattle.number.specs.declared.Written.TheVariants.{Next, NoRoom}
+use Rattle.std.specs.Prelude.{Option as Answer, Some, None, IsSome}
+use Rattle.std.proofs.Common.{rules}
 use Rattle.laws.specs.Put.{Put}
 use Rattle.laws.proofs.PutLaws.{put_is}
 
 -- a number that fits is written
-module _ (out : List ℕ) (at : ℕ) (bytes out' : List ℕ) (r : Written) (h : at + length bytes ≤ length out) (w : (written_of r ≡ after out at bytes) × (out' ≡ laid out at bytes)) where
+module _ (out : List ℕ) (at : ℕ) (bytes out' : List ℕ) (r : Answer ℕ) (h : at + length bytes ≤ length out) (w : (written_of r ≡ after out at bytes) × (out' ≡ laid out at bytes)) where
   fits : (some (at + length bytes) ≡ after out at bytes) × (sets out at bytes ≡ laid out at bytes)
   fits = fitting out at bytes h (refl, refl)
 
-  pub put_next : (next : ℕ) → r ≡ Next next → Put out at bytes out' next
+  pub put_next : (next : ℕ) → r ≡ Some next → Put out at bytes out' next
   put_next next e = put_is (some_same (sym (ap written_of e) ∙ w.0 ∙ sym fits.0)) (w.1 ∙ sym fits.1)
 
-  pub put_fits : {A : Type 0} → r ≡ NoRoom → A
-  put_fits e = none_some (sym (ap written_of e) ∙ w.0 ∙ sym fits.0)
+  pub put_some : IsSome r
+  put_some = go r (w.0 ∙ sym fits.0)
+    where
+      go : (r : Answer ℕ) → written_of r ≡ some (at + length bytes) → IsSome r
+      go (Some next) e = search rules
+      go None e = none_some e

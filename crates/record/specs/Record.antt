@@ -1,7 +1,7 @@
 -- The step record (document 01, "Opening, stepping on, stepping back", and document 02, E6): the frame number reached, the next place before
 -- the step, the run list of the hidden picture before and after, and that of the map before and after. It depends on the two numbers, the two
 -- pictures and the two maps only.
-use Rattle.std.specs.Prelude.{ℕ, ◌*◌, List, ◌++◌, ◌≡◌, leb, ltb, eqb, length}
+use Rattle.std.specs.Prelude.{ℕ, ◌*◌, List, ◌++◌, ◌≡◌, leb, ltb, eqb, length, Result, Ok, Err}
 use Rattle.std.proofs.Math.Option.{Option, some}
 use Rattle.laws.specs.Result.{Res, Res.ok, Res.fault, ◌>>=◌, need, or_refuse, leaves, ◌>>?◌, given}
 use Rattle.laws.specs.Store.{with_front}
@@ -11,7 +11,7 @@ use Rattle.colours.specs.Colours.{MAP, coloured}
 use Rattle.runs.specs.Runs.{runs_of, differing}
 use Rattle.record.specs.RunList.{list_bytes, before_of}
 use Rattle.record.specs.declared.Recorded.{Recorded}
-use Rattle.record.specs.declared.Recorded.TheVariants.{Written, Refused}
+use Rattle.refusal.specs.declared.Refusal.{Refusal}
 
 -- the picture part of a record: the two numbers, and the run list of the picture
 unfoldable pub picture_bytes : ℕ → ℕ → List ℕ → List ℕ → List ℕ
@@ -78,6 +78,6 @@ restored bytes shown map frame next =
     ok p
 
 -- what the answer says in the paper's terms
-abbrev pub recorded_of : Recorded → Res Measure
-recorded_of (Written length changed) = ok (record { length = length; changed = changed })
-recorded_of (Refused why) = fault (number_of why)
+abbrev pub recorded_of : Result Recorded Refusal → Res Measure
+recorded_of (Ok r) = ok (record { length = r.length; changed = r.changed })
+recorded_of (Err why) = fault (number_of why)

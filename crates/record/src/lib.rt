@@ -18,13 +18,13 @@ use changes::{Counts, count};
 use colours::MAP;
 use copies::{copy, copy_long};
 use refusal::Refusal;
-use runs::{Change, next_run};
+use runs::next_run;
 
 // A record that was written: its length, and how many bytes of the picture changed.
-#[derive(Clone, Copy)]
-pub enum Recorded {
-    Written { length: usize, changed: usize },
-    Refused(Refusal),
+#[derive(Clone, Copy, Debug, PartialEq, Eq)]
+pub struct Recorded {
+    pub length: usize,
+    pub changed: usize,
 }
 
 // How many bytes a run is written in.
@@ -42,16 +42,11 @@ fn measure(old: &[u8], new: &[u8]) -> usize
 {
     let mut at = 0;
     let mut bytes = 0;
-    loop {
-        let c = next_run(old, new, at);
-        match c {
-            Change::Nothing => return bytes,
-            Change::Run { gap, count } => {
-                bytes += run_length(gap, count);
-                at += gap + count;
-            }
-        }
+    while let Some(run) = next_run(old, new, at) {
+        bytes += run_length(run.gap, run.count);
+        at += run.gap + run.count;
     }
+    bytes
 }
 
 // Whether the runs of two pictures, which were counted, are written in at most room bytes. They are measured only if that is in doubt:
@@ -71,15 +66,11 @@ fn put_number(out: &mut [u8], at: usize, n: u32) -> usize
     requires { at + length (write_number n) ≤ length out.old }
     ensures { Put out.old at (write_number n) out.new result }
 {
-    let w = number::write(out, at, n);
-    match w {
-        number::Written::Next(next) => next,
-        number::Written::NoRoom => at,
-    }
+    number::write(out, at, n).unwrap()
 }
 
-// Copies count bytes from a place of src to a place of dst, if they are wanted. Unlike `copies::copy_part` it
-// compares no lengths: a step with few changes would take longer.
+// Copies count bytes from a place of src to a place of dst, if they are wanted.
+// Kept: beside `copies::copy_part`, which compares lengths, so that a step with few changes would take longer.
 fn replace(dst: &mut [u8], to: usize, src: &[u8], from: usize, count: usize, wanted: bool)
     requires { (to + count ≤ length dst.old) × (from + count ≤ length src.now) }
     ensures { dst.new ≡ pick wanted (sets dst.old to (take count (drop from src.now))) dst.old }
@@ -118,22 +109,18 @@ fn put_runs(out: &mut [u8], from: usize, old: &mut [u8], new: &[u8], commit: boo
 {
     let mut at = 0;
     let mut place = from;
-    loop {
-        let c = next_run(old, new, at);
-        match c {
-            Change::Nothing => return place,
-            Change::Run { gap, count } => {
-                let start = at + gap;
-                let end = start + count;
-                place = put_run(out, place, gap, old, start, count);
-                replace(old, start, new, start, count, commit);
-                at = end;
-            }
-        }
+    while let Some(run) = next_run(old, new, at) {
+        let start = at + run.gap;
+        let end = start + run.count;
+        place = put_run(out, place, run.gap, old, start, run.count);
+        replace(old, start, new, start, run.count, commit);
+        at = end;
     }
+    place
 }
 
 // Writes the run list of two buffers, whose runs were counted, at a place of out where it fits.
+// Kept: the old and the new buffer as parameters here and below, since a struct of them needs a clause that the old one stays the same.
 fn put_list(
     out: &mut [u8],
     at: usize,
@@ -226,18 +213,18 @@ pub fn commit(
     new: &[u8],
     map: &mut [u8],
     cmap: &[u8],
-) -> Recorded
+) -> Result<Recorded, Refusal>
     ensures { Commits out.old frame place old.old new.now map.old cmap.now (recorded_of result)
         out.new old.new map.new }
 {
     if old.len() != new.len() {
-        return Recorded::Refused(Refusal::BufferLength);
+        return Err(Refusal::BufferLength);
     }
     if 1048576 < old.len() {
-        return Recorded::Refused(Refusal::BufferLength);
+        return Err(Refusal::BufferLength);
     }
     if map.len() != MAP {
-        return Recorded::Refused(Refusal::BufferLength);
+        return Err(Refusal::BufferLength);
     }
     let laid = buffer::part(cmap, 0, MAP);
     let counts = count(old, new);
@@ -246,14 +233,14 @@ pub fn commit(
         + number::written_length(counts.runs as u32)
         + map_length(map, laid);
     if out.len() < head {
-        return Recorded::Refused(Refusal::NoRoom);
+        return Err(Refusal::NoRoom);
     }
     if !runs_fit(counts, old, new, out.len() - head) {
-        return Recorded::Refused(Refusal::NoRoom);
+        return Err(Refusal::NoRoom);
     }
     let length = put_record(out, frame, place, counts, old, new, map, laid);
-    Recorded::Written {
+    Ok(Recorded {
         length,
         changed: counts.changed,
-    }
+    })
 }

@@ -1,10 +1,11 @@
--- Every refusal has a number of the table. The numbers have two digits.
+-- Every refusal has a number of the table. The numbers have two digits. What `?` passes on is the refusal that it was given.
 use Prim.Native.Nat.{ℕ, ◌<◌}
 use native.Mathlib.Omega.{arith}
 use mathlib.Core.Bool.{Bool, true, false, ◌&&◌, ◌||◌}
 use mathlib.Core.List.{List, [], ◌∷◌}
 use mathlib.Core.Path.{◌≡◌, refl}
 use lib.Dec.{eqb, ltb}
+use Rattle.std.specs.Prelude.{Result, Ok, Err, IsErrAnd}
 use borrow.Author.Tests.{eqb-true, ltb-true}
 use Rattle.laws.proofs.ResultLaws.{false_true}
 use Rattle.refusal.specs.Number.{number_of, numbers, among, is_number}
@@ -55,3 +56,8 @@ among_below b n (m ∷ ms) a e = go (eqb n m) refl (ltb m b) refl (among_below b
 pub two_digits : (n : ℕ) → is_number n ≡ true → n < 100
 unfolding all_below
 two_digits n e = among_below 100 n numbers refl e
+
+-- a refusal that is passed on
+pub err_is : {A : Type 0} {why : Refusal} (r : Result A Refusal) → IsErrAnd r (λ e. e ≡ why) → r ≡ Err why
+err_is (Ok a) e = absurd e
+err_is (Err x) e = rw e

@@ -1,6 +1,7 @@
 -- The number of each refusal: document 01's table, row by row, with document 02's 37 (E6) and 45 (E5), but for 44, which is retired (E4)
 -- and isn't given again.
-use Rattle.std.specs.Prelude.{ℕ, Bool, false, ◌||◌, List, [], ◌∷◌, eqb}
+use Rattle.std.specs.Prelude.{ℕ, Bool, false, ◌||◌, List, [], ◌∷◌, eqb, Result, Ok, Err}
+use Rattle.laws.specs.Result.{Res, Res.ok, Res.fault}
 use Rattle.refusal.specs.declared.Refusal.{Refusal}
 use Rattle.refusal.specs.declared.Refusal.TheVariants.{OutsideLimits, BufferLength, FileTooLong, NoSuchRow, ChunkPastParent, NotFormAnim, NoPicture, BadBmhd, BadBody, NoDelta, ShortAnhd, UnknownMethod, UnknownInterleave, UnknownOptions, OddLongColumns, BadColours, BadPointer, DeltaTooShort, OpPastLastRow, WordPastPlane, NoRoom, LastFrame, BadRecord, OtherRecord}
 
@@ -40,3 +41,8 @@ among n (m ∷ ms) = eqb n m || among n ms
 
 abbrev pub is_number : ℕ → Bool
 is_number n = among n numbers
+
+-- what an answer says in the paper's terms: the value, or the number of the refusal
+abbrev pub result_of : {A : Type 0} → Result A Refusal → Res A
+result_of (Ok a) = ok a
+result_of (Err why) = fault (number_of why)

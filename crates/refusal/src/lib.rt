@@ -4,7 +4,7 @@
 ghost use Rattle.std.specs.Prelude.{◌≡◌};
 ghost use Rattle.refusal.specs.Number.{number_of};
 
-#[derive(Clone, Copy)]
+#[derive(Clone, Copy, Debug, PartialEq, Eq)]
 pub enum Refusal {
     OutsideLimits,
     BufferLength,
@@ -34,6 +34,7 @@ pub enum Refusal {
 
 impl Refusal {
     // The paper's number.
+    // Kept: a match and no number beside each variant, since two must-fail edits give one number to two refusals, which an enum can't have.
     pub fn number(self) -> u64
         ensures { result ≡ number_of self }
     {

@@ -17,8 +17,7 @@ use Rattle.record.specs.RunList.{Before, read_list, runs_back, before_of}
 use Rattle.record.specs.Record.{Past, past_of, restored}
 use Rattle.restore.specs.Restored.{Restores}
 use Rattle.restore.specs.Walk.{Walked, Stopped, Took, Lists, past_from, belongs, LeadsTo}
-use Rattle.restore.specs.declared.Taken.{Taken}
-use Rattle.restore.specs.declared.Taken.TheVariants.{Ends, Bad}
+use Rattle.std.specs.Prelude.{Option as Answer, Some, None}
 
 -- the two numbers at the front of a record
 pub no_frame : (bytes : List ℕ) → read_number bytes ≡ none → (shown map : List ℕ) → past_of bytes shown map ≡ none
@@ -45,13 +44,13 @@ module _ (s : List ℕ) {f f' : List ℕ} where
   list_good w = rw (w.read, w.good refl)
 
 -- one that leads back, put back into the buffer: its runs are those that were checked
-put_back : (bytes : List ℕ) (list : ℕ) {f f₁ : List ℕ} {b : Before} → before_of (drop list bytes) f ≡ some b → f₁ ≡ f → (f' : List ℕ) (r : Taken)
+put_back : (bytes : List ℕ) (list : ℕ) {f f₁ : List ℕ} {b : Before} → before_of (drop list bytes) f ≡ some b → f₁ ≡ f → (f' : List ℕ) (r : Answer ℕ)
     → Took f₁ bytes (read_list (length f₁) (drop list bytes)) true f' r → f' ≡ b.buffer
 unfolding before_of runs_back
-put_back bytes list {f = f} e k f' (Ends end) t =
+put_back bytes list {f = f} e k f' (Some end) t =
     let w : Walked f (read_list (length f) (drop list bytes)) true (drop end bytes) f' = rw k at t in
     w.left ∙ ap (λ (b : Before). b.buffer) (some_same (given_some (all_differ w.runs f) _ (rw w.read at e)).1)
-put_back bytes list {f = f} e k f' Bad t =
+put_back bytes list {f = f} e k f' None t =
     let w : Stopped f (read_list (length f) (drop list bytes)) true f' = rw k at t in
     none_some (rw (w.unread refl) at e)
 
@@ -114,10 +113,7 @@ module _ (bytes shown map : List ℕ) (frame next : ℕ) where
 
   -- what restoring answers, and the picture and the map that it leaves
   module _ {shown₁ map₁ : List ℕ} (k : shown₁ ≡ shown) (m : map₁ ≡ map) where
-    pub is_kept : {n : ℕ} → restored bytes shown map frame next ≡ fault n → Restores bytes shown map frame next (fault n) shown₁ map₁
-    is_kept e = record { answer = rw e; picture = k ∙ rw e; colours = m ∙ rw e }
-
-    pub is_back : {place list map_list : ℕ} → LeadsTo bytes shown map frame next place list map_list → (shown' map' : List ℕ) (r q : Taken)
+    pub is_back : {place list map_list : ℕ} → LeadsTo bytes shown map frame next place list map_list → (shown' map' : List ℕ) (r q : Answer ℕ)
         → Took shown₁ bytes (read_list (length shown₁) (drop list bytes)) true shown' r → Took map₁ bytes (read_list (length map₁) (drop map_list bytes)) true map' q
         → Restores bytes shown map frame next (ok place) shown' map'
     is_back {list = list} {map_list = map_list} l shown' map' r q t u = record {

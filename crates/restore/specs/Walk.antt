@@ -1,7 +1,7 @@
 -- What the private functions answer: the next run of a record, where a run list ends and what taking it leaves in the buffer, the
 -- numbers before the lists, whether both lists lead back, and whether the whole record may be put back at a state. A list that is only
 -- checked leaves the buffer as it is.
-use Rattle.std.specs.Prelude.{ℕ, ◌+◌, ◌≤◌, Bool, true, false, List, [], ◌≡◌, leb, ltb, eqb, length, take, drop}
+use Rattle.std.specs.Prelude.{ℕ, ◌+◌, ◌≤◌, Bool, true, false, List, [], ◌≡◌, leb, ltb, eqb, length, take, drop, Option as Answer, Some, None, Result, Ok, Err}
 use Rattle.std.proofs.Math.Option.{Option, none, some}
 use Rattle.std.proofs.lemmas.List.Edits.{sets}
 use Rattle.laws.specs.Result.{Res.ok, Res.fault, pick, ◌>>?◌, given}
@@ -9,16 +9,10 @@ use Rattle.refusal.specs.Number.{number_of}
 use Rattle.runs.specs.Runs.{Run, differ, all_differ, patch}
 use Rattle.record.specs.RunList.{Runs, read_run, runs_back, before_of}
 use Rattle.record.specs.Record.{Past, past_of, restored}
+use Rattle.refusal.specs.declared.Refusal.{Refusal}
 use Rattle.restore.specs.declared.Stored.{Stored}
-use Rattle.restore.specs.declared.Stored.TheVariants.{Whole, Faulty}
-use Rattle.restore.specs.declared.Taken.{Taken}
-use Rattle.restore.specs.declared.Taken.TheVariants.{Ends, Bad}
-use Rattle.restore.specs.declared.Checked.{Checked}
-use Rattle.restore.specs.declared.Checked.TheVariants.{Good, Wrong}
 use Rattle.restore.specs.declared.Header.{Header}
-use Rattle.restore.specs.declared.Header.TheVariants.{Numbers, Short}
 use Rattle.restore.specs.declared.Leads.{Leads}
-use Rattle.restore.specs.declared.Leads.TheVariants.{To, Refused}
 
 -- the run at a place of a record, as a reader answers it
 pub record RunFound (bytes : List ℕ) (at least room gap count start : ℕ) : Type 0 where
@@ -26,9 +20,9 @@ pub record RunFound (bytes : List ℕ) (at least room gap count start : ℕ) : T
   pub fits : gap + count ≤ room
   pub inside : start + count ≤ length bytes
 
-abbrev pub RunAt : List ℕ → ℕ → ℕ → ℕ → Stored → Type 0
-RunAt bytes at least room (Whole gap count start) = RunFound bytes at least room gap count start
-RunAt bytes at least room Faulty = read_run least room (drop at bytes) ≡ none
+abbrev pub RunAt : List ℕ → ℕ → ℕ → ℕ → Answer Stored → Type 0
+RunAt bytes at least room (Some r) = RunFound bytes at least room r.gap r.count r.start
+RunAt bytes at least room None = read_run least room (drop at bytes) ≡ none
 
 -- the bytes of a run at a place: put back, or compared with those that they replace
 pub record RunTaken (f : List ℕ) (to : ℕ) (old : List ℕ) (putting : Bool) (f' : List ℕ) (r : Bool) : Type 0 where
@@ -49,9 +43,9 @@ pub record Stopped (f : List ℕ) (whole : Option Runs) (putting : Bool) (f' : L
   pub kept : putting ≡ false → f' ≡ f
 
 -- what taking runs answers and leaves in a buffer, where the definition reads `whole`
-abbrev pub Took : List ℕ → List ℕ → Option Runs → Bool → List ℕ → Taken → Type 0
-Took f bytes whole putting f' (Ends next) = Walked f whole putting (drop next bytes) f'
-Took f bytes whole putting f' Bad = Stopped f whole putting f'
+abbrev pub Took : List ℕ → List ℕ → Option Runs → Bool → List ℕ → Answer ℕ → Type 0
+Took f bytes whole putting f' (Some next) = Walked f whole putting (drop next bytes) f'
+Took f bytes whole putting f' None = Stopped f whole putting f'
 
 -- what a record leads back to, by its two numbers and what stands behind them
 unfoldable pub past_from : ℕ → ℕ → List ℕ → List ℕ → List ℕ → Option Past
@@ -62,9 +56,9 @@ past_from frame place s shown map =
     some (record { frame = frame; place = place; picture = b.buffer; map = c.buffer })
 
 -- the two numbers of a record, as a reader answers them
-abbrev pub HeaderAt : List ℕ → Header → Type 0
-HeaderAt bytes (Numbers frame place list) = (shown map : List ℕ) → past_of bytes shown map ≡ past_from frame place (drop list bytes) shown map
-HeaderAt bytes Short = (shown map : List ℕ) → past_of bytes shown map ≡ none
+abbrev pub HeaderAt : List ℕ → Answer Header → Type 0
+HeaderAt bytes (Some h) = (shown map : List ℕ) → past_of bytes shown map ≡ past_from h.frame h.place (drop h.list bytes) shown map
+HeaderAt bytes None = (shown map : List ℕ) → past_of bytes shown map ≡ none
 
 -- two run lists at places of a record that lead back from the shown picture and the map: the second follows the first and ends the record
 pub record Lists (bytes : List ℕ) (list map_list : ℕ) (shown map : List ℕ) : Type 0 where
@@ -74,9 +68,9 @@ pub record Lists (bytes : List ℕ) (list map_list : ℕ) (shown map : List ℕ)
   pub colours_back : before_of (drop map_list bytes) map ≡ some (record { buffer = colours; rest = [] })
 
 -- the two run lists at a place of a record, as checking them answers: a record with bad ones leads nowhere, whatever its numbers are
-abbrev pub ListsAt : List ℕ → ℕ → List ℕ → List ℕ → Checked → Type 0
-ListsAt bytes list shown map (Good map_list) = Lists bytes list map_list shown map
-ListsAt bytes list shown map Wrong = (frame place : ℕ) → past_from frame place (drop list bytes) shown map ≡ none
+abbrev pub ListsAt : List ℕ → ℕ → List ℕ → List ℕ → Answer ℕ → Type 0
+ListsAt bytes list shown map (Some map_list) = Lists bytes list map_list shown map
+ListsAt bytes list shown map None = (frame place : ℕ) → past_from frame place (drop list bytes) shown map ≡ none
 
 -- a record's frame is the state's and not the first, and its place is from 12 on and before the state's next place
 abbrev pub belongs : ℕ → ℕ → ℕ → ℕ → Bool
@@ -88,6 +82,6 @@ pub record LeadsTo (bytes shown map : List ℕ) (frame next place list map_list 
   pub lists : Lists bytes list map_list shown map
   pub is : restored bytes shown map frame next ≡ ok (record { frame = reached; place = place; picture = lists.picture; map = lists.colours })
 
-abbrev pub LeadsBack : List ℕ → List ℕ → List ℕ → ℕ → ℕ → Leads → Type 0
-LeadsBack bytes shown map frame next (To place list map_list) = LeadsTo bytes shown map frame next place list map_list
-LeadsBack bytes shown map frame next (Refused why) = restored bytes shown map frame next ≡ fault (number_of why)
+abbrev pub LeadsBack : List ℕ → List ℕ → List ℕ → ℕ → ℕ → Result Leads Refusal → Type 0
+LeadsBack bytes shown map frame next (Ok l) = LeadsTo bytes shown map frame next l.place l.list l.map_list
+LeadsBack bytes shown map frame next (Err why) = restored bytes shown map frame next ≡ fault (number_of why)

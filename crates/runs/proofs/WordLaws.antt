@@ -7,11 +7,20 @@ use mathlib.Core.List.{List, [], ◌∷◌, map, zip_with}
 use mathlib.Core.Path.{◌≡◌, refl, ap, ◌∙◌}
 use lib.Bits.{bit_and, bit_or, bit_xor, xor_lt, xor_block, and_block, and_le_r, or_block, or_lt}
 use lib.Dec.{lit<, eqb}
-use lib.ListN.{length, replicate}
+use lib.ListN.{length, take, drop, replicate}
 use borrow.Author.Tests.{eqb-true}
+use Rattle.std.proofs.lemmas.List.{take_all}
+use Rattle.std.specs.Int.{w64, from_le_bytes}
+use Rattle.laws.proofs.BytesLaws.{word_four, word_halves}
 use Rattle.laws.specs.Bytes.{word_of, Bytes}
 use Rattle.laws.proofs.ResultLaws.{two_true}
 use Rattle.runs.specs.Word.{zero_bytes}
+
+-- eight bytes as a number, the lowest first
+pub le_word : (s : List ℕ) → length s ≡ 8 → from_le_bytes w64 s ≡ word_of s
+le_word s h =
+    let all : take 8 (drop 0 s) ≡ s = take_all 8 s (omega arith) in
+    omega (arith, rw all at (word_halves s 0 (omega arith)), word_four s 0 (omega arith), word_four s 4 (omega arith))
 
 -- the bytes of the word of two words under a bit operation
 pub xor_word : (xs ys : List ℕ) → length xs ≡ length ys → Bytes xs → Bytes ys → bit_xor (word_of xs) (word_of ys) ≡ word_of (zip_with bit_xor xs ys)

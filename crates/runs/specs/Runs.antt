@@ -1,10 +1,9 @@
 -- The longest stretches of elements that changed between two lists, in order: the bytes of a picture or of a map for a record, the
 -- rows of a column for the writer (document 01, "Opening, stepping on, stepping back" and "The writer").
-use Rattle.std.specs.Prelude.{ℕ, suc, ◌+◌, Bool, true, false, ◌&&◌, List, [], ◌∷◌, ◌++◌, eqb, length, take, drop}
+use Rattle.std.specs.Prelude.{ℕ, suc, ◌+◌, Bool, true, false, ◌&&◌, List, [], ◌∷◌, ◌++◌, eqb, length, take, drop, Option as Answer, Some, None}
 use Rattle.std.proofs.Math.Option.{Option, none, some}
 use Rattle.laws.specs.Result.{pick, ◌>>?◌, given}
 use Rattle.runs.specs.declared.Change.{Change}
-use Rattle.runs.specs.declared.Change.TheVariants.{Run as Changed, Nothing}
 
 -- a run: the unchanged elements since the previous run, and what the first list has in the place of the changed ones
 pub record Run : Type 0 where
@@ -47,9 +46,9 @@ unfoldable pub next_run : List ℕ → List ℕ → ℕ → Option FirstRun
 next_run old new at = given (eqb (length old) (length new)) >>? λ _. first_run (runs_of (drop at old) (drop at new))
 
 -- what the answer says of it
-abbrev pub change_of : Change → Option FirstRun
-change_of (Changed gap count) = some (record { gap = gap; count = count })
-change_of Nothing = none
+abbrev pub change_of : Answer Change → Option FirstRun
+change_of (Some c) = some (record { gap = c.gap; count = c.count })
+change_of None = none
 
 -- no old element equals the new one at its place
 unfoldable pub differ : List ℕ → List ℕ → Bool

@@ -7,110 +7,122 @@ ghost use Rattle.runs.specs.Stretch.{stretch, Scanned};
 
 mod word;
 
-use word::stop;
-
 // A run of changed bytes: the unchanged bytes before it, and its length.
+#[derive(Clone, Copy, Debug, PartialEq, Eq)]
+pub struct Change {
+    pub gap: usize,
+    pub count: usize,
+}
+
+// Two buffers of one length, that are compared.
 #[derive(Clone, Copy)]
-pub enum Change {
-    Run { gap: usize, count: usize },
-    Nothing,
+struct Pair<'a> {
+    first: &'a [u8],
+    second: &'a [u8],
+    ghost one_length: { length first.now ≡ length second.now },
 }
 
-// Whether the bytes of a block are all equal, or all different. There is no early exit, so that they are compared all at once.
-fn block_is(equal: bool, old: &[u8], new: &[u8], at: usize, size: usize) -> bool
-    requires { (length old.now ≡ length new.now) × (at + size ≤ length old.now) }
-    ensures { result ≡ leb size (stretch equal (drop at old.now) (drop at new.now)) }
-{
-    let mut all = true;
-    let mut i = 0;
-    while i < size {
-        if (old[at + i] == new[at + i]) != equal {
-            all = false;
+impl Pair<'_> {
+    // Kept: a flag and no closure, since the definition stretch says by the same flag whether equal or different bytes are passed.
+    // Whether the bytes of a block are all equal, or all different. There is no early exit, so that they are compared all at once.
+    fn block_is(&self, equal: bool, at: usize, size: usize) -> bool
+        requires { at + size ≤ length self.now.first.now }
+        ensures { result ≡ leb size (stretch equal (drop at self.now.first.now) (drop at self.now.second.now)) }
+    {
+        let mut all = true;
+        for i in 0..size {
+            if (self.first[at + i] == self.second[at + i]) != equal {
+                all = false;
+            }
         }
-        i += 1;
+        all
     }
-    all
-}
 
-// A place up to which the bytes from a place on are all equal, or all different, found by blocks.
-fn skip_blocks(equal: bool, old: &[u8], new: &[u8], from: usize, size: usize) -> usize
-    requires { (length old.now ≡ length new.now) × (from ≤ length old.now) × (0 < size) }
-    ensures { Scanned equal old.now new.now from result }
-{
-    let mut i = from;
-    while size <= old.len() - i {
-        if !block_is(equal, old, new, i, size) {
-            return i;
+    // Kept: the place is asked for here and below beside the pair, since each search begins at another.
+    // A place up to which the bytes from a place on are all equal, or all different, found by blocks.
+    fn skip_blocks(&self, equal: bool, from: usize, size: usize) -> usize
+        requires { (from ≤ length self.now.first.now) × (0 < size) }
+        ensures { Scanned equal self.now.first.now self.now.second.now from result }
+    {
+        let mut i = from;
+        // Kept: the step is a block and not 1, and the search goes on from where this loop ends.
+        while size <= self.first.len() - i {
+            if !self.block_is(equal, i, size) {
+                return i;
+            }
+            i += size;
         }
-        i += size;
+        i
     }
-    i
-}
 
-// The end of a stretch of equal, or of different, bytes from a place on, found byte by byte.
-fn byte_end(equal: bool, old: &[u8], new: &[u8], from: usize) -> usize
-    requires { (length old.now ≡ length new.now) × (from ≤ length old.now) }
-    ensures { result ≡ from + stretch equal (drop from old.now) (drop from new.now) }
-{
-    let mut i = from;
-    while i < old.len() {
-        if (old[i] == new[i]) != equal {
-            return i;
+    // The end of a stretch of equal, or of different, bytes from a place on, found byte by byte.
+    fn byte_end(&self, equal: bool, from: usize) -> usize
+        requires { from ≤ length self.now.first.now }
+        ensures { result ≡ from + stretch equal (drop from self.now.first.now) (drop from self.now.second.now) }
+    {
+        for i in from..self.first.len() {
+            if (self.first[i] == self.second[i]) != equal {
+                return i;
+            }
         }
-        i += 1;
+        self.first.len()
     }
-    i
-}
 
-// The end of such a stretch, found by eight bytes at a time.
-fn word_end(equal: bool, old: &[u8], new: &[u8], from: usize) -> usize
-    requires { (length old.now ≡ length new.now) × (from ≤ length old.now) }
-    ensures { result ≡ from + stretch equal (drop from old.now) (drop from new.now) }
-{
-    let mut i = from;
-    while 8 <= old.len() - i {
-        let s = stop(equal, old, new, i);
+    // The end of such a stretch, found by eight bytes at a time.
+    fn word_end(&self, equal: bool, from: usize) -> usize
+        requires { from ≤ length self.now.first.now }
+        ensures { result ≡ from + stretch equal (drop from self.now.first.now) (drop from self.now.second.now) }
+    {
+        let mut i = from;
+        // Kept: the step is eight bytes and not 1, and the bytes that are left over begin where this loop ends.
+        while 8 <= self.first.len() - i {
+            let s = self.stop(equal, i);
+            if s != 0 {
+                return i + (u64::trailing_zeros(s) / 8) as usize;
+            }
+            i += 8;
+        }
+        self.byte_end(equal, i)
+    }
+
+    // The end of such a stretch. Most are short, so that eight bytes are looked at first; long ones are passed by blocks.
+    fn stretch_end(&self, equal: bool, from: usize) -> usize
+        requires { from ≤ length self.now.first.now }
+        ensures { result ≡ from + stretch equal (drop from self.now.first.now) (drop from self.now.second.now) }
+    {
+        if self.first.len() - from < 8 {
+            return self.byte_end(equal, from);
+        }
+        let s = self.stop(equal, from);
         if s != 0 {
-            return i + (u64::trailing_zeros(s) / 8) as usize;
+            return from + (u64::trailing_zeros(s) / 8) as usize;
         }
-        i += 8;
+        let near = self.skip_blocks(equal, from + 8, 32);
+        self.word_end(equal, near)
     }
-    byte_end(equal, old, new, i)
 }
 
-// The end of such a stretch. Most are short, so that eight bytes are looked at first; long ones are passed by blocks.
-fn stretch_end(equal: bool, old: &[u8], new: &[u8], from: usize) -> usize
-    requires { (length old.now ≡ length new.now) × (from ≤ length old.now) }
-    ensures { result ≡ from + stretch equal (drop from old.now) (drop from new.now) }
-{
-    if old.len() - from < 8 {
-        return byte_end(equal, old, new, from);
-    }
-    let s = stop(equal, old, new, from);
-    if s != 0 {
-        return from + (u64::trailing_zeros(s) / 8) as usize;
-    }
-    let near = skip_blocks(equal, old, new, from + 8, 32);
-    word_end(equal, old, new, near)
-}
-
-// The next run of changed bytes from a place on. There is none between buffers of two lengths.
-pub fn next_run(old: &[u8], new: &[u8], at: usize) -> Change
+// The next run of changed bytes from a place on, if there is one. There is none between buffers of two lengths.
+pub fn next_run(old: &[u8], new: &[u8], at: usize) -> Option<Change>
     ensures { change_of result ≡ next_run old.now new.now at }
 {
     if old.len() != new.len() {
-        return Change::Nothing;
+        return None;
     }
     if old.len() <= at {
-        return Change::Nothing;
+        return None;
     }
-    let start = stretch_end(true, old, new, at);
+    let pair = Pair {
+        first: old,
+        second: new,
+    };
+    let start = pair.stretch_end(true, at);
     if old.len() <= start {
-        return Change::Nothing;
+        return None;
     }
-    let end = stretch_end(false, old, new, start);
-    Change::Run {
+    let end = pair.stretch_end(false, start);
+    Some(Change {
         gap: start - at,
         count: end - start,
-    }
+    })
 }

@@ -1,17 +1,17 @@
--- Laws of a row: the order of its refusals, and that it lies within its buffer.
+-- Laws of a row: it lies within its buffer, and nothing overflows on the way to its place.
 use Prim.Native.Nat.{ℕ, suc, ◌+◌, ◌-◌, ◌*◌, ◌<◌, ◌≤◌}
 use native.Mathlib.Nat.{add-sub_cancel_left, suc-mul, mul_assoc, mul-le-mul_right}
 use native.Mathlib.Omega.{arith}
 use mathlib.Core.Bool.{true, false}
-use mathlib.Core.List.{List, []}
+use mathlib.Core.List.{List}
 use mathlib.Core.Path.{◌≡◌}
 use lib.Dec.{ltb}
 use lib.ListN.{length, take, drop}
-use borrow.Author.Tests.{lt-ltb, le-ltb, ltb-true}
-use Rattle.laws.specs.Result.{Res.ok, Res.fault}
+use borrow.Author.Tests.{ltb-true}
+use Rattle.laws.specs.Result.{Res.ok}
 use Rattle.laws.proofs.ResultLaws.{Each, Each.each, each_bind, each_need, each_is}
 use Rattle.state.specs.declared.State.{State}
-use Rattle.state.specs.State.{row_bytes, frame_bytes, lent_length}
+use Rattle.state.specs.State.{row_bytes, frame_bytes}
 use Rattle.state.proofs.StateLaws.{SoundState, lent_sound, row_inside}
 use Rattle.state.specs.World.{is_odd}
 use Rattle.shown.specs.Row.{row_place, row_of}
@@ -47,32 +47,8 @@ row_small s k plane row i j =
     let w = rows_within plane s.sizes.height s.sizes.planes (plane * s.sizes.height + row) (row_bytes s.sizes.width) i (omega (arith, j, suc-mul plane s.sizes.height)) in
     record { lines = omega (arith, m, k.sizes.height_most); bytes = λ q. rw q (omega (arith, w, k.sizes.length, k.sizes.length_most)) }
 
--- the order of the tests
-module _ (s : State) (a b plane row : ℕ) where
-  pub place_refused : {k : ℕ} → lent_length s a b ≡ fault k → fault k ≡ row_place s a b plane row
-  unfolding row_place
-  place_refused e = simp e
-
-  module _ {n : ℕ} (e : lent_length s a b ≡ ok n) where
-    pub no_plane : s.sizes.planes ≤ plane → fault 14 ≡ row_place s a b plane row
-    unfolding row_place
-    no_plane h = simp (e, le-ltb plane s.sizes.planes h)
-
-    module _ (p : plane < s.sizes.planes) where
-      pub no_row : s.sizes.height ≤ row → fault 14 ≡ row_place s a b plane row
-      unfolding row_place
-      no_row h = simp (e, lt-ltb plane s.sizes.planes p, le-ltb row s.sizes.height h)
-
-      pub place_is : row < s.sizes.height → {B : ℕ} → B ≡ row_bytes s.sizes.width → ok ((plane * s.sizes.height + row) * B) ≡ row_place s a b plane row
-      unfolding row_place
-      place_is h q = simp (e, lt-ltb plane s.sizes.planes p, lt-ltb row s.sizes.height h, q)
-
 -- the part
 module _ (s : State) (a b : List ℕ) (plane row : ℕ) where
-  pub row_refused : {k : ℕ} → row_place s (length a) (length b) plane row ≡ fault k → [] ≡ row_of s a b plane row
-  unfolding row_of
-  row_refused e = rw e
-
   module _ {at B : ℕ} (e : row_place s (length a) (length b) plane row ≡ ok at) (q : B ≡ row_bytes s.sizes.width) where
     pub row_odd : is_odd s.frame ≡ true → take (at + B - at) (drop at a) ≡ row_of s a b plane row
     unfolding row_of

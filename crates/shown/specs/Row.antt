@@ -2,12 +2,9 @@
 -- or row that isn't there is 14, after 11 and 12. A refused row is an empty part, and a separate question answers the number.
 use Rattle.std.specs.Prelude.{ℕ, ◌+◌, ◌*◌, List, [], ltb, length, take, drop}
 use Rattle.laws.specs.Result.{Res, Res.ok, Res.fault, ◌>>=◌, need}
-use Rattle.refusal.specs.Number.{number_of}
 use Rattle.state.specs.State.{row_bytes, lent_length}
 use Rattle.state.specs.declared.State.{State}
 use Rattle.state.specs.World.{shown_of}
-use Rattle.shown.specs.declared.Place.{Place}
-use Rattle.shown.specs.declared.Place.TheVariants.{At, Refused}
 
 -- where the row stands in its buffer, by the lengths of A and B; or 11, 12, 14
 unfoldable pub row_place : State → ℕ → ℕ → ℕ → ℕ → Res ℕ
@@ -25,8 +22,3 @@ part_at p B (fault n) = []
 -- the row
 unfoldable pub row_of : State → (a b : List ℕ) → ℕ → ℕ → List ℕ
 row_of s a b plane row = part_at (shown_of s.frame a b) (row_bytes s.sizes.width) (row_place s (length a) (length b) plane row)
-
--- what an answer says in the paper's terms
-abbrev pub place_of : Place → Res ℕ
-place_of (At at) = ok at
-place_of (Refused why) = fault (number_of why)

@@ -1,13 +1,10 @@
 -- The state, its limits and the length of a frame (document 01, "Numbers that bound the work"; 11 and 12 of "Refusal numbers"; document 02,
 -- E6).
 use Rattle.std.specs.Prelude.{ℕ, ◌+◌, ◌*◌, ◌/◌, ◌≤◌, Bool, ◌&&◌, ◌≡◌, leb, eqb}
-use Rattle.laws.specs.Result.{Res, Res.ok, Res.fault, ◌>>=◌, need}
-use Rattle.refusal.specs.Number.{number_of}
+use Rattle.laws.specs.Result.{Res, Res.ok, ◌>>=◌, need}
 use Rattle.colours.specs.Colours.{MAP}
 use Rattle.state.specs.declared.Sizes.{Sizes}
 use Rattle.state.specs.declared.State.{State}
-use Rattle.state.specs.declared.Length.{Length}
-use Rattle.state.specs.declared.Length.TheVariants.{Bytes, Refused}
 
 -- a number from least to most
 abbrev pub within : ℕ → ℕ → ℕ → Bool
@@ -51,11 +48,6 @@ step_length s a b map =
     lent_length s a b >>= λ n.
     need (eqb map MAP) 12 >>= λ _.
     ok n
-
--- what an answer says in the paper's terms
-abbrev pub length_of : Length → Res ℕ
-length_of (Bytes n) = ok n
-length_of (Refused why) = fault (number_of why)
 
 -- the state after opening
 abbrev pub opened : Sizes → ℕ → ℕ → State

@@ -1,13 +1,15 @@
 // The player's state and the sizes of a picture: their limits, and how long a frame of those sizes is.
-#![tactic(auto)]
+#![tactic(auto, unfolding(crate::specs::State::lent_length, crate::specs::State::step_length, crate::specs::State::state_length, crate::specs::State::frame_length, crate::specs::World::is_odd))]
 
 ghost use Rattle.std.specs.Prelude.{◌≡◌};
-ghost use Rattle.state.specs.State.{row_bytes, within, length_of, frame_length, state_length, lent_length, step_length, opened, zeros, moved};
+ghost use Rattle.refusal.specs.Number.{result_of};
+ghost use Rattle.state.specs.World.{is_odd};
+ghost use Rattle.state.specs.State.{row_bytes, within, frame_length, state_length, lent_length, step_length, opened, zeros, moved};
 
 use refusal::Refusal;
 
 // The sizes of a picture.
-#[derive(Clone, Copy)]
+#[derive(Clone, Copy, Debug, PartialEq, Eq)]
 pub struct Sizes {
     pub width: usize,
     pub height: usize,
@@ -15,7 +17,7 @@ pub struct Sizes {
 }
 
 // The state of a player: the sizes, the frame number, the place where the file is read on, and the end of FORM ANIM.
-#[derive(Clone, Copy)]
+#[derive(Clone, Copy, Debug, PartialEq, Eq)]
 pub struct State {
     pub sizes: Sizes,
     pub frame: usize,
@@ -25,7 +27,7 @@ pub struct State {
 
 // What a taken step on reports: the method, the relative time, how many bytes of the picture changed, the record's length, and the number
 // of ops, 0 for lists of words.
-#[derive(Clone, Copy)]
+#[derive(Clone, Copy, Debug, PartialEq, Eq)]
 pub struct Report {
     pub method: usize,
     pub time: usize,
@@ -34,20 +36,10 @@ pub struct Report {
     pub ops: usize,
 }
 
-// How many bytes a frame has, or that the sizes or the state are outside the limits.
-#[derive(Clone, Copy)]
-pub enum Length {
-    Bytes(usize),
-    Refused(Refusal),
-}
-
 fn within(least: usize, most: usize, x: usize) -> bool
     ensures { result ≡ within least most x }
 {
-    if x < least {
-        return false;
-    }
-    x <= most
+    (least..=most).contains(&x)
 }
 
 impl Sizes {
@@ -59,21 +51,21 @@ impl Sizes {
     }
 
     // The bytes of a frame of these sizes.
-    pub fn frame_length(self) -> Length
-        ensures { length_of result ≡ frame_length self }
+    pub fn frame_length(self) -> Result<usize, Refusal>
+        ensures { result_of result ≡ frame_length self }
     {
         if !within(1, State::MAX_WIDTH, self.width) {
-            return Length::Refused(Refusal::OutsideLimits);
+            return Err(Refusal::OutsideLimits);
         }
         if !within(1, State::MAX_HEIGHT, self.height) {
-            return Length::Refused(Refusal::OutsideLimits);
+            return Err(Refusal::OutsideLimits);
         }
         if !within(1, State::MAX_PLANES, self.planes) {
-            return Length::Refused(Refusal::OutsideLimits);
+            return Err(Refusal::OutsideLimits);
         }
         let plane = self.height * self.row_bytes();
         let frame = self.planes * plane;
-        Length::Bytes(frame)
+        Ok(frame)
     }
 }
 
@@ -133,55 +125,52 @@ impl State {
         }
     }
 
+    // Whether A is shown, as at odd frames, or B.
+    pub fn shows_a(self) -> bool
+        ensures { result ≡ is_odd self.frame }
+    {
+        self.frame % 2 == 1
+    }
+
     // The bytes of a frame, if the whole state is within the limits.
-    pub fn frame_length(self) -> Length
-        ensures { length_of result ≡ state_length self }
+    pub fn frame_length(self) -> Result<usize, Refusal>
+        ensures { result_of result ≡ state_length self }
     {
         if !within(1, State::MAX_FRAME, self.frame) {
-            return Length::Refused(Refusal::OutsideLimits);
+            return Err(Refusal::OutsideLimits);
         }
         if !within(State::MIN_PLACE, self.end, self.next) {
-            return Length::Refused(Refusal::OutsideLimits);
+            return Err(Refusal::OutsideLimits);
         }
         if State::MAX_PLACE < self.end {
-            return Length::Refused(Refusal::OutsideLimits);
+            return Err(Refusal::OutsideLimits);
         }
         let sizes = self.sizes;
         sizes.frame_length()
     }
 
     // The bytes of a frame, if the whole state is within the limits and A and B have the length of one.
-    pub fn lent_length(self, a: usize, b: usize) -> Length
-        ensures { length_of result ≡ lent_length self a b }
+    pub fn lent_length(self, a: usize, b: usize) -> Result<usize, Refusal>
+        ensures { result_of result ≡ lent_length self a b }
     {
-        let l = self.frame_length();
-        match l {
-            Length::Refused(why) => Length::Refused(why),
-            Length::Bytes(n) => {
-                if a != n {
-                    return Length::Refused(Refusal::BufferLength);
-                }
-                if b != n {
-                    return Length::Refused(Refusal::BufferLength);
-                }
-                Length::Bytes(n)
-            }
+        let n = self.frame_length()?;
+        if a != n {
+            return Err(Refusal::BufferLength);
         }
+        if b != n {
+            return Err(Refusal::BufferLength);
+        }
+        Ok(n)
     }
 
     // The same, if the map has its length too.
-    pub fn step_length(self, a: usize, b: usize, map: usize) -> Length
-        ensures { length_of result ≡ step_length self a b map }
+    pub fn step_length(self, a: usize, b: usize, map: usize) -> Result<usize, Refusal>
+        ensures { result_of result ≡ step_length self a b map }
     {
-        let l = self.lent_length(a, b);
-        match l {
-            Length::Refused(why) => Length::Refused(why),
-            Length::Bytes(n) => {
-                if map != colours::MAP {
-                    return Length::Refused(Refusal::BufferLength);
-                }
-                Length::Bytes(n)
-            }
+        let n = self.lent_length(a, b)?;
+        if map != colours::MAP {
+            return Err(Refusal::BufferLength);
         }
+        Ok(n)
     }
 }

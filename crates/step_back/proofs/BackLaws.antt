@@ -15,7 +15,7 @@ use Rattle.state.specs.World.{World, is_odd, shown_in, with_shown}
 use Rattle.state.specs.After.{Answer.took_back, After}
 use Rattle.record.specs.Record.{Past, restored}
 use Rattle.restore.specs.Restored.{Restores}
-use Rattle.step_back.specs.declared.Back.TheVariants.{Taken, Refused}
+use Rattle.std.specs.Prelude.{Ok, Err}
 use Rattle.step_back.specs.Back.{retreat, settle_back, step_back, LeavesBack, MeetsBack}
 use Rattle.step_back.specs.Parts.{pictures_back, place_in, RestoresShown}
 
@@ -42,31 +42,44 @@ module _ (w : World) (bytes : List ℕ) {r : Res ℕ} {p m : List ℕ} where
   pub shown_even : is_odd w.state.frame ≡ false → Restores bytes w.b w.map w.state.frame w.state.next r p m → RestoresShown w (restored_in w bytes) r w.a p m
   shown_even = shown_back false
 
--- stepping back
+-- a record is put back only where the lengths and the state let a step back begin
 module _ (w : World) (bytes : List ℕ) where
-  pub back_refused : {why : Refusal} → step_length w.state (length w.a) (length w.b) (length w.map) ≡ fault (number_of why)
-      → MeetsBack w bytes (record { answer = Refused why; state = w.state }) w
-  unfolding step_back retreat settle_back
-  back_refused e = rw e (record { answer = refl; left = refl })
+  pub back_refused : {n : ℕ} → step_length w.state (length w.a) (length w.b) (length w.map) ≡ fault n → RestoresShown w (retreat w bytes) (fault n) w.a w.b w.map
+  unfolding retreat
+  back_refused e = rw e (record { answer = refl; pictures = refl })
 
-  module _ {n : ℕ} {a b map : List ℕ} (e : step_length w.state (length w.a) (length w.b) (length w.map) ≡ ok n) where
-    pub back_kept : {why : Refusal} → RestoresShown w (restored_in w bytes) (fault (number_of why)) a b map
-        → MeetsBack w bytes (record { answer = Refused why; state = w.state }) (record { a = a; b = b; map = map; state = w.state })
-    unfolding step_back retreat settle_back
-    back_kept {why} k = rw e (go (restored_in w bytes) k.answer k.pictures)
+  pub back_begins : {n : ℕ} {r : Res ℕ} {a b map : List ℕ} → step_length w.state (length w.a) (length w.b) (length w.map) ≡ ok n
+      → RestoresShown w (restored_in w bytes) r a b map → RestoresShown w (retreat w bytes) r a b map
+  unfolding retreat
+  back_begins e k = rw e k
+
+  -- where there is a place to go back to, the frame isn't before the first
+  pub back_frame : {place : ℕ} {a b map : List ℕ} → RestoresShown w (retreat w bytes) (ok place) a b map → 1 ≤ w.state.frame
+  unfolding retreat
+  back_frame {place} k = go (step_length w.state (length w.a) (length w.b) (length w.map)) (step_sound w.state (length w.a) (length w.b) (length w.map)) k.answer
+    where
+      go : (s : Res ℕ) → Each (SoundStep w.state (length w.a) (length w.b) (length w.map)) s → ok place ≡ place_in (s >>= λ _. restored_in w bytes) → 1 ≤ w.state.frame
+      go (ok n) (each h) e = h.lent.state.frame_least
+      go (fault n) h e = never (cc)
+
+  module _ {a b map : List ℕ} where
+    pub back_kept : {why : Refusal} → RestoresShown w (retreat w bytes) (fault (number_of why)) a b map
+        → MeetsBack w bytes (record { answer = Err why; state = w.state }) (record { a = a; b = b; map = map; state = w.state })
+    unfolding step_back settle_back
+    back_kept {why} k = go (retreat w bytes) k.answer k.pictures
       where
         go : (q : Res Past) → fault (number_of why) ≡ place_in q → ◌≡◌ {A = World} (record { a = a; b = b; map = map; state = w.state }) (pictures_back w q)
-            → LeavesBack (settle_back w q) (record { answer = Refused why; state = w.state }) (record { a = a; b = b; map = map; state = w.state })
+            → LeavesBack (settle_back w q) (record { answer = Err why; state = w.state }) (record { a = a; b = b; map = map; state = w.state })
         go (ok x) i l = never (cc)
         go (fault m) i l = let j : number_of why ≡ m = cc in record { answer = rw j; left = l }
 
-    pub back_taken : {place : ℕ} {s : State} → RestoresShown w (restored_in w bytes) (ok place) a b map → s ≡ moved w.state (w.state.frame - 1) place
-        → MeetsBack w bytes (record { answer = Taken; state = s }) (record { a = a; b = b; map = map; state = s })
-    unfolding step_back retreat settle_back with_shown
-    back_taken {place} {s} k es = rw e (go (restored_in w bytes) k.answer k.pictures)
+    pub back_taken : {place : ℕ} {s : State} → RestoresShown w (retreat w bytes) (ok place) a b map → s ≡ moved w.state (w.state.frame - 1) place
+        → MeetsBack w bytes (record { answer = Ok tt; state = s }) (record { a = a; b = b; map = map; state = s })
+    unfolding step_back settle_back with_shown
+    back_taken {place} {s} k es = go (retreat w bytes) k.answer k.pictures
       where
         go : (q : Res Past) → ok place ≡ place_in q → ◌≡◌ {A = World} (record { a = a; b = b; map = map; state = w.state }) (pictures_back w q)
-            → LeavesBack (settle_back w q) (record { answer = Taken; state = s }) (record { a = a; b = b; map = map; state = s })
+            → LeavesBack (settle_back w q) (record { answer = Ok tt; state = s }) (record { a = a; b = b; map = map; state = s })
         go (ok x) i l =
             let j : x.place ≡ place = cc in
             let m : s ≡ moved w.state (w.state.frame - 1) x.place = rw j es in

@@ -1,5 +1,5 @@
 -- Stepping back (document 01, "Opening, stepping on, stepping back" and "Refusal numbers", and document 02, E6).
-use Rattle.std.specs.Prelude.{ℕ, ◌-◌, List, [], ◌≡◌, length}
+use Rattle.std.specs.Prelude.{ℕ, ◌-◌, List, [], ◌≡◌, length, Result, Ok, Err}
 use Rattle.std.proofs.Math.Option.{none}
 use Rattle.laws.specs.Result.{Res, Res.ok, Res.fault, ◌>>=◌}
 use Rattle.refusal.specs.Number.{number_of}
@@ -7,8 +7,7 @@ use Rattle.state.specs.State.{step_length, moved}
 use Rattle.state.specs.World.{World, shown_in, with_shown}
 use Rattle.state.specs.After.{Answer, Answer.refused, Answer.took_back, After, kept}
 use Rattle.record.specs.Record.{Past, restored}
-use Rattle.step_back.specs.declared.Back.{Back}
-use Rattle.step_back.specs.declared.Back.TheVariants.{Taken, Refused}
+use Rattle.refusal.specs.declared.Refusal.{Refusal}
 use Rattle.step_back.specs.declared.SteppedBack.{SteppedBack}
 
 -- what the record restores, or the first refusal: 11, 12, 61, 62
@@ -33,9 +32,9 @@ unfoldable pub step_back : World → List ℕ → After
 step_back w bytes = settle_back w (retreat w bytes)
 
 -- what an answer says in the paper's terms
-abbrev pub back_of : Back → Answer
-back_of Taken = took_back
-back_of (Refused why) = refused (number_of why)
+abbrev pub back_of : Result (Unit {0}) Refusal → Answer
+back_of (Ok done) = took_back
+back_of (Err why) = refused (number_of why)
 
 -- what a step back answers and leaves, where it comes to o
 pub record LeavesBack (o : After) (r : SteppedBack) (w : World) : Type 0 where

@@ -2,41 +2,55 @@
 #![tactic(auto)]
 
 ghost use Rattle.record.specs.Record.{restored};
-ghost use Rattle.restore.specs.Restored.{restored_of};
+ghost use Rattle.refusal.specs.Number.{result_of};
 ghost use Rattle.state.specs.World.{shown_in};
-ghost use Rattle.step_back.specs.Back.{MeetsBack};
+ghost use Rattle.step_back.specs.Back.{retreat, MeetsBack};
 ghost use Rattle.step_back.specs.Parts.{RestoresShown};
 
 use refusal::Refusal;
-use restore::Restored;
-use state::{Length, State};
-
-// What stepping back answers.
-#[derive(Clone, Copy)]
-pub enum Back {
-    Taken,
-    Refused(Refusal),
-}
+use state::State;
 
 // What stepping back answers, and the state after it.
-#[derive(Clone, Copy)]
+#[derive(Clone, Copy, Debug, PartialEq, Eq)]
 pub struct SteppedBack {
-    pub answer: Back,
+    pub answer: Result<(), Refusal>,
     pub state: State,
 }
 
 // Puts a record back into the map and the shown buffer, A at an odd frame and B at an even one.
-fn restore_shown(state: State, a: &mut [u8], b: &mut [u8], map: &mut [u8], bytes: &[u8]) -> Restored
+fn restore_shown(
+    state: State,
+    a: &mut [u8],
+    b: &mut [u8],
+    map: &mut [u8],
+    bytes: &[u8],
+) -> Result<usize, Refusal>
     ensures { RestoresShown (record { a = a.old; b = b.old; map = map.old; state = state })
         (restored bytes.now (shown_in (record { a = a.old; b = b.old; map = map.old; state = state }))
-        map.old state.frame state.next) (restored_of result) a.new b.new map.new }
+        map.old state.frame state.next) (result_of result) a.new b.new map.new }
 {
     let frame = state.frame;
     let next = state.next;
-    if frame % 2 == 1 {
+    if state.shows_a() {
         return restore::restore(bytes, a, map, frame, next);
     }
     restore::restore(bytes, b, map, frame, next)
+}
+
+// Puts a record back where the state and the lengths of the buffers let a step back begin, and answers the place that it leads back to.
+fn put_back(
+    state: State,
+    a: &mut [u8],
+    b: &mut [u8],
+    map: &mut [u8],
+    bytes: &[u8],
+) -> Result<usize, Refusal>
+    ensures { RestoresShown (record { a = a.old; b = b.old; map = map.old; state = state })
+        (retreat (record { a = a.old; b = b.old; map = map.old; state = state }) bytes.now)
+        (result_of result) a.new b.new map.new }
+{
+    state.step_length(a.len(), b.len(), map.len())?;
+    restore_shown(state, a, b, map, bytes)
 }
 
 // Steps back: a record is put back into the shown buffer and the map, and the frame before is shown.
@@ -50,24 +64,14 @@ pub fn step_back(
     ensures { MeetsBack (record { a = a.old; b = b.old; map = map.old; state = state }) bytes.now result
         (record { a = a.new; b = b.new; map = map.new; state = result.state }) }
 {
-    let l = state.step_length(a.len(), b.len(), map.len());
-    match l {
-        Length::Refused(why) => SteppedBack {
-            answer: Back::Refused(why),
+    match put_back(state, a, b, map, bytes) {
+        Err(why) => SteppedBack {
+            answer: Err(why),
             state,
         },
-        Length::Bytes(_) => {
-            let p = restore_shown(state, a, b, map, bytes);
-            match p {
-                Restored::Refused(why) => SteppedBack {
-                    answer: Back::Refused(why),
-                    state,
-                },
-                Restored::Back(place) => SteppedBack {
-                    answer: Back::Taken,
-                    state: state.moved(state.frame - 1, place),
-                },
-            }
-        }
+        Ok(place) => SteppedBack {
+            answer: Ok(()),
+            state: state.moved(state.frame - 1, place),
+        },
     }
 }

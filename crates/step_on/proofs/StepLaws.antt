@@ -26,8 +26,8 @@ use Rattle.frame.proofs.FrameLaws.{frame_columns}
 use Rattle.colours.specs.Colours.{MAP, coloured}
 use Rattle.record.specs.Record.{Measure, measure, written, Commits}
 use Rattle.step_on.specs.declared.Ahead.{Ahead}
-use Rattle.step_on.specs.declared.Ahead.TheVariants.{End as AheadEnd, Refused as AheadRefused, Built as AheadBuilt}
-use Rattle.step_on.specs.declared.On.TheVariants.{Taken, End, Refused}
+use Rattle.std.specs.Prelude.{Result, Ok, Err, Some, None}
+use Rattle.std.specs.Prelude as Lib
 use Rattle.step_on.specs.declared.SteppedOn.{SteppedOn}
 use Rattle.step_on.specs.Step.{ready, basis, change, Built, build, look, look_ahead, record_of, commit, settle, step_on, Looks, LeavesOn, MeetsOn}
 use Rattle.step_on.specs.Parts.{Fits, pictures_after, CommitsHidden}
@@ -48,36 +48,38 @@ module _ (s : State) (x : Frame) (shown hidden work : List ℕ) (j : Fits s (len
   read_is : read_delta (shape_of s.sizes x.header.items) x.dlta ≡ read_frame (length work) (length (basis x.header shown hidden)) x.dlta s.sizes x.header.items
   read_is = sym (frame_delta s.sizes x.header.items x.dlta (length (basis x.header shown hidden)) (length work) k.sizes basis_length k.same c)
 
-  module _ {anim work' : List ℕ} where
+  module _ {work' : List ℕ} where
     build_refused : {why : Refusal} → Applies work (basis x.header shown hidden) x.dlta s.sizes x.header.items (fault (number_of why)) work'
-        → Looks anim (build s.sizes shown hidden (some x)) work (AheadRefused why) work'
+        → Looks (build s.sizes shown hidden (some x)) work (Err why) work'
     unfolding change
     build_refused p = rw (read_is, read_refused p) (record { answer = refl; drawn = p.leaves ∙ rw (new_refused p) })
 
-    build_drawn : {n start len : ℕ} → take len (drop start anim) ≡ x.cmap → Applies work (basis x.header shown hidden) x.dlta s.sizes x.header.items (ok n) work'
-        → Looks anim (build s.sizes shown hidden (some x)) work (AheadBuilt x.next x.header n start len) work'
+    build_drawn : {n : ℕ} (y : Ahead) → y.next ≡ x.next → y.header ≡ x.header → y.ops ≡ n → y.cmap.now ≡ x.cmap → Applies work (basis x.header shown hidden) x.dlta s.sizes x.header.items (ok n) work'
+        → Looks (build s.sizes shown hidden (some x)) work (Ok (Some y)) work'
     unfolding change
-    build_drawn e p = let k = drawn_ops p in rw (read_is, k.1) (record { answer = λ j. ok (some (record { picture = k.3 j; next = x.next; header = x.header; ops = k.2 j; cmap = e j })); drawn = k.3 })
+    build_drawn y en eh eo ec p =
+        let k = drawn_ops p in
+        rw (read_is, k.1) (record { answer = λ j. ok (some (record { picture = k.3 j; next = en j; header = eh j; ops = (eo ∙ k.2) j; cmap = ec j })); drawn = k.3 })
 
 -- the next frame of FORM ANIM
 module _ (anim : List ℕ) (s : State) (shown hidden work : List ℕ) where
-  pub look_refused : {why : Refusal} → frame_at anim s.next (row_bytes s.sizes.width) ≡ fault (number_of why) → Looks anim (look anim s shown hidden) work (AheadRefused why) work
+  pub look_refused : {why : Refusal} → frame_at anim s.next (row_bytes s.sizes.width) ≡ fault (number_of why) → Looks (look anim s shown hidden) work (Err why) work
   unfolding look
   look_refused e = rw e (record { answer = refl; drawn = refl })
 
-  pub look_ended : frame_at anim s.next (row_bytes s.sizes.width) ≡ ok none → Looks anim (look anim s shown hidden) work AheadEnd work
+  pub look_ended : frame_at anim s.next (row_bytes s.sizes.width) ≡ ok none → Looks (look anim s shown hidden) work (Ok None) work
   unfolding look
   look_ended e = rw e (record { answer = refl; drawn = refl })
 
   module _ (j : Fits s (length shown) (length work)) (k : Fits s (length hidden) (length work)) {x : Frame} {work' : List ℕ} (e : frame_at anim s.next (row_bytes s.sizes.width) ≡ ok (some x)) where
-    pub look_unbuilt : {why : Refusal} → Applies work (basis x.header shown hidden) x.dlta s.sizes x.header.items (fault (number_of why)) work' → Looks anim (look anim s shown hidden) work (AheadRefused why) work'
+    pub look_unbuilt : {why : Refusal} → Applies work (basis x.header shown hidden) x.dlta s.sizes x.header.items (fault (number_of why)) work' → Looks (look anim s shown hidden) work (Err why) work'
     unfolding look
     look_unbuilt p = rw e (build_refused s x shown hidden work j k (frame_columns anim (row_bytes s.sizes.width) s.next x e) p)
 
-    pub look_built : {n start len : ℕ} → take len (drop start anim) ≡ x.cmap → Applies work (basis x.header shown hidden) x.dlta s.sizes x.header.items (ok n) work'
-        → Looks anim (look anim s shown hidden) work (AheadBuilt x.next x.header n start len) work'
+    pub look_built : {n : ℕ} (y : Ahead) → y.next ≡ x.next → y.header ≡ x.header → y.ops ≡ n → y.cmap.now ≡ x.cmap → Applies work (basis x.header shown hidden) x.dlta s.sizes x.header.items (ok n) work'
+        → Looks (look anim s shown hidden) work (Ok (Some y)) work'
     unfolding look
-    look_built i p = rw e (build_drawn s x shown hidden work j k (frame_columns anim (row_bytes s.sizes.width) s.next x e) i p)
+    look_built y en eh eo ec p = rw e (build_drawn s x shown hidden work j k (frame_columns anim (row_bytes s.sizes.width) s.next x e) y en eh eo ec p)
 
 -- what lies ahead
 module _ (file : List ℕ) (w : World) (work : List ℕ) where
@@ -87,16 +89,16 @@ module _ (file : List ℕ) (w : World) (work : List ℕ) where
   abbrev anim : List ℕ
   anim = take w.state.end file
 
-  pub ahead_refused : {why : Refusal} → tested ≡ fault (number_of why) → Looks anim (look_ahead file w (length work)) work (AheadRefused why) work
+  pub ahead_refused : {why : Refusal} → tested ≡ fault (number_of why) → Looks (look_ahead file w (length work)) work (Err why) work
   unfolding look_ahead
   ahead_refused e = rw e (record { answer = refl; drawn = refl })
 
-  module _ {r : Ahead} {work' : List ℕ} (e : tested ≡ ok tt) where
-    pub ahead_odd : is_odd w.state.frame ≡ true → Looks anim (look anim w.state w.a w.b) work r work' → Looks anim (look_ahead file w (length work)) work r work'
+  module _ {r : Result (Lib.Option Ahead) Refusal} {work' : List ℕ} (e : tested ≡ ok tt) where
+    pub ahead_odd : is_odd w.state.frame ≡ true → Looks (look anim w.state w.a w.b) work r work' → Looks (look_ahead file w (length work)) work r work'
     unfolding look_ahead shown_in hidden_in
     ahead_odd h q = rw (e, h) q
 
-    pub ahead_even : is_odd w.state.frame ≡ false → Looks anim (look anim w.state w.b w.a) work r work' → Looks anim (look_ahead file w (length work)) work r work'
+    pub ahead_even : is_odd w.state.frame ≡ false → Looks (look anim w.state w.b w.a) work r work' → Looks (look_ahead file w (length work)) work r work'
     unfolding look_ahead shown_in hidden_in
     ahead_even h q = rw (e, h) q
 
@@ -107,8 +109,8 @@ ahead_passed file w work =
     each_bind (ready_passed (length file) w.state (length w.a) (length w.b) (length w.map) work) λ t p.
     each_map (λ o q. p) (each_self (look (take w.state.end file) w.state (shown_in w) (hidden_in w)))
 
-pub ahead_fits : (file : List ℕ) (w : World) (work : List ℕ) {next ops start len : ℕ} {header : FrameHeader} {anim work' : List ℕ}
-    → Looks anim (look_ahead file w (length work)) work (AheadBuilt next header ops start len) work' → length work ≡ length work'
+pub ahead_fits : (file : List ℕ) (w : World) (work : List ℕ) {x : Ahead} {work' : List ℕ}
+    → Looks (look_ahead file w (length work)) work (Ok (Some x)) work' → length work ≡ length work'
     → Fits w.state (length w.a) (length work') × Fits w.state (length w.b) (length work') × (length w.map ≡ MAP)
 ahead_fits file w work k l = let p = each_is (sym k.answer) (ahead_passed file w (length work)) in (rw l at p.on_a, rw l at p.on_b, p.map_long)
 
@@ -157,11 +159,11 @@ module _ (w : World) (x : Built) (rec : List ℕ) (j : Fits w.state (length w.a)
 
   module _ {a b map rec' : List ℕ} where
     pub commit_unfit : {why : Refusal} → CommitsHidden w x.picture x.cmap rec (fault (number_of why)) a b map rec'
-        → LeavesOn (commit w (length rec) x) (lent_with w rec x.picture) (record { answer = Refused why; state = w.state }) (lent a b map w.state x.picture rec')
+        → LeavesOn (commit w (length rec) x) (lent_with w rec x.picture) (record { answer = Err why; state = w.state }) (lent a b map w.state x.picture rec')
     unfolding writes bytes commit lent_after
     commit_unfit {why} c =
         let e : writes (length rec) ≡ fault (number_of why) = sym c.answer in
-        commit_case (λ (o : After). LeavesOn o (lent_with w rec x.picture) (record { answer = Refused why; state = w.state }) (lent a b map w.state x.picture rec')) w (length rec) x
+        commit_case (λ (o : After). LeavesOn o (lent_with w rec x.picture) (record { answer = Err why; state = w.state }) (lent a b map w.state x.picture rec')) w (length rec) x
         (λ q. let v : writes (length rec) ≡ ok measured = writes_is (length rec) ∙ rw q in never (cc))
         (λ q.
         let v : writes (length rec) ≡ fault 51 = writes_is (length rec) ∙ rw q in
@@ -170,12 +172,12 @@ module _ (w : World) (x : Built) (rec : List ℕ) (j : Fits w.state (length w.a)
 
     pub commit_fit : {size count : ℕ} {s : State} → CommitsHidden w x.picture x.cmap rec (ok (record { length = size; changed = count })) a b map rec' → s ≡ moved w.state (suc w.state.frame) x.next
         → LeavesOn (commit w (length rec) x) (lent_with w rec x.picture)
-        (record { answer = Taken (record { method = x.header.method; time = x.header.time; changed = count; record_length = size; ops = x.ops }); state = s }) (lent a b map s x.picture rec')
+        (record { answer = Ok (Some (record { method = x.header.method; time = x.header.time; changed = count; record_length = size; ops = x.ops })); state = s }) (lent a b map s x.picture rec')
     unfolding writes bytes measured commit lent_after measure with_hidden
     commit_fit {size} {count} {s} c es =
         let e : writes (length rec) ≡ ok (record { length = size; changed = count }) = sym c.answer in
         commit_case (λ (o : After). LeavesOn o (lent_with w rec x.picture)
-        (record { answer = Taken (record { method = x.header.method; time = x.header.time; changed = count; record_length = size; ops = x.ops }); state = s }) (lent a b map s x.picture rec')) w (length rec) x
+        (record { answer = Ok (Some (record { method = x.header.method; time = x.header.time; changed = count; record_length = size; ops = x.ops })); state = s }) (lent a b map s x.picture rec')) w (length rec) x
         (λ q.
         let v : writes (length rec) ≡ ok measured = writes_is (length rec) ∙ rw q in
         let n : record { length = size; changed = count } ≡ measured = cc in
@@ -185,28 +187,28 @@ module _ (w : World) (x : Built) (rec : List ℕ) (j : Fits w.state (length w.a)
         (λ q. let v : writes (length rec) ≡ fault 51 = writes_is (length rec) ∙ rw q in never (cc))
 
 -- stepping on from a file
-module _ (file : List ℕ) (w : World) (work rec : List ℕ) {anim work' : List ℕ} where
-  pub on_refused : {why : Refusal} → Looks anim (look_ahead file w (length work)) work (AheadRefused why) work' → MeetsOn file (lent_with w rec work) (record { answer = Refused why; state = w.state }) (lent_with w rec work')
+module _ (file : List ℕ) (w : World) (work rec : List ℕ) {work' : List ℕ} where
+  pub on_refused : {why : Refusal} → Looks (look_ahead file w (length work)) work (Err why) work' → MeetsOn file (lent_with w rec work) (record { answer = Err why; state = w.state }) (lent_with w rec work')
   unfolding step_on settle lent_after
   on_refused {why} k =
       let e : look_ahead file w (length work) ≡ fault (number_of why) = sym k.answer in
       let d : work' ≡ work = rw e at k.drawn in
       rw e (record { answer = refl; left = ap (lent_with w rec) d })
 
-  pub on_ended : Looks anim (look_ahead file w (length work)) work AheadEnd work' → MeetsOn file (lent_with w rec work) (record { answer = End; state = w.state }) (lent_with w rec work')
+  pub on_ended : Looks (look_ahead file w (length work)) work (Ok None) work' → MeetsOn file (lent_with w rec work) (record { answer = Ok None; state = w.state }) (lent_with w rec work')
   unfolding step_on settle lent_after
   on_ended k =
       let e : look_ahead file w (length work) ≡ ok none = sym k.answer in
       let d : work' ≡ work = rw e at k.drawn in
       rw e (record { answer = refl; left = ap (lent_with w rec) d })
 
-  pub on_built : {next ops start len : ℕ} {header : FrameHeader} {cmap : List ℕ} {r : SteppedOn} {l : Lent} → Looks anim (look_ahead file w (length work)) work (AheadBuilt next header ops start len) work'
-      → cmap ≡ take len (drop start anim) → LeavesOn (commit w (length rec) (record { picture = work'; next = next; header = header; ops = ops; cmap = cmap })) (lent_with w rec work') r l
+  pub on_built : {x : Ahead} {r : SteppedOn} {l : Lent} → Looks (look_ahead file w (length work)) work (Ok (Some x)) work'
+      → LeavesOn (commit w (length rec) (record { picture = work'; next = x.next; header = x.header; ops = x.ops; cmap = x.cmap.now })) (lent_with w rec work') r l
       → MeetsOn file (lent_with w rec work) r l
   unfolding step_on settle
-  on_built {next} {ops} {header = header} {cmap = cmap} k e c =
-      rw (sym k.answer, ← e) (record {
+  on_built {x} k c =
+      rw (sym k.answer) (record {
         answer = c.answer;
         left = c.left ∙ commit_case (λ (o : After). lent_after (lent_with w rec work') o ≡ lent_after (lent_with w rec work) o) w (length rec)
-            (record { picture = work'; next = next; header = header; ops = ops; cmap = cmap }) (λ _. unfold lent_after in refl) (λ _. unfold lent_after in refl);
+            (record { picture = work'; next = x.next; header = x.header; ops = x.ops; cmap = x.cmap.now }) (λ _. unfold lent_after in refl) (λ _. unfold lent_after in refl);
       })

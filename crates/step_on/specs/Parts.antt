@@ -8,14 +8,7 @@ use Rattle.state.specs.State.{frame_length}
 use Rattle.state.specs.World.{World, hidden_in, with_hidden}
 use Rattle.colours.specs.Colours.{coloured}
 use Rattle.record.specs.Record.{Measure, written}
-use Rattle.step_on.specs.declared.Begins.{Begins}
-use Rattle.step_on.specs.declared.Begins.TheVariants.{Yes, Refused}
 use Rattle.step_on.specs.Step.{record_of}
-
--- what the tests of a step on answer
-abbrev pub ready_of : Begins → Res (Unit {0})
-ready_of Yes = ok tt
-ready_of (Refused why) = fault (number_of why)
 
 -- a state, and a picture and a work buffer of so many bytes, that a step on can go on with
 pub record Fits (s : State) (picture work : ℕ) : Type 0 where

@@ -1,7 +1,9 @@
 -- Stepping on (document 01, "Opening, stepping on, stepping back" and "Refusal numbers", and document 02, E6, E7 and E8), in two parts: what
 -- lies ahead, and the step to it, which is recorded and shown.
-use Rattle.std.specs.Prelude.{ℕ, suc, List, ◌≡◌, leb, ltb, eqb, length, take, drop}
+use Rattle.std.specs.Prelude.{ℕ, suc, List, ◌≡◌, leb, ltb, eqb, length, take, Result, Ok, Err, Some, None}
 use Rattle.std.proofs.Math.Option.{Option, none, some}
+use Rattle.std.specs.Prelude as Lib
+use Rattle.refusal.specs.declared.Refusal.{Refusal}
 use Rattle.laws.specs.Result.{Res, Res.ok, Res.fault, ◌>>=◌, need, pick}
 use Rattle.refusal.specs.Number.{number_of}
 use Rattle.state.specs.State.{row_bytes, step_length, moved}
@@ -18,9 +20,6 @@ use Rattle.delta.specs.Delta.{read_delta, draw}
 use Rattle.colours.specs.Colours.{coloured}
 use Rattle.frame.specs.Frame.{Frame, frame_at}
 use Rattle.step_on.specs.declared.Ahead.{Ahead}
-use Rattle.step_on.specs.declared.Ahead.TheVariants.{Built as AheadBuilt, End as AheadEnd, Refused as AheadRefused}
-use Rattle.step_on.specs.declared.On.{On}
-use Rattle.step_on.specs.declared.On.TheVariants.{Taken, End, Refused}
 use Rattle.step_on.specs.declared.SteppedOn.{SteppedOn}
 
 -- 11, 12 and 53 of stepping on, by the lengths of the file, A, B, the map and the work buffer
@@ -106,17 +105,16 @@ settle w room (ok (some x)) = commit w room x
 unfoldable pub step_on : List ℕ → World → ℕ → ℕ → After
 step_on file w work room = settle w room (look_ahead file w work)
 
--- what the answers say in the paper's terms; a frame that was built stands in the work buffer, and its CMAP is a part of FORM ANIM
-abbrev pub ahead_of : List ℕ → Ahead → List ℕ → Res (Option Built)
-ahead_of anim (AheadBuilt next header ops start len) work =
-    ok (some (record { picture = work; next = next; header = header; ops = ops; cmap = take len (drop start anim) }))
-ahead_of anim AheadEnd work = ok none
-ahead_of anim (AheadRefused why) work = fault (number_of why)
+-- what the answers say in the paper's terms; a frame that was built stands in the work buffer
+abbrev pub ahead_of : Result (Lib.Option Ahead) Refusal → List ℕ → Res (Option Built)
+ahead_of (Ok (Some x)) work = ok (some (record { picture = work; next = x.next; header = x.header; ops = x.ops; cmap = x.cmap.now }))
+ahead_of (Ok None) work = ok none
+ahead_of (Err why) work = fault (number_of why)
 
-abbrev pub on_of : On → Answer
-on_of (Taken report) = took_on report
-on_of End = ended
-on_of (Refused why) = refused (number_of why)
+abbrev pub on_of : Result (Lib.Option Report) Refusal → Answer
+on_of (Ok (Some report)) = took_on report
+on_of (Ok None) = ended
+on_of (Err why) = refused (number_of why)
 
 -- the frame that stands in the work buffer
 abbrev pub drawn_of : Res (Option Built) → Option (List ℕ)
@@ -124,9 +122,9 @@ drawn_of (ok (some x)) = some x.picture
 drawn_of (ok none) = none
 drawn_of (fault n) = none
 
--- what looking ahead in FORM ANIM answers and leaves in the work buffer, where q lies ahead
-pub record Looks (anim : List ℕ) (q : Res (Option Built)) (work : List ℕ) (r : Ahead) (work' : List ℕ) : Type 0 where
-  pub answer : ahead_of anim r work' ≡ q
+-- what looking ahead answers and leaves in the work buffer, where q lies ahead
+pub record Looks (q : Res (Option Built)) (work : List ℕ) (r : Result (Lib.Option Ahead) Refusal) (work' : List ℕ) : Type 0 where
+  pub answer : ahead_of r work' ≡ q
   pub drawn : work' ≡ work_after work (drawn_of q)
 
 -- what a step on answers and leaves in what it was lent, where it comes to o

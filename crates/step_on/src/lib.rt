@@ -1,78 +1,61 @@
 // Stepping on: what lies ahead is looked for and built, then recorded and shown.
-#![tactic(auto)]
+#![tactic(auto, unfolding(crate::specs::Step::ready))]
 
 ghost use Rattle.std.specs.Prelude.{◌≡◌, length, take};
 ghost use Rattle.state.specs.After.{lent};
 ghost use Rattle.colours.specs.Colours.{MAP};
 ghost use Rattle.record.specs.Record.{recorded_of};
-ghost use Rattle.delta.specs.Delta.{Applies, applied_of};
+ghost use Rattle.refusal.specs.Number.{result_of};
+ghost use Rattle.delta.specs.Delta.{Applies};
 ghost use Rattle.step_on.specs.Step.{ready, basis, look, look_ahead, commit, Looks, LeavesOn, MeetsOn};
-ghost use Rattle.step_on.specs.Parts.{ready_of, Fits, CommitsHidden};
+ghost use Rattle.step_on.specs.Parts.{Fits, CommitsHidden};
 
 use anhd::FrameHeader;
-use delta::Applied;
-use frame::Next;
 use record::Recorded;
 use refusal::Refusal;
-use state::{Length, Report, Sizes, State};
+use state::{Report, Sizes, State};
 
-// What lies ahead: a frame that stands in the work buffer, the place past it, its header, the number of its ops, and where the contents of
-// its CMAP stand in FORM ANIM; or none; or why there is none.
-#[derive(Clone, Copy)]
-pub enum Ahead {
-    Built {
-        next: usize,
-        header: FrameHeader,
-        ops: usize,
-        cmap_start: usize,
-        cmap_len: usize,
-    },
-    End,
-    Refused(Refusal),
+// A frame that lies ahead and stands in the work buffer: the place past it, its header, the number of its ops, and the contents of its
+// CMAP.
+#[derive(Clone, Copy, Debug, PartialEq, Eq)]
+pub struct Ahead<'a> {
+    pub next: usize,
+    pub header: FrameHeader,
+    pub ops: usize,
+    pub cmap: &'a [u8],
 }
 
-// What stepping on answers.
-#[derive(Clone, Copy)]
-pub enum On {
-    Taken(Report),
-    End,
-    Refused(Refusal),
-}
-
-// What stepping on answers, and the state after it.
-#[derive(Clone, Copy)]
+// What stepping on answers, a report or none at the end, and the state after it.
+// Kept: a state beside the answer, for `MeetsOn` says of a refusal, too, which state there is.
+#[derive(Clone, Copy, Debug, PartialEq, Eq)]
 pub struct SteppedOn {
-    pub answer: On,
+    pub answer: Result<Option<Report>, Refusal>,
     pub state: State,
 }
 
-// Whether state and buffers let a step on begin.
-#[derive(Clone, Copy)]
-enum Begins {
-    Yes,
-    Refused(Refusal),
-}
-
 // The tests of a step on, by the lengths of the file, A, B, the map and the work buffer.
-fn ready(file: usize, state: State, a: usize, b: usize, map: usize, work: usize) -> Begins
-    ensures { ready_of result ≡ ready file state a b map work }
+// Kept: six numbers and no struct of them, since the definition ready is asked for by these six.
+fn ready(
+    file: usize,
+    state: State,
+    a: usize,
+    b: usize,
+    map: usize,
+    work: usize,
+) -> Result<(), Refusal>
+    ensures { result_of result ≡ ready file state a b map work }
 {
     if file < state.end {
-        return Begins::Refused(Refusal::OutsideLimits);
+        return Err(Refusal::OutsideLimits);
     }
-    let l = state.step_length(a, b, map);
-    match l {
-        Length::Refused(why) => Begins::Refused(why),
-        Length::Bytes(n) => {
-            if work != n {
-                return Begins::Refused(Refusal::BufferLength);
-            }
-            if State::MAX_FRAME <= state.frame {
-                return Begins::Refused(Refusal::LastFrame);
-            }
-            Begins::Yes
-        }
+    let n = state.step_length(a, b, map)?;
+    if work != n {
+        return Err(Refusal::BufferLength);
     }
+    if State::MAX_FRAME <= state.frame {
+        return Err(Refusal::LastFrame);
+    }
+    Ok(())
 }
 
 // Builds a frame in the work buffer from the picture that its interleave names.
@@ -83,9 +66,9 @@ fn apply_frame(
     shown: &[u8],
     hidden: &[u8],
     work: &mut [u8],
-) -> Applied
+) -> Result<usize, Refusal>
     ensures { Applies work.old (basis header shown.now hidden.now) dlta.now sizes
-        header.items (applied_of result) work.new }
+        header.items (result_of result) work.new }
 {
     let items = header.items;
     if header.interleave == 1 {
@@ -95,66 +78,52 @@ fn apply_frame(
 }
 
 // Finds the next frame of FORM ANIM and builds it in the work buffer.
-fn look(anim: &[u8], state: State, shown: &[u8], hidden: &[u8], work: &mut [u8]) -> Ahead
+fn look<'a>(
+    anim: &'a [u8],
+    state: State,
+    shown: &[u8],
+    hidden: &[u8],
+    work: &mut [u8],
+) -> Result<Option<Ahead<'a>>, Refusal>
     requires { Fits state (length shown.now) (length work.old) × Fits state (length hidden.now) (length work.old) }
-    ensures { Looks anim.now (look anim.now state shown.now hidden.now) work.old result
+    ensures { Looks (look anim.now state shown.now hidden.now) work.old result
         work.new }
 {
     let sizes = state.sizes;
-    let f = frame::frame_at(anim, state.next, sizes.row_bytes());
-    match f {
-        Next::Refused(why) => Ahead::Refused(why),
-        Next::End => Ahead::End,
-        Next::Later {
-            next,
-            header,
-            start,
-            len,
-            cmap_start,
-            cmap_len,
-        } => {
-            let dlta = buffer::part(anim, start, len);
-            let d = apply_frame(header, dlta, sizes, shown, hidden, work);
-            match d {
-                Applied::Refused(why) => Ahead::Refused(why),
-                Applied::Drawn { ops } => Ahead::Built {
-                    next,
-                    header,
-                    ops,
-                    cmap_start,
-                    cmap_len,
-                },
-            }
-        }
-    }
+    let Some(x) = frame::frame_at(anim, state.next, sizes.row_bytes())? else {
+        return Ok(None);
+    };
+    let ops = apply_frame(x.header, x.dlta, sizes, shown, hidden, work)?;
+    Ok(Some(Ahead {
+        next: x.next,
+        header: x.header,
+        ops,
+        cmap: x.cmap,
+    }))
 }
 
 // Looks ahead: the next frame is found, checked and built in the work buffer.
-pub fn look_ahead(
-    file: &[u8],
+pub fn look_ahead<'a>(
+    file: &'a [u8],
     state: State,
     a: &[u8],
     b: &[u8],
     map: &[u8],
     work: &mut [u8],
-) -> Ahead
-    ensures { Looks (take state.end file.now)
+) -> Result<Option<Ahead<'a>>, Refusal>
+    ensures { Looks
         (look_ahead file.now (record { a = a.now; b = b.now; map = map.now; state = state }) (length work.old))
         work.old result work.new }
 {
-    let t = ready(file.len(), state, a.len(), b.len(), map.len(), work.len());
-    match t {
-        Begins::Refused(why) => Ahead::Refused(why),
-        Begins::Yes => {
-            let anim = buffer::part(file, 0, state.end);
-            if state.frame % 2 == 1 {
-                return look(anim, state, a, b, work);
-            }
-            look(anim, state, b, a, work)
-        }
+    ready(file.len(), state, a.len(), b.len(), map.len(), work.len())?;
+    let anim = buffer::part(file, 0, state.end);
+    if state.shows_a() {
+        return look(anim, state, a, b, work);
     }
+    look(anim, state, b, a, work)
 }
 
+// Kept: the lent buffers as parameters here and below, since a struct of them needs a clause for each that it stays the same reference.
 // Records a frame and puts it into the hidden buffer, B at an odd frame and A at an even one, and its colours into the map, unless the
 // record doesn't fit.
 fn commit_hidden(
@@ -165,14 +134,14 @@ fn commit_hidden(
     map: &mut [u8],
     work: &[u8],
     rec: &mut [u8],
-) -> Recorded
+) -> Result<Recorded, Refusal>
     requires { Fits state (length a.old) (length work.now) }
     ensures { CommitsHidden (record { a = a.old; b = b.old; map = map.old; state = state })
         work.now cmap.now rec.old (recorded_of result) a.new b.new map.new rec.new }
 {
     let frame = (state.frame + 1) as u32;
     let place = state.next as u32;
-    if state.frame % 2 == 1 {
+    if state.shows_a() {
         return record::commit(rec, frame, place, b, work, map, cmap);
     }
     record::commit(rec, frame, place, a, work, map, cmap)
@@ -181,10 +150,7 @@ fn commit_hidden(
 // Steps to the frame in the work buffer: it is recorded and shown.
 fn commit(
     state: State,
-    next: usize,
-    header: FrameHeader,
-    ops: usize,
-    cmap: &[u8],
+    x: Ahead<'_>,
     a: &mut [u8],
     b: &mut [u8],
     map: &mut [u8],
@@ -194,25 +160,24 @@ fn commit(
     requires { Fits state (length a.old) (length work.now) × Fits state (length b.old) (length work.now) × (length map.old ≡ MAP) }
     ensures { LeavesOn
         (commit (record { a = a.old; b = b.old; map = map.old; state = state }) (length rec.old)
-        (record { picture = work.now; next = next; header = header; ops = ops; cmap = cmap.now }))
+        (record { picture = work.now; next = x.entry.next; header = x.entry.header; ops = x.entry.ops; cmap = x.entry.cmap.now }))
         (lent a.old b.old map.old state work.now rec.old) result
         (lent a.new b.new map.new result.state work.now rec.new) }
 {
-    let w = commit_hidden(state, cmap, a, b, map, work, rec);
-    match w {
-        Recorded::Refused(why) => SteppedOn {
-            answer: On::Refused(why),
+    match commit_hidden(state, x.cmap, a, b, map, work, rec) {
+        Err(why) => SteppedOn {
+            answer: Err(why),
             state,
         },
-        Recorded::Written { length, changed } => SteppedOn {
-            answer: On::Taken(Report {
-                method: header.method,
-                time: header.time,
-                changed,
-                record_length: length,
-                ops,
-            }),
-            state: state.moved(state.frame + 1, next),
+        Ok(recorded) => SteppedOn {
+            answer: Ok(Some(Report {
+                method: x.header.method,
+                time: x.header.time,
+                changed: recorded.changed,
+                record_length: recorded.length,
+                ops: x.ops,
+            })),
+            state: state.moved(state.frame + 1, x.next),
         },
     }
 }
@@ -230,26 +195,15 @@ pub fn step_on(
     ensures { MeetsOn file.now (lent a.old b.old map.old state work.old rec.old) result
         (lent a.new b.new map.new result.state work.new rec.new) }
 {
-    let x = look_ahead(file, state, a, b, map, work);
-    match x {
-        Ahead::Refused(why) => SteppedOn {
-            answer: On::Refused(why),
+    match look_ahead(file, state, a, b, map, work) {
+        Err(why) => SteppedOn {
+            answer: Err(why),
             state,
         },
-        Ahead::End => SteppedOn {
-            answer: On::End,
+        Ok(None) => SteppedOn {
+            answer: Ok(None),
             state,
         },
-        Ahead::Built {
-            next,
-            header,
-            ops,
-            cmap_start,
-            cmap_len,
-        } => {
-            let anim = buffer::part(file, 0, state.end);
-            let cmap = buffer::part(anim, cmap_start, cmap_len);
-            commit(state, next, header, ops, cmap, a, b, map, work, rec)
-        }
+        Ok(Some(x)) => commit(state, x, a, b, map, work, rec),
     }
 }

@@ -2,22 +2,22 @@
 use Prim.Native.Nat.{ℕ, zero, suc, ◌+◌, ◌*◌, ◌≤◌, ◌<◌}
 use native.Mathlib.Nat.{mul-le-mul_right}
 use native.Mathlib.Omega.{arith}
-use mathlib.Core.List.{List, ◌++◌}
+use mathlib.Core.List.{List}
 use mathlib.Core.Path.{◌≡◌, refl, sym, ap, ◌∙◌}
-use lib.ListN.{length, get_or, take, drop}
-use lib.Seq.{length-take-le, take_at, ext_get_or}
+use lib.ListN.{length, get_or, set, take}
+use lib.Seq.{take_all, ext_get_or}
 use Rattle.laws.specs.Result.{Res.ok}
 use Rattle.laws.proofs.ResultLaws.{ok_same, ok_fault}
 use Rattle.laws.specs.Put.{Put}
+use Rattle.laws.specs.Store.{Copied}
+use Rattle.laws.proofs.StoreLaws.{copied_front, copied_more}
+use Rattle.std.specs.Prelude.{Result, Ok, Err, IsOk}
 use Rattle.laws.proofs.PutLaws.{put_is}
 use Rattle.refusal.specs.declared.Refusal.{Refusal}
-use Rattle.column_writer.specs.Place.{column_length, column_size_of, placed, placed_of, Places}
+use Rattle.refusal.specs.Number.{result_of}
+use Rattle.column_writer.specs.Place.{column_length, Places}
 use Rattle.column_writer.proofs.LengthLaws.{column_short}
 use Rattle.column_writer.proofs.PlaceLaws.{measured, fits}
-use Rattle.column_writer.specs.declared.ColumnSize.{ColumnSize}
-use Rattle.column_writer.specs.declared.ColumnSize.TheVariants.{Bytes, Refused}
-use Rattle.column_writer.specs.declared.Placed.{Placed}
-use Rattle.column_writer.specs.declared.Placed.TheVariants.{Next, Refused as NotPlaced}
 use Rattle.writer.specs.Write.{column_at, column_in}
 use Rattle.writer.specs.Planes.{InFrame, Plane}
 
@@ -40,51 +40,43 @@ column_ext f g row at n h =
     ext_get_or 0 (column_at f row at n) (column_at g row at n) (l ∙ sym (length_column g row at n))
     (λ i k. let b : i < n = omega arith in get_d_column f row at n i b ∙ h i b ∙ sym (get_d_column g row at n i b))
 
--- a column that was copied to the front of a buffer
-pub front_length : (n : ℕ) (xs : List ℕ) → n ≤ length xs → n ≡ length (take n xs)
-front_length n xs h = sym (length-take-le n xs h)
+-- a column that was copied to the front of an array
+pub copied_column : (f : List ℕ) (row at : ℕ) {d x : List ℕ} {n i : ℕ} → Copied d (column_at f row at n) i x → n ≤ i → i ≤ n → take n x ≡ column_at f row at n
+copied_column f row at {d} {x} {n} {i} w h k =
+    let l = length_column f row at n in
+    copied_front w (omega (arith, l)) n h ∙ take_all n (column_at f row at n) (omega (arith, l))
 
-module _ (f : List ℕ) (row at n : ℕ) (xs y : List ℕ) (h : n ≤ length xs) (e : y ≡ column_at f row at (length (take n xs))) where
-  pub copied_column : take n (y ++ drop n xs) ≡ column_at f row at n
-  copied_column =
-      let w : y ≡ column_at f row at n = e ∙ rw (length-take-le n xs h) in
-      rw w (take_at (column_at f row at n) (drop n xs) n (length_column f row at n))
+pub column_more : (f : List ℕ) (row at : ℕ) {d x : List ℕ} {n i : ℕ} → Copied d (column_at f row at n) i x → i < n → i < length d → Copied d (column_at f row at n) (i + 1) (set x i (get_or f (at + i * row) 0))
+column_more f row at {d} {x} {n} {i} w h k =
+    rw (← (get_d_column f row at n i h)) (copied_more w (rw (length_column f row at n) h) k)
 
--- every row of a column that lies in a frame
-pub rows_inside : (f : List ℕ) (row at n : ℕ) (xs : List ℕ) → ((i : ℕ) → i < n → at + i * row < length f) → n ≤ length xs → (i : ℕ) → i < length (take n xs) → at + i * row < length f
-rows_inside f row at n xs p h i k = p i (rw (length-take-le n xs h) at k)
+-- an answer that is a value
+pub is_value : {n : ℕ} (r : Result ℕ Refusal) → result_of r ≡ ok n → IsOk r
+is_value (Ok k) e = refl
+is_value (Err why) e = ok_fault e
 
--- a column of two frames, copied to the front of two buffers, is never refused
-pub held_length : (f : List ℕ) (row at n : ℕ) (xs : List ℕ) → take n xs ≡ column_at f row at n → n ≡ length (take n xs)
-held_length f row at n xs e = sym (ap length e ∙ length_column f row at n)
+pub the_value : {n k : ℕ} {r : Result ℕ Refusal} → result_of r ≡ ok n → r ≡ Ok k → k ≡ n
+the_value e f = ok_same (sym (ap result_of f) ∙ e)
 
+-- a column of two frames, copied to the front of two arrays, is never refused
 module _ (a b old new : List ℕ) (row at n : ℕ) (p : take n a ≡ column_at old row at n) (q : take n b ≡ column_at new row at n) (t : n ≤ 1024) where
-  whole : column_length (take n a) (take n b) ≡ ok (length (column_in old new row n at))
+  pub whole : column_length (take n a) (take n b) ≡ ok (length (column_in old new row n at))
   unfolding column_in
   whole =
       let l = length_column new row at n in
       rw (p, q) (measured (column_at old row at n) (column_at new row at n) (length_column old row at n ∙ sym l) (omega (arith, l)))
 
-  module _ (r : ColumnSize) (w : column_size_of r ≡ column_length (take n a) (take n b)) where
-    pub is_measured : (k : ℕ) → r ≡ Bytes k → (k ≡ length (column_in old new row n at)) × (k ≤ 3073)
+  pub short : length (column_in old new row n at) ≤ 3073
+  unfolding column_in
+  short = omega (arith, t, length_column new row at n, column_short (column_at old row at n) (column_at new row at n))
+
+  module _ {out out' : List ℕ} {place : ℕ} (r : Result ℕ Refusal) (w : Places out place (take n a) (take n b) (result_of r) out') (h : place + length (column_in old new row n at) ≤ length out) where
+    pub is_placed : result_of r ≡ ok (place + length (column_in old new row n at))
+    is_placed = w.answer ∙ fits (take n a) (take n b) out place whole h
+
+    pub is_put : {next : ℕ} → r ≡ Ok next → Put out place (column_in old new row n at) out' next
     unfolding column_in
-    is_measured k e =
-        let m : k ≡ length (column_in old new row n at) = ok_same (sym (ap column_size_of e) ∙ w ∙ whole) in
-        (m, omega (arith, m, t, length_column new row at n, column_short (column_at old row at n) (column_at new row at n)))
-
-    pub not_refused : {A : Type 0} (why : Refusal) → r ≡ Refused why → A
-    not_refused why e = ok_fault (sym (ap column_size_of e) ∙ w ∙ whole)
-
-  module _ (out out' : List ℕ) (place : ℕ) (r : Placed) (w : Places out place (take n a) (take n b) (placed_of r) out') (h : place + length (column_in old new row n at) ≤ length out) where
-    room : placed (length out) place (take n a) (take n b) ≡ ok (place + length (column_in old new row n at))
-    room = fits (take n a) (take n b) out place whole h
-
-    pub is_put : (next : ℕ) → r ≡ Next next → Put out place (column_in old new row n at) out' next
-    unfolding column_in
-    is_put next e = put_is (ok_same (sym (ap placed_of e) ∙ w.answer ∙ room)) (w.buffer ∙ rw (e, p, q))
-
-    pub not_left_out : {A : Type 0} (why : Refusal) → r ≡ NotPlaced why → A
-    not_left_out why e = ok_fault (sym (ap placed_of e) ∙ w.answer ∙ room)
+    is_put e = put_is (the_value is_placed e) (w.buffer ∙ rw (e, p, q))
 
 -- a column of a plane lies in the frames
 column_inside : (row height at k n i : ℕ) → at + height * row ≤ n → k < row → i < height → at + k + i * row < n

@@ -112,6 +112,3 @@ module _ (out : List ℕ) (p : ℕ) (y : List ℕ) (h : p ≤ 8) (l : 64 ≤ len
   zeros_put =
       let i : 4 * p + (64 - 4 * p) - 4 * p ≡ 64 - 4 * p = omega arith in
       rw i at (lent_fill out (4 * p) (64 - 4 * p) 0 y (omega arith) (rw i e))
-
-  pub zeros_fit : {n : ℕ} → n ≤ length out → n ≤ length (take (4 * p) out ++ (y ++ drop (64 - 4 * p) (drop (4 * p) out)))
-  zeros_fit k = rw (zeros_put, length-sets out (4 * p) (replicate (64 - 4 * p) 0)) k

@@ -1,13 +1,12 @@
 -- Laws of planes and of the lists that follow one another.
 use Prim.Native.Nat.{ℕ, ◌+◌, ◌*◌, ◌≤◌, zero, suc, ◌-◌, ◌<◌}
-use native.Mathlib.Numerals.{add-one}
 use native.Mathlib.Omega.{arith}
 use mathlib.Core.Path.{◌≡◌, refl, sym, ◌∙◌}
-use mathlib.Core.Bool.{Bool, true, false}
+use mathlib.Core.Bool.{Bool, true, false, ◌&&◌}
+use Rattle.std.specs.Cmp.Lexicographic.{pointwise}
 use mathlib.Core.List.{List, [], ◌∷◌}
 use lib.Dec.{eqb}
-use lib.ListN.{length, get_or, take, drop, length-append, drop_of_length-le}
-use lib.Seq.{drop-cons}
+use lib.ListN.{length, take, drop, length-append}
 use borrow.Author.Tests.{eq-eqb, ne_eqb}
 use Rattle.laws.proofs.BytesLaws.{length_be32}
 use Rattle.laws.specs.Bytes.{be32_bytes}
@@ -34,50 +33,17 @@ pub columns_none : (old new : List ℕ) (row height at column : ℕ) → row ≤
 unfolding columns_bytes
 columns_none old new row height at column h = let e : row - column ≡ 0 = omega arith in rw e
 
-pub columns_start : (old new : List ℕ) (row height at : ℕ) → columns_bytes old new row height (row - 0) (at + 0) ≡ columns_bytes old new row height row at
-columns_start old new row height at =
-    let e : row - 0 ≡ row = omega arith in
-    let f : at + 0 ≡ at = omega arith in
-    rw (e, f)
-
--- two planes are compared, all before a place with the outcome so far
-pub record Comparing (old new : List ℕ) (same : Bool) (i : ℕ) : Type 0 where
-  pub inside : i ≤ length old
-  pub is : pick same (planes_equal (drop i old) (drop i new)) false ≡ planes_equal old new
-
-pub comparing : {old new : List ℕ} → Comparing old new true 0
-comparing = record { inside = omega arith; is = refl }
-
-module _ (old new : List ℕ) (i : ℕ) (l : length old ≡ length new) (h : i < length old) where
-  equal_front : planes_equal (drop i old) (drop i new) ≡ planes_equal (get_or old i 0 ∷ drop (i + 1) old) (get_or new i 0 ∷ drop (i + 1) new)
-  equal_front = rw (add-one i, drop-cons old i 0 h, drop-cons new i 0 (omega arith))
-
-  equal_same : get_or old i 0 ≡ get_or new i 0 → planes_equal (drop i old) (drop i new) ≡ planes_equal (drop (i + 1) old) (drop (i + 1) new)
-  unfolding planes_equal
-  equal_same e = equal_front ∙ rw (eq-eqb (get_or old i 0) (get_or new i 0) e, planes_equal)
-
-  equal_other : (get_or old i 0 ≡ get_or new i 0 → ⊥) → planes_equal (drop i old) (drop i new) ≡ false
-  unfolding planes_equal
-  equal_other e = equal_front ∙ rw (ne_eqb (get_or old i 0) (get_or new i 0) e, planes_equal)
-
-pick_false : (t : Bool) → pick t false false ≡ false
-pick_false true = refl
-pick_false false = refl
-
-pick_true : (t : Bool) → pick t true false ≡ t
-pick_true true = refl
-pick_true false = refl
-
-module _ {old new : List ℕ} {same : Bool} {i : ℕ} (w : Comparing old new same i) (l : length old ≡ length new) where
-  pub same_more : i < length old → get_or old i 0 ≡ get_or new i 0 → Comparing old new same (i + 1)
-  same_more h e = record { inside = omega arith; is = rw (← (equal_same old new i l h e)) w.is }
-
-  pub other_more : i < length old → (get_or old i 0 ≡ get_or new i 0 → ⊥) → Comparing old new false (i + 1)
-  other_more h e = record { inside = omega arith; is = sym (pick_false same) ∙ (rw (equal_other old new i l h e) at w.is) }
-
-  pub compared : length old ≤ i → same ≡ planes_equal old new
-  unfolding planes_equal
-  compared h = sym (pick_true same) ∙ rw (drop_of_length-le old {i = i} h, drop_of_length-le new {i = i} (omega arith)) at w.is
+-- what `==` says of two planes
+pub equal_is : (xs ys : List ℕ) → pointwise eqb xs ys ≡ planes_equal xs ys
+unfolding planes_equal
+equal_is [] [] = refl
+equal_is [] (y ∷ ys) = refl
+equal_is (x ∷ xs) [] = refl
+equal_is (x ∷ xs) (y ∷ ys) = go (eqb x y) refl (equal_is xs ys)
+  where
+    go : (r : Bool) → eqb x y ≡ r → pointwise eqb xs ys ≡ planes_equal xs ys → (eqb x y && pointwise eqb xs ys) ≡ planes_equal (x ∷ xs) (y ∷ ys)
+    go true e f = rw (e, planes_equal) f
+    go false e f = rw (e, planes_equal)
 
 -- a plane that is unchanged, and one that isn't, from what a comparison told
 module _ (old new : List ℕ) (row height at : ℕ) {r : Bool} (e : r ≡ planes_equal (take (height * row) (drop at old)) (take (height * row) (drop at new))) where
@@ -104,14 +70,12 @@ module _ {row height planes at left : ℕ} (w : Walking row height planes at lef
   pub walking_more : Walking row height planes (at + height * row) (left - 1)
   walking_more = record { few = omega (arith, w.few); place = next_place }
 
-  pub walking_plane : {old new : List ℕ} → Frames old new row height planes → Plane old new row height at
-  walking_plane {old} {new} f = record {
-    tall = f.tall;
-    wide = f.wide;
-    in_old = omega (arith, next_place, f.old_size);
-    in_new = omega (arith, next_place, f.new_size);
-    most = f.most;
-  }
+  pub walking_plane : {old new : List ℕ} → Frames old new row height planes → at + height * row ≤ length new
+  walking_plane f = omega (arith, next_place, f.new_size)
+
+-- a plane that ends in the frames
+pub plane_in : {old new : List ℕ} {row height planes : ℕ} (at : ℕ) → Frames old new row height planes → at + height * row ≤ length new → Plane old new row height at
+plane_in at f h = record { tall = f.tall; wide = f.wide; in_old = omega (arith, h, f.old_size, f.new_size); in_new = h; most = f.most }
 
 -- the lists of the planes that are left, the next one first
 pub lists_parts : (old new : List ℕ) (row height left at : ℕ) → 0 < left

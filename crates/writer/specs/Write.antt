@@ -2,13 +2,10 @@
 -- get pointer 0; the others' lists follow from place 64 in plane order. The second eight pointers are 0.
 use Rattle.std.specs.Prelude.{ℕ, zero, suc, ◌+◌, ◌-◌, ◌*◌, ◌/◌, Bool, true, false, List, [], ◌∷◌, ◌++◌, ◌≡◌, leb, eqb, length, get_or, take, drop, replicate}
 use Rattle.laws.specs.Bytes.{be32_bytes}
-use Rattle.laws.specs.Result.{Res, Res.ok, Res.fault, ◌>>=◌, need, leaves}
-use Rattle.refusal.specs.Number.{number_of}
+use Rattle.laws.specs.Result.{Res, Res.ok, ◌>>=◌, need, leaves}
 use Rattle.state.specs.State.{row_bytes, frame_length}
 use Rattle.state.specs.declared.Sizes.{Sizes}
 use Rattle.column_writer.specs.Column.{column_bytes}
-use Rattle.writer.specs.declared.Delta.{Delta}
-use Rattle.writer.specs.declared.Delta.TheVariants.{Written, Refused}
 
 -- the column that starts at a place of a frame, n rows
 unfoldable pub column_at : List ℕ → ℕ → ℕ → ℕ → List ℕ
@@ -76,11 +73,6 @@ buffer_after bytes out q = leaves out (λ _. bytes ++ drop (length bytes) out) q
 pub record Writes (out old new : List ℕ) (z : Sizes) (answer : Res ℕ) (out' : List ℕ) : Type 0 where
   pub answers : answer ≡ written (length out) old new z
   pub leaves : out' ≡ buffer_after (delta_bytes old new z) out (written (length out) old new z)
-
--- what an answer says in the paper's terms
-abbrev pub delta_of : Delta → Res ℕ
-delta_of (Written length) = ok length
-delta_of (Refused why) = fault (number_of why)
 
 -- the longest column
 abbrev pub longest : ℕ → ℕ

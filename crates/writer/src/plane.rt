@@ -1,199 +1,119 @@
-// The list of one plane: its columns, copied out of the frames, measured and written.
+// Two frames of one size, and the list of one of their planes: its columns, copied out of the frames, measured and written.
 ghost use Rattle.std.specs.Prelude.{◌≡◌, ℕ, ◌+◌, ◌*◌, ◌<◌, ◌≤◌, length, take, drop};
 ghost use Rattle.laws.specs.Put.{Put};
-ghost use Rattle.writer.specs.Planes.{InFrame, Plane};
+ghost use Rattle.writer.specs.Planes.{Frames, InFrame};
 ghost use Rattle.writer.specs.Write.{column_at, column_in, columns_bytes, planes_equal, plane_bytes};
 
-// Copies a column of a frame: its rows lie row bytes apart, from a place on.
-fn copy_column(column: &mut [u8], frame: &[u8], row: usize, at: usize)
-    requires { (i : ℕ) → i < length column.old → at + i * row < length frame.now }
-    ensures { column.new ≡ column_at frame.now row at (length column.old) }
+// The old and the new frame: so many planes, each of height rows of row bytes.
+#[derive(Clone, Copy)]
+pub(crate) struct Pair<'a> {
+    pub(crate) old: &'a [u8],
+    pub(crate) new: &'a [u8],
+    pub(crate) row: usize,
+    pub(crate) height: usize,
+    pub(crate) planes: usize,
+    ghost frames: { Frames old.now new.now row height planes },
+}
+
+// Copies the column of a frame that starts at a place to the front of an array: its rows lie row bytes apart.
+fn copy_column(column: &mut [u8; 1024], frame: &[u8], row: usize, height: usize, at: usize)
+    requires { (height ≤ 1024) × ((i : ℕ) → i < height → at + i * row < length frame.now) }
+    ensures { take height column.new ≡ column_at frame.now row at height }
 {
-    let mut i = 0;
-    while i < column.len() {
+    for i in 0..height {
         column[i] = frame[at + i * row];
-        i += 1;
     }
 }
 
-// Copies the column that starts at a place out of both frames, into the front of was and is.
-fn copy_columns(
-    was: &mut [u8],
-    is: &mut [u8],
-    old: &[u8],
-    new: &[u8],
-    row: usize,
-    height: usize,
-    at: usize,
-)
-    requires { (height ≤ length was.old) × (height ≤ length is.old) × InFrame old.now new.now row height at }
-    ensures { (take height was.new ≡ column_at old.now row at height)
-        × (take height is.new ≡ column_at new.now row at height) }
-{
-    copy_column(&mut was[..height], old, row, at);
-    copy_column(&mut is[..height], new, row, at);
-}
-
-// How many bytes a column of the frames is written in; was and is are room for its rows.
-fn length_in(
-    was: &mut [u8],
-    is: &mut [u8],
-    old: &[u8],
-    new: &[u8],
-    row: usize,
-    height: usize,
-    at: usize,
-) -> usize
-    requires { (height ≤ length was.old) × (height ≤ length is.old) × InFrame old.now new.now row height at }
-    ensures { (result ≡ length (column_in old.now new.now row height at)) × (result ≤ 1 + 3 * 1024) }
-{
-    copy_columns(was, is, old, new, row, height, at);
-    let l = column_writer::column_length(&was[..height], &is[..height]);
-    match l {
-        column_writer::ColumnSize::Bytes(n) => n,
-        column_writer::ColumnSize::Refused(_) => 0,
+impl Pair<'_> {
+    // How many bytes a plane has.
+    pub(crate) fn plane_size(&self) -> usize
+        ensures { result ≡ self.now.height * self.now.row }
+    {
+        self.height * self.row
     }
-}
 
-// How many bytes the column is written in that starts at a place of the frames.
-fn length_at(old: &[u8], new: &[u8], row: usize, height: usize, at: usize) -> usize
-    requires { InFrame old.now new.now row height at }
-    ensures { (result ≡ length (column_in old.now new.now row height at)) × (result ≤ 1 + 3 * 1024) }
-{
-    let mut was = [0u8; 1024];
-    let mut is = [0u8; 1024];
-    length_in(&mut was, &mut is, old, new, row, height, at)
-}
-
-// Writes a column of the frames; was and is are room for its rows.
-fn write_in(
-    out: &mut [u8],
-    place: usize,
-    was: &mut [u8],
-    is: &mut [u8],
-    old: &[u8],
-    new: &[u8],
-    row: usize,
-    height: usize,
-    at: usize,
-) -> usize
-    requires { (height ≤ length was.old) × (height ≤ length is.old) × InFrame old.now new.now row height at
-        × (place + length (column_in old.now new.now row height at) ≤ length out.old) }
-    ensures { Put out.old place (column_in old.now new.now row height at) out.new result }
-{
-    copy_columns(was, is, old, new, row, height, at);
-    let p = column_writer::write(out, place, &was[..height], &is[..height]);
-    match p {
-        column_writer::Placed::Next(next) => next,
-        column_writer::Placed::Refused(_) => place,
+    // How many bytes the column is written in that starts at a place of the frames.
+    fn column_length(&self, at: usize) -> usize
+        requires { InFrame self.now.old.now self.now.new.now self.now.row self.now.height at }
+        ensures { (result ≡ length (column_in self.now.old.now self.now.new.now self.now.row self.now.height at)) × (result ≤ 1 + 3 * 1024) }
+    {
+        let mut was = [0; 1024];
+        let mut is = [0; 1024];
+        copy_column(&mut was, self.old, self.row, self.height, at);
+        copy_column(&mut is, self.new, self.row, self.height, at);
+        column_writer::column_length(&was[..self.height], &is[..self.height]).unwrap()
     }
-}
 
-// Writes the column that starts at a place of the frames.
-fn write_at(
-    out: &mut [u8],
-    place: usize,
-    old: &[u8],
-    new: &[u8],
-    row: usize,
-    height: usize,
-    at: usize,
-) -> usize
-    requires { InFrame old.now new.now row height at × (place + length (column_in old.now new.now row height at) ≤ length out.old) }
-    ensures { Put out.old place (column_in old.now new.now row height at) out.new result }
-{
-    let mut was = [0u8; 1024];
-    let mut is = [0u8; 1024];
-    write_in(out, place, &mut was, &mut is, old, new, row, height, at)
-}
-
-// How many bytes the columns of a plane are written in.
-fn columns_length(old: &[u8], new: &[u8], row: usize, height: usize, at: usize) -> usize
-    requires { Plane old.now new.now row height at }
-    ensures { (result ≡ length (columns_bytes old.now new.now row height row at)) × (result ≤ (1 + 3 * 1024) * row) }
-{
-    let mut sum = 0;
-    let mut column = 0;
-    while column < row {
-        sum += length_at(old, new, row, height, at + column);
-        column += 1;
+    // Writes the column that starts at a place of the frames.
+    fn write_column(&self, out: &mut [u8], place: usize, at: usize) -> usize
+        requires { InFrame self.now.old.now self.now.new.now self.now.row self.now.height at
+            × (place + length (column_in self.now.old.now self.now.new.now self.now.row self.now.height at) ≤ length out.old) }
+        ensures { Put out.old place (column_in self.now.old.now self.now.new.now self.now.row self.now.height at) out.new result }
+    {
+        let mut was = [0; 1024];
+        let mut is = [0; 1024];
+        copy_column(&mut was, self.old, self.row, self.height, at);
+        copy_column(&mut is, self.new, self.row, self.height, at);
+        column_writer::write(out, place, &was[..self.height], &is[..self.height]).unwrap()
     }
-    sum
-}
 
-// Writes the columns of a plane.
-fn write_columns(
-    out: &mut [u8],
-    from: usize,
-    old: &[u8],
-    new: &[u8],
-    row: usize,
-    height: usize,
-    at: usize,
-) -> usize
-    requires { Plane old.now new.now row height at × (from + length (columns_bytes old.now new.now row height row at) ≤ length out.old) }
-    ensures { Put out.old from (columns_bytes old.now new.now row height row at) out.new result }
-{
-    let mut place = from;
-    let mut column = 0;
-    while column < row {
-        place = write_at(out, place, old, new, row, height, at + column);
-        column += 1;
-    }
-    place
-}
-
-// Whether two planes are equal. There is no early exit, so that many bytes are compared at once.
-fn planes_equal(old: &[u8], new: &[u8]) -> bool
-    requires { length old.now ≡ length new.now }
-    ensures { result ≡ planes_equal old.now new.now }
-{
-    let mut same = true;
-    let mut i = 0;
-    while i < old.len() {
-        if old[i] != new[i] {
-            same = false;
+    // Kept: a plane's place and no slice of it here and below, since plane_bytes, of which roundtrip's theorems speak, is of whole frames.
+    // How many bytes the columns of a plane are written in.
+    fn columns_length(&self, at: usize) -> usize
+        requires { at + self.now.height * self.now.row ≤ length self.now.new.now }
+        ensures { (result ≡ length (columns_bytes self.now.old.now self.now.new.now self.now.row self.now.height self.now.row at))
+            × (result ≤ (1 + 3 * 1024) * self.now.row) }
+    {
+        let mut sum = 0;
+        for column in 0..self.row {
+            sum += self.column_length(at + column);
         }
-        i += 1;
+        sum
     }
-    same
-}
 
-// Whether the plane that starts at a place is unchanged.
-fn unchanged(old: &[u8], new: &[u8], row: usize, height: usize, at: usize) -> bool
-    requires { Plane old.now new.now row height at }
-    ensures { result ≡ planes_equal (take (height * row) (drop at old.now)) (take (height * row) (drop at new.now)) }
-{
-    let end = at + height * row;
-    planes_equal(&old[at..end], &new[at..end])
-}
-
-// How many bytes the list of a plane has.
-pub(crate) fn plane_length(old: &[u8], new: &[u8], row: usize, height: usize, at: usize) -> usize
-    requires { Plane old.now new.now row height at }
-    ensures { (result ≡ length (plane_bytes old.now new.now row height at)) × (result ≤ (1 + 3 * 1024) * 128) }
-{
-    if unchanged(old, new, row, height, at) {
-        return 0;
+    // Writes the columns of a plane.
+    fn write_columns(&self, out: &mut [u8], from: usize, at: usize) -> usize
+        requires { (at + self.now.height * self.now.row ≤ length self.now.new.now)
+            × (from + length (columns_bytes self.now.old.now self.now.new.now self.now.row self.now.height self.now.row at) ≤ length out.old) }
+        ensures { Put out.old from (columns_bytes self.now.old.now self.now.new.now self.now.row self.now.height self.now.row at) out.new result }
+    {
+        let mut place = from;
+        for column in 0..self.row {
+            place = self.write_column(out, place, at + column);
+        }
+        place
     }
-    columns_length(old, new, row, height, at)
-}
 
-// Writes the list of a plane, if it has one, and answers the place after it.
-pub(crate) fn write_plane(
-    out: &mut [u8],
-    place: usize,
-    old: &[u8],
-    new: &[u8],
-    row: usize,
-    height: usize,
-    at: usize,
-) -> usize
-    requires { Plane old.now new.now row height at × (place + length (plane_bytes old.now new.now row height at) ≤ length out.old) }
-    ensures { Put out.old place (plane_bytes old.now new.now row height at) out.new result }
-{
-    if unchanged(old, new, row, height, at) {
-        return place;
+    // Whether the plane that starts at a place is unchanged.
+    fn unchanged(&self, at: usize) -> bool
+        requires { at + self.now.height * self.now.row ≤ length self.now.new.now }
+        ensures { result ≡ planes_equal (take (self.now.height * self.now.row) (drop at self.now.old.now)) (take (self.now.height * self.now.row) (drop at self.now.new.now)) }
+    {
+        let end = at + self.plane_size();
+        self.old[at..end] == self.new[at..end]
     }
-    write_columns(out, place, old, new, row, height, at)
+
+    // How many bytes the list of a plane has.
+    pub(crate) fn plane_length(&self, at: usize) -> usize
+        requires { at + self.now.height * self.now.row ≤ length self.now.new.now }
+        ensures { (result ≡ length (plane_bytes self.now.old.now self.now.new.now self.now.row self.now.height at)) × (result ≤ (1 + 3 * 1024) * 128) }
+    {
+        if self.unchanged(at) {
+            return 0;
+        }
+        self.columns_length(at)
+    }
+
+    // Writes the list of a plane, if it has one, and answers the place after it.
+    pub(crate) fn write_plane(&self, out: &mut [u8], place: usize, at: usize) -> usize
+        requires { (at + self.now.height * self.now.row ≤ length self.now.new.now)
+            × (place + length (plane_bytes self.now.old.now self.now.new.now self.now.row self.now.height at) ≤ length out.old) }
+        ensures { Put out.old place (plane_bytes self.now.old.now self.now.new.now self.now.row self.now.height at) out.new result }
+    {
+        if self.unchanged(at) {
+            return place;
+        }
+        self.write_columns(out, place, at)
+    }
 }

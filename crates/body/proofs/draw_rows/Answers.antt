@@ -1,61 +1,32 @@
--- `body::draw_rows`: line, plane and place are those of the row that comes next, and drawing what is left comes to drawing all.
-use Prim.Native.Nat.{◌+◌}
+-- `body::draw_rows`: the row that comes next is that of the line and the plane, and drawing what is left comes to drawing all.
+use Prim.Native.Nat.{◌*◌}
+use mathlib.Core.Path.{◌≡◌, refl}
+use Prim.Native.Nat.{◌+◌, ◌≤◌}
+use lib.ListN.{length, length-append, length-take, length-drop}
 use native.Mathlib.Omega.{arith}
-use mathlib.Core.Path.{refl, sym, ◌∙◌}
-use Rattle.laws.proofs.ResultLaws.{told}
-use Rattle.body.specs.Walk.{took_of}
-use Rattle.body.proofs.WalkLaws.{took_row, took_row_fault, walking_starts, lines_small, walking_fits, walking_down, walking_on, walking_stop, walking_end, spot_before}
+use Rattle.body.proofs.WalkLaws.{took_row, took_row_fault, drawing_starts, drawing_end, walking_fits, walking_on, walking_stop, lent_length}
 use Rattle.body.proofs.draw_rows.Goals as goal
 
-pub overflow_mul-down : goal.overflow_mul-down
-overflow_mul-down c = omega (arith, lines_small c.args.sizes c.args.sizes.height c.requires c.row_bytes-row.ensures (omega arith))
-
 pub loop-line-init : goal.loop-line-init
-loop-line-init c = (refl, walking_starts c.requires.planes_least)
+loop-line-init c = let z : 0 * c.args.sizes.planes ≡ 0 = omega arith in (refl, rw z drawing_starts)
 
-pub take_row-t-requires : goal.take_row-t-requires
-take_row-t-requires c =
-    omega (arith, walking_fits c.loop-line.invariant.1 c.row_bytes-row.ensures c.loop-line-test.true c.requires, c.loop-line.invariant.0)
+pub slice_bounds-dst-end : goal.slice_bounds-dst-end
+slice_bounds-dst-end c =
+    omega (arith, walking_fits c.loop-plane.invariant.1 c.row_bytes-row.ensures c.loop-line-test.true c.loop-plane-test.true c.requires, c.loop-plane.invariant.0)
 
-pub returns-in-Faulty : goal.returns-in-Faulty
-returns-in-Faulty c =
-    walking_stop c.loop-line.invariant.1 c.row_bytes-row.ensures c.loop-line-test.true
-    (took_row_fault (sym (told took_of c.take_row-t.ensures.0 c.in-Faulty.is))) _
+pub returns-in_default : goal.returns-in_default
+returns-in_default c =
+    let w = c.loop-plane.invariant in
+    let fits : c.loop-plane.place + c.row_bytes-row.result ≤ length c.loop-plane.frame = omega (arith, walking_fits w.1 c.row_bytes-row.ensures c.loop-line-test.true c.loop-plane-test.true c.requires, w.0) in
+    walking_stop w.1 c.row_bytes-row.ensures c.loop-line-test.true c.loop-plane-test.true fits (took_row_fault c.in_default.ensures.0) _
 
-pub overflow_add-plane : goal.overflow_add-plane
-overflow_add-plane c =
-    omega (arith, c.loop-line.invariant.1.inside, c.requires.planes_most)
-
-pub overflow_add-place : goal.overflow_add-place
-overflow_add-place c =
-    omega (arith, walking_fits c.loop-line.invariant.1 c.row_bytes-row.ensures c.loop-line-test.true c.requires, lines_small c.args.sizes c.args.sizes.height c.requires c.row_bytes-row.ensures (omega arith), c.requires.length_most)
-
-pub overflow_add-line : goal.overflow_add-line
-overflow_add-line c = omega arith
-
-pub overflow_mul-place : goal.overflow_mul-place
-overflow_mul-place c =
-    omega (arith, lines_small c.args.sizes (c.loop-line.line + 1) c.requires c.row_bytes-row.ensures (omega (arith, c.loop-line-test.true)))
-
-pub loop-line-smaller-then-plane-sizes : goal.loop-line-smaller-then-plane-sizes
-loop-line-smaller-then-plane-sizes c =
-    omega (arith, spot_before _ _ _ _ c.loop-line-test.true c.loop-line.invariant.1.inside)
-
-pub loop-line-preserved-then-plane-sizes : goal.loop-line-preserved-then-plane-sizes
-loop-line-preserved-then-plane-sizes c = (
-  c.take_row-t.auto.frame ∙ c.loop-line.invariant.0,
-  walking_down c.loop-line.invariant.1 c.row_bytes-row.ensures c.loop-line-test.true c.if-plane-sizes.true (took_row (sym (told took_of c.take_row-t.ensures.0 c.in-Bytes.is))) c.take_row-t.ensures.1,
-)
-
-pub loop-line-smaller : goal.loop-line-smaller
-loop-line-smaller c =
-    omega (arith, spot_before _ _ _ _ c.loop-line-test.true c.loop-line.invariant.1.inside)
-
-pub loop-line-preserved : goal.loop-line-preserved
-loop-line-preserved c = (
-  c.take_row-t.auto.frame ∙ c.loop-line.invariant.0,
-  walking_on c.loop-line.invariant.1 c.row_bytes-row.ensures c.loop-line-test.true c.if-plane-sizes.false (took_row (sym (told took_of c.take_row-t.ensures.0 c.in-Bytes.is))) c.take_row-t.ensures.1,
-)
+pub loop-plane-preserved : goal.loop-plane-preserved
+loop-plane-preserved c =
+    let w = c.loop-plane.invariant in
+    let fits : c.loop-plane.place + c.row_bytes-row.result ≤ length c.loop-plane.frame = omega (arith, walking_fits w.1 c.row_bytes-row.ensures c.loop-line-test.true c.loop-plane-test.true c.requires, w.0) in (
+      simp (length-append, length-take, length-drop) (omega (arith, fits, w.0, c.take_row.auto.dst, lent_length c.loop-plane.frame c.loop-plane.place c.row_bytes-row.result fits)),
+      walking_on w.1 c.row_bytes-row.ensures c.loop-line-test.true c.loop-plane-test.true fits (took_row c.in-Ok.ensures.0) c.take_row.ensures.1,
+    )
 
 pub returns : goal.returns
-returns c = walking_end c.loop-line.invariant.1 c.loop-line-test.false
+returns c = let e : c.loop-line.line ≡ c.args.sizes.height = omega arith in drawing_end c.loop-line.invariant.1 (rw e)

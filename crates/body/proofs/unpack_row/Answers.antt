@@ -1,41 +1,32 @@
--- `body::unpack_row`: the bytes so far are those of the definition's turns, and they stand in the frame if it is drawn.
-use Rattle.body.proofs.WalkLaws.{puts_fault, took_is, took_row, took_row_fault, packet_counted, unpacking_starts, unpacking_more, unpacking_fault, unpacking_end, drawn_fault, drawn_row}
+-- `body::unpack_row`: the bytes so far are those of the definition's turns, and they stand at the front of dst if they are drawn.
 use native.Mathlib.Omega.{arith}
-use mathlib.Core.Path.{refl, sym, ap, ◌∙◌}
-use Rattle.laws.proofs.ResultLaws.{told}
-use Rattle.body.specs.Walk.{took, took_of}
+use mathlib.Core.Path.{refl}
+use lib.ListN.{length-append, length-take, length-drop}
+use Rattle.std.proofs.lemmas.Result.{err_from_is_err_and}
+use Rattle.body.proofs.WalkLaws.{took_row, took_row_fault, unpacking_starts, unpacking_counted, unpacking_more, unpacking_fault, unpacking_end}
 use Rattle.body.proofs.unpack_row.Goals as goal
 
 pub loop-filled-init : goal.loop-filled-init
 loop-filled-init c = (refl, unpacking_starts)
 
-pub overflow_add-place : goal.overflow_add-place
-overflow_add-place c = omega (arith, c.loop-filled.invariant.1.fits)
-
-pub take_packet-t-requires : goal.take_packet-t-requires
-take_packet-t-requires c = omega (arith, c.loop-filled.invariant.1.fits)
-
-pub returns-in-Faulty : goal.returns-in-Faulty
-returns-in-Faulty c =
-    let q = took_row_fault (sym (told took_of c.take_packet-t.ensures.0 c.in-Faulty.is)) in
-    let k = unpacking_fault c.loop-filled.invariant.1 c.loop-filled-test.true q in
-    (ap took (sym k), drawn_fault c.loop-filled.invariant.1.bytes (c.take_packet-t.ensures.1 ∙ puts_fault _ _ _ q ∙ c.loop-filled.invariant.1.drawn) k)
+pub returns-in_err-t : goal.returns-in_err-t
+returns-in_err-t c =
+    let p = err_from_is_err_and c.from_residual.result c.from_residual.ensures.1 in
+    let u = c.loop-filled.invariant in
+    rw (p.1, p.2) (unpacking_fault u.1 u.0 (omega (arith, u.0)) (took_row_fault c.in_err-t.ensures.0) c.take_packet.ensures.1)
 
 pub overflow_add-filled : goal.overflow_add-filled
-overflow_add-filled c =
-    omega (arith, (packet_counted _ _ _ (took_row (sym (told took_of c.take_packet-t.ensures.0 c.in-Bytes.is)))).2)
+overflow_add-filled c = omega (arith, (unpacking_counted c.loop-filled.invariant.1 c.loop-filled.invariant.0 (took_row c.in_ok-t.ensures.0)).2)
 
 pub loop-filled-smaller : goal.loop-filled-smaller
-loop-filled-smaller c =
-    omega (arith, packet_counted _ _ _ (took_row (sym (told took_of c.take_packet-t.ensures.0 c.in-Bytes.is))))
+loop-filled-smaller c = omega (arith, unpacking_counted c.loop-filled.invariant.1 c.loop-filled.invariant.0 (took_row c.in_ok-t.ensures.0))
 
 pub loop-filled-preserved : goal.loop-filled-preserved
-loop-filled-preserved c = (
-  c.take_packet-t.auto.frame ∙ c.loop-filled.invariant.0,
-  unpacking_more c.loop-filled.invariant.1 c.loop-filled-test.true (took_row (sym (told took_of c.take_packet-t.ensures.0 c.in-Bytes.is))) c.take_packet-t.ensures.1,
-)
+loop-filled-preserved c =
+    let u = c.loop-filled.invariant in (
+      simp (length-append, length-take, length-drop) (omega (arith, u.0, c.take_packet.auto.dst)),
+      unpacking_more u.1 u.0 (omega (arith, u.0)) (took_row c.in_ok-t.ensures.0) c.take_packet.ensures.1,
+    )
 
 pub returns : goal.returns
-returns c =
-    let k = unpacking_end c.loop-filled.invariant.1 c.loop-filled-test.false in
-    (took_is _ k c.loop-filled.invariant.1.counted, drawn_row c.loop-filled.invariant.1.drawn k)
+returns c = unpacking_end c.loop-filled.invariant.1 c.loop-filled.invariant.0 (omega (arith, c.loop-filled.invariant.0))

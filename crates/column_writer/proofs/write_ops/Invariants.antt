@@ -5,7 +5,7 @@ use Prim.Native.Nat.{◌-◌}
 use Rattle.column_writer.proofs.write_ops.Given as goal
 
 abbrev pub invariant-loop-row : goal.invariant-loop-row
-invariant-loop-row l = Filling l.initial.room l.old l.new l.room l.ops l.place l.row
+invariant-loop-row l = Filling l.initial.room l.column.old.now l.column.new.now l.room l.ops l.place l.row
 
 abbrev pub decreases-loop-row : goal.decreases-loop-row
-decreases-loop-row l = length l.new - l.row
+decreases-loop-row l = length l.column.new.now - l.row

@@ -1,30 +1,37 @@
--- `column_writer::write_skips`: the Skips of what is left, from here, come to the whole.
-use mathlib.Core.Path.{refl}
+-- `column_writer::write_skips`: the Skips of 127 rows are filled in, and the rest is put after them.
 use native.Mathlib.Omega.{arith}
-use Rattle.laws.proofs.PutLaws.{putting, put_byte, putting_room, putting_more, putting_last}
-use Rattle.column_writer.proofs.CutLaws.{skip_more, skip_last, skip_none}
+use Prim.Native.Nat.{ℕ, ◌+◌, ◌-◌, ◌/◌, ◌%◌, ◌≤◌, ◌<◌}
+use mathlib.Core.List.{List, ◌++◌}
+use mathlib.Core.Path.{◌≡◌, refl, ◌∙◌}
+use lib.ListN.{length, take, drop, replicate, length-replicate}
+use Rattle.laws.specs.Put.{Put}
+use Rattle.laws.proofs.PutLaws.{put_as, put_then, put_byte}
+use Rattle.laws.proofs.StoreLaws.{length_part}
+use Rattle.column_writer.specs.Column.{WrittenOp.skip, cut, ops_bytes}
+use Rattle.column_writer.proofs.CutLaws.{skip_whole, skip_rest, skip_count, skip_bytes, put_part, length_lent}
 use Rattle.column_writer.proofs.write_skips.Goals as goal
 
-pub loop-left-init : goal.loop-left-init
-loop-left-init c = putting c.requires
+module _ (out : List ℕ) (at rows : ℕ) (h : at + length (ops_bytes (cut (skip rows))) ≤ length out) where
+  room : at + rows / 127 ≤ length out
+  room = omega (arith, skip_bytes rows, skip_count rows)
 
-pub bounds-out-place : goal.bounds-out-place
-bounds-out-place c = omega (arith, putting_room c.loop-left.invariant (skip_more _ c.loop-left-test.true))
+  room_rest : (rows % 127 ≡ 0 → ⊥) → at + rows / 127 < length out
+  room_rest e = omega (arith, skip_bytes rows, skip_count rows, e)
 
-pub overflow_add-place : goal.overflow_add-place
-overflow_add-place c = omega (arith, putting_room c.loop-left.invariant (skip_more _ c.loop-left-test.true))
+  filled : (y : List ℕ) → y ≡ replicate (length (take (at + rows / 127 - at) (drop at out))) 127 → Put out at (replicate (rows / 127) 127) (take at out ++ (y ++ drop (at + rows / 127 - at) (drop at out))) (at + rows / 127)
+  filled y e =
+      let n : at + rows / 127 - at ≡ rows / 127 = omega arith in
+      put_part out at (at + rows / 127) (replicate (rows / 127) 127) (omega (arith, length-replicate {A = ℕ} (rows / 127) 127)) room (e ∙ rw (n, length_part out at (rows / 127) room) refl)
 
-pub loop-left-preserved : goal.loop-left-preserved
-loop-left-preserved c = putting_more c.loop-left.invariant (skip_more _ c.loop-left-test.true) put_byte
+pub slice_bounds-fill-end : goal.slice_bounds-fill-end
+slice_bounds-fill-end c = room _ _ _ c.requires
 
-pub returns-then-left-eq0 : goal.returns-then-left-eq0
-returns-then-left-eq0 c = putting_last c.loop-left.invariant (skip_none _ c.if-left-eq0.true)
+pub bounds-out-end : goal.bounds-out-end
+bounds-out-end c =
+    rw (length_lent c.args.out.now c.args.at _ _ c.fill.ensures.len) (room_rest _ _ _ c.requires c.if-rest-eq0.false)
 
-pub bounds-out-place-2 : goal.bounds-out-place-2
-bounds-out-place-2 c = omega (arith, putting_room c.loop-left.invariant (skip_last _ (omega arith) c.loop-left-test.false))
-
-pub overflow_add-result : goal.overflow_add-result
-overflow_add-result c = omega (arith, putting_room c.loop-left.invariant (skip_last _ (omega arith) c.loop-left-test.false))
+pub returns-then-rest-eq0 : goal.returns-then-rest-eq0
+returns-then-rest-eq0 c = put_as (filled _ _ _ c.requires _ (c.fill.ensures.after (λ y e. e))) (skip_whole _ c.if-rest-eq0.true)
 
 pub returns : goal.returns
-returns c = putting_last (putting_more c.loop-left.invariant (skip_last _ (omega arith) c.loop-left-test.false) put_byte) refl
+returns c = put_as (put_then (filled _ _ _ c.requires _ (c.fill.ensures.after (λ y e. e))) put_byte) (skip_rest _ c.if-rest-eq0.false)

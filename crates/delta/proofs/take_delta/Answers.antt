@@ -1,36 +1,27 @@
 -- `delta::take_delta`: the planes so far and those that are left are all of them.
 use Prim.Native.Nat.{◌+◌, ◌-◌}
-use mathlib.Core.Path.{refl, ◌∙◌}
-use Rattle.refusal.specs.declared.Refusal.TheVariants.{BadPointer}
-use Rattle.delta.specs.Delta.{read_planes}
-use Rattle.delta.proofs.DeltaLaws.{planes_more, planes_none, picture_short, picture_planes}
-use Rattle.delta.specs.Walk.{top, reading}
-use Rattle.delta.proofs.WalkLaws.{refused_here, walked_none, walked_more, walked_refused, walked_all, took_next, took_faulty, next_here, faulty_here}
 use native.Mathlib.Omega.{arith}
+use Rattle.delta.specs.Delta.{read_planes}
+use Rattle.delta.specs.Walk.{top, reading}
+use Rattle.delta.proofs.DeltaLaws.{planes_more, planes_none, picture_planes}
+use Rattle.refusal.proofs.NumberLaws.{err_is}
+use Rattle.delta.proofs.WalkLaws.{walked_none, walked_more, walked_refused, walked_all}
 use Rattle.delta.proofs.take_delta.Goals as goal
 
-pub returns-then-d-shape : goal.returns-then-d-shape
-returns-then-d-shape c = refused_here BadPointer (λ ops. picture_short c.args.shape c.args.d.now (reading top ops) c.if-d-shape.true)
-
 pub loop-plane-init : goal.loop-plane-init
-loop-plane-init c = (omega arith, refl, walked_none (λ ops. picture_planes c.args.shape c.args.d.now (reading top ops) c.if-d-shape.false) refl (omega arith) (omega arith) _)
+loop-plane-init c =
+    let e = c.default-at.ensures in
+    walked_none (λ ops. rw (e.0, e.1.0, e.1.1.0) (picture_planes c.args.shape c.args.d.now (reading top ops) c.if-d-shape.false)) e.1.1.1 (omega arith) (omega arith) _
 
-pub take_plane-t-requires : goal.take_plane-t-requires
-take_plane-t-requires c =
-    (rw c.loop-plane.invariant.1 c.requires, c.loop-plane-test.true, record { line = c.loop-plane.invariant.2.line; item = c.loop-plane.invariant.2.item; ops = omega (arith, c.loop-plane.invariant.2.counted, c.loop-plane.invariant.2.few, c.requires.planes_most) })
-
-pub returns-in-Refused : goal.returns-in-Refused
-returns-in-Refused c =
-    faulty_here _ (walked_refused c.loop-plane.invariant.2 (took_faulty c.take_plane-t.ensures c.in-Refused.is) (read_planes c.args.shape c.args.d.now (c.args.shape.planes - (c.loop-plane.plane + 1)) (c.loop-plane.plane + 1)) (λ ops. planes_more c.args.shape c.args.d.now c.args.shape.planes c.loop-plane.plane c.loop-plane-test.true (reading c.loop-plane.at ops)))
-
-pub overflow_add-plane : goal.overflow_add-plane
-overflow_add-plane c =
-    omega (arith, c.requires.planes_most)
+pub returns-in_err-at : goal.returns-in_err-at
+returns-in_err-at c =
+    rw (err_is c.from_residual.result c.from_residual.ensures.1)
+    (walked_refused c.loop-plane.invariant c.in_err-at.ensures (read_planes c.args.shape c.args.d.now (c.args.shape.planes - (c.loop-plane.plane + 1)) (c.loop-plane.plane + 1)) (λ ops. planes_more c.args.shape c.args.d.now c.args.shape.planes c.loop-plane.plane c.loop-plane-test.true (reading c.loop-plane.at ops)))
 
 pub loop-plane-preserved : goal.loop-plane-preserved
 loop-plane-preserved c =
-    (omega arith, c.take_plane-t.auto.frame ∙ c.loop-plane.invariant.1, walked_more c.loop-plane.invariant.2 (took_next c.take_plane-t.ensures c.in-Next.is) (λ ops. planes_more c.args.shape c.args.d.now c.args.shape.planes c.loop-plane.plane c.loop-plane-test.true (reading c.loop-plane.at ops)) (omega arith))
+    walked_more c.loop-plane.invariant c.in_ok-at.ensures (λ ops. planes_more c.args.shape c.args.d.now c.args.shape.planes c.loop-plane.plane c.loop-plane-test.true (reading c.loop-plane.at ops)) (omega arith)
 
 pub returns : goal.returns
 returns c =
-    next_here (walked_all c.loop-plane.invariant.2 (λ ops. planes_none c.args.shape c.args.d.now c.args.shape.planes c.loop-plane.plane c.loop-plane-test.false (reading c.loop-plane.at ops)) (omega (arith, c.requires.planes_most)))
+    walked_all c.loop-plane.invariant (λ ops. planes_none c.args.shape c.args.d.now c.args.shape.planes c.loop-plane.plane c.loop-plane-test.false (reading c.loop-plane.at ops)) (omega (arith, c.requires.planes_most))

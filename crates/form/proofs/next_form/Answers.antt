@@ -1,47 +1,43 @@
 -- `form::next_form`: each turn is the definition's step from the place.
-use mathlib.Core.Path.{refl, ap, ◌∙◌}
-use borrow.Author.Tests.{eq-eqb, ne_eqb, le-leb, lt-leb}
-use Rattle.laws.proofs.ResultLaws.{each_some, told}
-use Rattle.laws.proofs.LoopLaws.{starts, turns, stops}
-use Rattle.iff.specs.Chunk.{standing_of}
-use Rattle.iff.proofs.ChunkLaws.{chunk_within}
-use Rattle.form.specs.Form.{pass_on, next_form}
+use Prim.Native.Nat.{ℕ}
 use native.Mathlib.Omega.{arith}
+use mathlib.Core.Path.{◌≡◌, refl, ap, ◌∙◌}
+use mathlib.Core.List.{List}
+use borrow.Author.Tests.{eq-eqb, ne_eqb, le-leb}
+use Rattle.std.proofs.Common.{Ok, Some, Option as Maybe}
+use Rattle.laws.specs.Result.{Res.ok}
+use Rattle.laws.proofs.ResultLaws.{each_some, told}
+use Rattle.laws.proofs.LoopLaws.{starts, turns}
+use Rattle.iff.specs.declared.Chunk.{Chunk}
+use Rattle.iff.specs.Chunk.{chunk_at, chunk_of, standing_of}
+use Rattle.iff.proofs.ChunkLaws.{Within, chunk_within}
+use Rattle.form.specs.Form.{pass_on, next_form}
 use Rattle.form.proofs.next_form.Goals as goal
 
-pub loop-why-init : goal.loop-why-init
+-- the chunk that was read stands there, and lies within the parent
+stands : (s : List ℕ) (at : ℕ) {o : Maybe Chunk} {c : Chunk} → standing_of (Ok o) ≡ chunk_at s at → o ≡ Some c → chunk_at s at ≡ ok (chunk_of (Some c))
+stands s at e w = told (λ o. standing_of (Ok o)) e w
+
+lies : (s : List ℕ) (at : ℕ) {o : Maybe Chunk} {c : Chunk} → standing_of (Ok o) ≡ chunk_at s at → o ≡ Some c → Within s at (record { id = c.id; start = c.start; size = c.len; next = c.next })
+lies s at e w = each_some (stands s at e w) (chunk_within s at)
+
+pub loop-chunk-init : goal.loop-chunk-init
 unfolding next_form
-loop-why-init c = starts refl
-
-pub returns-in-End : goal.returns-in-End
-returns-in-End c = stops c.loop-why.invariant (ap (pass_on _) (told standing_of c.chunk_at-c.ensures c.in-End.is))
-
-pub returns-in-Refused : goal.returns-in-Refused
-returns-in-Refused c = stops c.loop-why.invariant (ap (pass_on _) (told standing_of c.chunk_at-c.ensures c.in-Refused.is))
-
-pub returns-then-len-lt4 : goal.returns-then-len-lt4
-returns-then-len-lt4 c =
-    stops c.loop-why.invariant (ap (pass_on _) (told standing_of c.chunk_at-c.ensures c.in-Whole.is) ∙ simp (eq-eqb _ _ c.if-id-eq-FORM.true, lt-leb _ _ c.if-len-lt4.true))
+loop-chunk-init c = starts refl
 
 pub overflow_add-result : goal.overflow_add-result
-overflow_add-result c =
-    omega (arith, each_some (told standing_of c.chunk_at-c.ensures c.in-Whole.is) (chunk_within _ _))
+overflow_add-result c = omega (arith, lies _ _ c.in_ok-chunk.ensures c.in-Some.is)
 
-pub returns-then-number32-eq-ILBM : goal.returns-then-number32-eq-ILBM
-returns-then-number32-eq-ILBM c =
-    stops c.loop-why.invariant (ap (pass_on _) (told standing_of c.chunk_at-c.ensures c.in-Whole.is) ∙ simp (← c.number32.ensures.0, eq-eqb _ _ c.if-id-eq-FORM.true, le-leb _ _ c.if-len-lt4.false, eq-eqb _ _ c.if-number32-eq-ILBM.true))
+pub loop-chunk-smaller-else-number32-eq-ILBM : goal.loop-chunk-smaller-else-number32-eq-ILBM
+loop-chunk-smaller-else-number32-eq-ILBM c = omega (arith, lies _ _ c.in_ok-chunk.ensures c.in-Some.is)
 
-pub loop-why-smaller-else-number32-eq-ILBM : goal.loop-why-smaller-else-number32-eq-ILBM
-loop-why-smaller-else-number32-eq-ILBM c =
-    omega (arith, each_some (told standing_of c.chunk_at-c.ensures c.in-Whole.is) (chunk_within _ _))
+pub loop-chunk-preserved-else-number32-eq-ILBM : goal.loop-chunk-preserved-else-number32-eq-ILBM
+loop-chunk-preserved-else-number32-eq-ILBM c =
+    turns c.loop-chunk.invariant (ap (pass_on _) (stands _ _ c.in_ok-chunk.ensures c.in-Some.is) ∙ simp (← c.number32.ensures.0, eq-eqb _ _ c.if-chunk-eq-FORM.true, le-leb _ _ c.if-chunk-lt4.false, ne_eqb _ _ c.if-number32-eq-ILBM.false)) (loop-chunk-smaller-else-number32-eq-ILBM c)
 
-pub loop-why-preserved-else-number32-eq-ILBM : goal.loop-why-preserved-else-number32-eq-ILBM
-loop-why-preserved-else-number32-eq-ILBM c =
-    turns c.loop-why.invariant (ap (pass_on _) (told standing_of c.chunk_at-c.ensures c.in-Whole.is) ∙ simp (← c.number32.ensures.0, eq-eqb _ _ c.if-id-eq-FORM.true, le-leb _ _ c.if-len-lt4.false, ne_eqb _ _ c.if-number32-eq-ILBM.false)) (loop-why-smaller-else-number32-eq-ILBM c)
+pub loop-chunk-smaller : goal.loop-chunk-smaller
+loop-chunk-smaller c = omega (arith, lies _ _ c.in_ok-chunk.ensures c.in-Some.is)
 
-pub loop-why-smaller : goal.loop-why-smaller
-loop-why-smaller c = omega (arith, each_some (told standing_of c.chunk_at-c.ensures c.in-Whole.is) (chunk_within _ _))
-
-pub loop-why-preserved : goal.loop-why-preserved
-loop-why-preserved c =
-    turns c.loop-why.invariant (ap (pass_on _) (told standing_of c.chunk_at-c.ensures c.in-Whole.is) ∙ simp (ne_eqb _ _ c.if-id-eq-FORM.false)) (loop-why-smaller c)
+pub loop-chunk-preserved : goal.loop-chunk-preserved
+loop-chunk-preserved c =
+    turns c.loop-chunk.invariant (ap (pass_on _) (stands _ _ c.in_ok-chunk.ensures c.in-Some.is) ∙ simp (ne_eqb _ _ c.if-chunk-eq-FORM.false)) (loop-chunk-smaller c)

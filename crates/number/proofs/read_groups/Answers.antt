@@ -9,11 +9,11 @@ use lib.Dec.{lit<}
 use lib.ListN.{length, get_or, drop, drop_of_length-le}
 use lib.Seq.{drop-cons}
 use Rattle.number.specs.Number.{groups, last_group, read_number, ReadAt}
-use Rattle.number.specs.declared.Parsed.TheVariants.{Number}
+use Rattle.std.specs.Prelude.{Some}
 use Rattle.number.proofs.GroupLaws.{groups_none, groups_end, groups_last, groups_more, last_ok, last_big, last_zero}
 use native.Mathlib.Omega.{arith}
 use Rattle.number.proofs.read_groups.Invariants.{Reading}
-use Rattle.number.proofs.read_groups.Goals.{After-shared_slice_known-1}
+use Rattle.number.proofs.read_groups.Goals.{After-shared_slice_known-1, else-empty-via-then-empty+else-weight-ne1, else-empty-via-else-empty}
 use Rattle.number.proofs.read_groups.Goals as goal
 
 -- a turn of the loop in which there is a byte to read
@@ -54,26 +54,22 @@ module _ {s : List ℕ} {at i weight sum left : ℕ} (t : Turn s at i weight sum
   last : get_or s i 0 < 128 → last_group weight sum (get_or s i 0) (drop (i + 1) s) ≡ read_number (drop at s)
   last h = sym (groups_last (left - 1) weight sum (get_or s i 0) (drop (i + 1) s) h) ∙ front
 
-  number : get_or s i 0 < 128 → sum + weight * get_or s i 0 < 2 ^ 32 → (0 < get_or s i 0) ⊎ (weight ≡ 1) → ReadAt s at (Number (sum + weight * get_or s i 0) (i + 1))
+  number : get_or s i 0 < 128 → sum + weight * get_or s i 0 < 2 ^ 32 → (0 < get_or s i 0) ⊎ (weight ≡ 1) → ReadAt s at (Some (record { value = sum + weight * get_or s i 0; next = i + 1 }))
   number h l p = record { is = sym (last_ok weight sum (get_or s i 0) (drop (i + 1) s) p l) ∙ last h; within = omega (arith, t.inside) }
 
-turn : (c : After-shared_slice_known-1) → Turn c.args.s.now c.args.at
-    c.loop-left.i c.loop-left.weight c.loop-left.sum c.loop-left.left
+turn : (c : After-shared_slice_known-1) → Turn c.args.s.now c.args.at (c.args.at + c.loop-k.k) c.loop-k.weight c.loop-k.sum (5 - c.loop-k.k)
 turn c = record {
-  reading = c.loop-left.invariant;
-  more_left = c.loop-left-test.true;
+  reading = c.loop-k.invariant.1;
+  more_left = omega arith;
   inside = c.if-s-i.false;
-  byte = omega (arith, c.shared_slice_known-1.given c.loop-left.i);
+  byte = omega (arith, c.shared_slice_known-1.given (c.args.at + c.loop-k.k));
 }
 
-pub loop-left-init : goal.loop-left-init
-loop-left-init c = record { light = omega arith; below = omega arith; same = unfold read_number in refl }
+pub loop-k-init : goal.loop-k-init
+loop-k-init c = (λ h. absurd (omega arith), record { light = omega arith; below = omega arith; same = let e : c.args.at + 0 ≡ c.args.at = omega arith in rw e (unfold read_number in refl) })
 
 pub returns-then-s-i : goal.returns-then-s-i
-returns-then-s-i c = record { is = sym (groups_end _ _ _) ∙ rw (drop_of_length-le c.args.s.now c.if-s-i.true) at c.loop-left.invariant.same; within = tt }
-
-pub overflow_cast-b : goal.overflow_cast-b
-overflow_cast-b c = omega (arith, c.shared_slice_known-1.given c.loop-left.i)
+returns-then-s-i c = record { is = sym (groups_end _ _ _) ∙ rw (drop_of_length-le c.args.s.now c.if-s-i.true) at c.loop-k.invariant.1.same; within = tt }
 
 pub overflow_mul-value : goal.overflow_mul-value
 overflow_mul-value c = omega (arith, sum_below (turn (goal.at.overflow_mul-value c).After-shared_slice_known-1) _ (turn (goal.at.overflow_mul-value c).After-shared_slice_known-1).byte)
@@ -84,14 +80,16 @@ overflow_add-value c = omega (arith, sum_below (turn (goal.at.overflow_add-value
 pub returns-then-value-ge4294967296 : goal.returns-then-value-ge4294967296
 returns-then-value-ge4294967296 c = record { is = sym (last_big _ _ _ _ (omega (arith, c.if-value-ge4294967296.true))) ∙ last (turn (goal.at.returns-then-value-ge4294967296 c).After-shared_slice_known-1) c.if-b-lt128.true; within = tt }
 
-pub returns-then-b-eq0 : goal.returns-then-b-eq0
-returns-then-b-eq0 c = record { is = sym (last_zero _ _ _ _ c.if-weight-ne1.true (omega (arith, c.if-b-lt128.true, c.if-b-eq0.true))) ∙ last (turn (goal.at.returns-then-b-eq0 c).After-shared_slice_known-1) c.if-b-lt128.true; within = tt }
+pub returns-then-weight-ne1 : goal.returns-then-weight-ne1
+returns-then-weight-ne1 c = record { is = sym (last_zero _ _ _ _ c.if-weight-ne1.true c.if-empty.true) ∙ last (turn (goal.at.returns-then-weight-ne1 c).After-shared_slice_known-1) c.if-b-lt128.true; within = tt }
 
-pub returns-else-b-eq0 : goal.returns-else-b-eq0
-returns-else-b-eq0 c = number (turn (goal.at.returns-else-b-eq0 c).After-shared_slice_known-1) c.if-b-lt128.true c.if-value-ge4294967296.false (inl (pos_of_ne-zero c.if-b-eq0.false))
-
-pub returns-else-weight-ne1 : goal.returns-else-weight-ne1
-returns-else-weight-ne1 c = number (turn (goal.at.returns-else-weight-ne1 c).After-shared_slice_known-1) c.if-b-lt128.true c.if-value-ge4294967296.false (inr c.if-weight-ne1.false)
+pub returns-then-b-lt128 : goal.returns-then-b-lt128
+returns-then-b-lt128 c =
+    number (turn (goal.at.returns-then-b-lt128 c).After-shared_slice_known-1) c.if-b-lt128.true c.if-value-ge4294967296.false (
+    elim c.else-empty.branch [
+      | else-empty-via-then-empty+else-weight-ne1 w ↦ inr w.if-weight-ne1.false
+      | else-empty-via-else-empty w ↦ inl (pos_of_ne-zero w.if-empty.false)
+    ])
 
 pub overflow_mul-sum : goal.overflow_mul-sum
 overflow_mul-sum c = omega (arith, sum_below (turn (goal.at.overflow_mul-sum c).After-shared_slice_known-1) _ (group (turn (goal.at.overflow_mul-sum c).After-shared_slice_known-1)))
@@ -102,8 +100,11 @@ overflow_add-sum c = omega (arith, sum_below (turn (goal.at.overflow_add-sum c).
 pub overflow_mul-weight : goal.overflow_mul-weight
 overflow_mul-weight c = omega (arith, weight_below (turn (goal.at.overflow_mul-weight c).After-shared_slice_known-1))
 
-pub loop-left-preserved : goal.loop-left-preserved
-loop-left-preserved c = again (turn (goal.at.loop-left-preserved c).After-shared_slice_known-1) c.if-b-lt128.false
+pub loop-k-preserved : goal.loop-k-preserved
+loop-k-preserved c =
+    let next : c.args.at + (c.loop-k.k + 1) ≡ c.args.at + c.loop-k.k + 1 = omega arith in
+    let left : 5 - (c.loop-k.k + 1) ≡ 5 - c.loop-k.k - 1 = omega arith in
+    (λ h. omega arith, rw (next, left) (again (turn (goal.at.loop-k-preserved c).After-shared_slice_known-1) c.if-b-lt128.false))
 
 pub returns : goal.returns
-returns c = let none_left : c.loop-left.left ≡ 0 = omega arith in record { is = sym (groups_none _ _ _) ∙ rw none_left at c.loop-left.invariant.same; within = tt }
+returns c = let none_left : 5 - c.loop-k.k ≡ 0 = omega arith in record { is = sym (groups_none _ _ _) ∙ rw none_left at c.loop-k.invariant.1.same; within = tt }

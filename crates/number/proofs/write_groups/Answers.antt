@@ -2,7 +2,7 @@
 use Prim.Native.Nat.{ℕ, ◌+◌, ◌/◌, ◌%◌, ◌<◌, ◌≤◌}
 use native.Mathlib.Numerals.{add-one}
 use mathlib.Core.List.{List}
-use mathlib.Core.Path.{◌≡◌, refl}
+use mathlib.Core.Path.{◌≡◌}
 use lib.ListN.{length, set, length-set}
 use lib.Seq.{sets}
 use Rattle.number.specs.Number.{write_number}
@@ -27,9 +27,6 @@ module _ {out₀ out : List ℕ} {at n i rest : ℕ} (w : Writing out₀ at n ou
 
   last : rest < 128 → (i + 1 ≡ at + length (write_number n)) × (set out i rest ≡ sets out₀ at (write_number n))
   last h = let e = write_last rest h in (rw e at w.place, rw e at w.bytes)
-
-pub loop-rest-init : goal.loop-rest-init
-loop-rest-init c = record { small = omega arith; size = refl; place = refl; bytes = refl }
 
 pub bounds-out-i : goal.bounds-out-i
 bounds-out-i c = inside c.loop-rest.invariant c.requires

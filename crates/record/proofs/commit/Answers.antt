@@ -1,12 +1,12 @@
 -- `record::commit`: 51 is decided before anything is written or replaced.
 use Prim.Native.Nat.{ℕ, ◌+◌, ◌-◌, ◌<◌, ◌≤◌}
 use native.Mathlib.Omega.{arith}
-use mathlib.Core.Bool.{Bool, true, false, not}
+use mathlib.Core.Bool.{true, false}
 use mathlib.Core.List.{List}
 use lib.Dec.{leb}
-use mathlib.Core.Path.{◌≡◌, sym, ◌∙◌}
+use mathlib.Core.Path.{◌≡◌, sym}
 use lib.ListN.{length}
-use borrow.Author.Tests.{leb-true, leb-false, not-true, not-false}
+use borrow.Author.Tests.{leb-true, leb-false}
 use Rattle.number.proofs.NumberLaws.{write_length}
 use Rattle.changes.proofs.CountLaws.{changed_counted}
 use Rattle.colours.specs.Colours.{coloured}
@@ -50,12 +50,12 @@ head c p v =
     omega (arith, head_length c.args.frame c.args.place c.args.old.now c.args.new.now c.args.map.now (coloured c.args.map.now c.args.cmap.now) p, c.written_length.ensures, c.written_length-2.ensures, c.written_length-3.ensures, rw v at c.map_length.ensures.0)
 
 -- what the answer of `runs_fit` tells of the whole record
-module _ (out front runs all : ℕ) (r : Bool) (e : r ≡ leb runs (out - front)) (h : front + runs ≡ all) (l : front ≤ out) where
-  too_much : not r ≡ true → out < all
-  too_much t = let u : out - front < runs = leb-false runs (out - front) (sym e ∙ not-true r t) in omega arith
+module _ (out front runs all : ℕ) (h : front + runs ≡ all) (l : front ≤ out) where
+  too_much : false ≡ leb runs (out - front) → out < all
+  too_much e = let u : out - front < runs = leb-false runs (out - front) (sym e) in omega arith
 
-  fits : not r ≡ false → all ≤ out
-  fits t = let u : runs ≤ out - front = leb-true runs (out - front) (sym e ∙ not-false r t) in omega arith
+  fits : true ≡ leb runs (out - front) → all ≤ out
+  fits e = let u : runs ≤ out - front = leb-true runs (out - front) (sym e) in omega arith
 
 -- the three numbers in front of the runs are short
 numbers : (c : After-written_length-3) → Counted c.args.old.now c.args.new.now c.count-counts.result.runs → c.written_length.result + c.written_length-2.result + c.written_length-3.result ≤ 15
@@ -92,14 +92,14 @@ returns-then-out-head c =
 
 pub returns-then-not-runs_fit : goal.returns-then-not-runs_fit
 returns-then-not-runs_fit c =
-    no_room _ _ _ _ _ _ _ c.if-old-new.false c.if-old-gt1048576.false c.if-map-ne-MAP.false (too_much _ _ _ _ _ c.runs_fit.ensures (head (goal.at.returns-then-not-runs_fit c).After-map_length (pictures (goal.at.returns-then-not-runs_fit c).After-count-counts) (over (goal.at.returns-then-not-runs_fit c).After-count-counts)) c.if-out-head.false c.if-not-runs_fit.true-raw)
+    no_room _ _ _ _ _ _ _ c.if-old-new.false c.if-old-gt1048576.false c.if-map-ne-MAP.false (too_much _ _ _ _ (head (goal.at.returns-then-not-runs_fit c).After-map_length (pictures (goal.at.returns-then-not-runs_fit c).After-count-counts) (over (goal.at.returns-then-not-runs_fit c).After-count-counts)) c.if-out-head.false c.if-not-runs_fit.ensures)
 
 pub put_record-length-requires : goal.put_record-length-requires
 put_record-length-requires c =
-    (pictures (goal.at.put_record-length-requires c).After-count-counts, laid (goal.at.put_record-length-requires c).After-count-counts, rw (over (goal.at.put_record-length-requires c).After-count-counts) (fits _ _ _ _ _ c.runs_fit.ensures (head (goal.at.put_record-length-requires c).After-map_length (pictures (goal.at.put_record-length-requires c).After-count-counts) (over (goal.at.put_record-length-requires c).After-count-counts)) c.if-out-head.false c.if-not-runs_fit.false-raw))
+    (pictures (goal.at.put_record-length-requires c).After-count-counts, laid (goal.at.put_record-length-requires c).After-count-counts, rw (over (goal.at.put_record-length-requires c).After-count-counts) (fits _ _ _ _ (head (goal.at.put_record-length-requires c).After-map_length (pictures (goal.at.put_record-length-requires c).After-count-counts) (over (goal.at.put_record-length-requires c).After-count-counts)) c.if-out-head.false c.if-not-runs_fit.ensures))
 
 pub returns : goal.returns
 returns c =
     let p = rw (over (goal.at.returns c).After-count-counts) at c.put_record-length.ensures in
-    is_written _ _ _ _ _ _ _ c.if-old-new.false c.if-old-gt1048576.false c.if-map-ne-MAP.false _ _ _ _ _ (fits _ _ _ _ _ c.runs_fit.ensures (head (goal.at.returns c).After-map_length (pictures (goal.at.returns c).After-count-counts) (over (goal.at.returns c).After-count-counts)) c.if-out-head.false c.if-not-runs_fit.false-raw)
+    is_written _ _ _ _ _ _ _ c.if-old-new.false c.if-old-gt1048576.false c.if-map-ne-MAP.false _ _ _ _ _ (fits _ _ _ _ (head (goal.at.returns c).After-map_length (pictures (goal.at.returns c).After-count-counts) (over (goal.at.returns c).After-count-counts)) c.if-out-head.false c.if-not-runs_fit.ensures)
     (changed_counted _ _ c.if-old-new.false c.count-counts.ensures) p.0 p.1 p.2

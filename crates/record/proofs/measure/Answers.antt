@@ -11,7 +11,7 @@ use Rattle.record.specs.RunList.{runs_bytes}
 use Rattle.record.proofs.RunLaws.{ahead_bytes_length}
 use native.Mathlib.Omega.{arith}
 use Rattle.record.proofs.measure.Invariants.{Measuring}
-use Rattle.record.proofs.measure.Goals.{In-Run}
+use Rattle.record.proofs.measure.Goals.{In-Some}
 use Rattle.record.proofs.measure.Goals as goal
 
 module _ {old new : List ℕ} {at bytes : ℕ} (m : Measuring old new at bytes) where
@@ -27,31 +27,27 @@ module _ {old new : List ℕ} {at bytes : ℕ} (m : Measuring old new at bytes) 
   unfolding runs_bytes
   all e = omega (arith, rw e at m.left)
 
-ahead : (c : In-Run) → RunAhead c.args.old.now c.args.new.now c.loop-gap.at c.in-Run.gap c.in-Run.count
-ahead c = ahead_of _ _ _ _ _ (told change_of c.next_run-c.ensures c.in-Run.is)
+ahead : (c : In-Some) → RunAhead c.args.old.now c.args.new.now c.loop-run.at c.in-Some.run'.gap c.in-Some.run'.count
+ahead c = ahead_of _ _ _ _ _ (told change_of c.next_run.ensures c.in-Some.is)
 
-pub loop-gap-init : goal.loop-gap-init
-loop-gap-init c = record { inside = omega arith; short = omega arith; left = omega arith }
-
-pub returns-in-Nothing : goal.returns-in-Nothing
-returns-in-Nothing c =
-    all c.loop-gap.invariant (none_ahead _ _ _ c.requires.0 (told change_of c.next_run-c.ensures c.in-Nothing.is))
+pub returns : goal.returns
+returns c = all c.loop-run.invariant (none_ahead _ _ _ c.requires.0 (told change_of c.next_run.ensures c.in_default.is))
 
 pub run_length-bytes-requires : goal.run_length-bytes-requires
-run_length-bytes-requires c = omega (arith, (ahead (goal.at.run_length-bytes-requires c).In-Run).inside)
+run_length-bytes-requires c = omega (arith, (ahead (goal.at.run_length-bytes-requires c).In-Some).inside)
 
 pub overflow_add-bytes : goal.overflow_add-bytes
-overflow_add-bytes c = omega (arith, (ahead (goal.at.overflow_add-bytes c).In-Run).inside)
+overflow_add-bytes c = omega (arith, (ahead (goal.at.overflow_add-bytes c).In-Some).inside)
 
 pub overflow_add-at : goal.overflow_add-at
-overflow_add-at c = omega (arith, (ahead (goal.at.overflow_add-at c).In-Run).inside)
+overflow_add-at c = omega (arith, (ahead (goal.at.overflow_add-at c).In-Some).inside)
 
-pub overflow_add-at-in-Run : goal.overflow_add-at-in-Run
-overflow_add-at-in-Run c = omega (arith, (ahead (goal.at.overflow_add-at-in-Run c).In-Run).inside)
+pub overflow_add-at-in-Some : goal.overflow_add-at-in-Some
+overflow_add-at-in-Some c = omega (arith, (ahead (goal.at.overflow_add-at-in-Some c).In-Some).inside)
 
-pub loop-gap-smaller : goal.loop-gap-smaller
-loop-gap-smaller c = omega (arith, (ahead (goal.at.loop-gap-smaller c).In-Run).inside, (ahead (goal.at.loop-gap-smaller c).In-Run).filled)
+pub loop-run-smaller : goal.loop-run-smaller
+loop-run-smaller c = omega (arith, (ahead (goal.at.loop-run-smaller c).In-Some).inside, (ahead (goal.at.loop-run-smaller c).In-Some).filled)
 
-pub loop-gap-preserved : goal.loop-gap-preserved
-loop-gap-preserved c =
-    more c.loop-gap.invariant (ahead (goal.at.loop-gap-preserved c).In-Run) c.run_length-bytes.ensures
+pub loop-run-preserved : goal.loop-run-preserved
+loop-run-preserved c =
+    more c.loop-run.invariant (ahead (goal.at.loop-run-preserved c).In-Some) c.run_length-bytes.ensures

@@ -13,8 +13,8 @@ pub record Measuring (old new : List ℕ) (at bytes : ℕ) : Type 0 where
   pub short : bytes ≤ 11 * at
   pub left : bytes + length (runs_bytes (runs_of (drop at old) (drop at new))) ≡ length (runs_bytes (runs_of old new))
 
-abbrev pub invariant-loop-gap : goal.invariant-loop-gap
-invariant-loop-gap l = Measuring l.old l.new l.at l.bytes
+abbrev pub invariant-loop-run : goal.invariant-loop-run
+invariant-loop-run l = Measuring l.old l.new l.at l.bytes
 
-abbrev pub decreases-loop-gap : goal.decreases-loop-gap
-decreases-loop-gap l = length l.old - l.at
+abbrev pub decreases-loop-run : goal.decreases-loop-run
+decreases-loop-run l = length l.old - l.at

@@ -1,13 +1,6 @@
 -- `record::put_map`: the run list of the part of the map that the CMAP replaces.
-use mathlib.Core.Path.{sym}
-use Rattle.record.proofs.MapLaws.{part_long, part_counted, map_fits, map_put}
+use Rattle.record.proofs.MapLaws.{part_counted, map_fits, map_put}
 use Rattle.record.proofs.put_map.Goals as goal
-
-pub slice_bounds-count-end-2 : goal.slice_bounds-count-end-2
-slice_bounds-count-end-2 c = sym (part_long c.requires.0)
-
-pub slice_bounds-put_list-end-2 : goal.slice_bounds-put_list-end-2
-slice_bounds-put_list-end-2 c = sym (part_long c.requires.0)
 
 pub put_list-requires : goal.put_list-requires
 put_list-requires c =

@@ -1,11 +1,9 @@
 -- `record::put_number`: the number fits, so that it is written.
-use Rattle.record.proofs.PutLaws.{put_next, put_fits}
+use Rattle.record.proofs.PutLaws.{put_next, put_some}
 use Rattle.record.proofs.put_number.Goals as goal
 
-pub returns-in-Next : goal.returns-in-Next
-returns-in-Next c =
-    put_next _ _ _ _ _ c.requires c.write-w.ensures _ c.in-Next.is
+pub unwrap-requires : goal.unwrap-requires
+unwrap-requires c = put_some _ _ _ _ _ c.requires c.write.ensures
 
-pub returns-in-NoRoom : goal.returns-in-NoRoom
-returns-in-NoRoom c =
-    put_fits _ _ _ _ _ c.requires c.write-w.ensures c.in-NoRoom.is
+pub returns : goal.returns
+returns c = put_next _ _ _ _ _ c.requires c.write.ensures _ c.unwrap.ensures

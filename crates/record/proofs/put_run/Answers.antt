@@ -1,11 +1,6 @@
 -- `record::put_run`: the gap, the count and the old bytes are put one after the other.
-use native.Mathlib.Omega.{arith}
 use Rattle.record.proofs.RunLaws.{run_put}
 use Rattle.record.proofs.put_run.Goals as goal
-
-pub replace-requires : goal.replace-requires
-replace-requires c =
-    (omega (arith, c.requires.3, c.put_number-count_at.ensures.place, c.put_number-count_at.ensures.size, c.put_number-bytes_at.ensures.place, c.put_number-bytes_at.ensures.size), c.requires.2)
 
 pub returns : goal.returns
 returns c =

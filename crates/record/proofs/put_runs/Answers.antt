@@ -3,7 +3,7 @@ use Prim.Native.Nat.{ℕ, ◌+◌}
 use native.Mathlib.Omega.{arith}
 use mathlib.Core.Bool.{Bool}
 use mathlib.Core.List.{List, []}
-use mathlib.Core.Path.{◌≡◌, refl, ap, ◌∙◌}
+use mathlib.Core.Path.{◌≡◌, ap, ◌∙◌}
 use lib.ListN.{length, take, drop, length-drop}
 use lib.Seq.{sets}
 use Rattle.laws.specs.Put.{Put}
@@ -14,11 +14,11 @@ use Rattle.laws.proofs.StoreLaws.{wanted_length}
 use Rattle.runs.proofs.PatchLaws.{same_of_none}
 use Rattle.runs.specs.Runs.{runs_of, change_of}
 use Rattle.runs.proofs.NextLaws.{RunAhead, ahead_of, none_ahead}
-use Rattle.record.proofs.CommitLaws.{committing_starts, committing_more, committing_ends, replaced_behind}
+use Rattle.record.proofs.CommitLaws.{committing_more, committing_ends, replaced_behind}
 use Rattle.record.specs.RunList.{run_bytes, runs_bytes}
 use Rattle.record.proofs.RunLaws.{ahead_bytes, ahead_bytes_length, ahead_size}
 use Rattle.record.proofs.put_runs.Invariants.{Writing}
-use Rattle.record.proofs.put_runs.Goals.{In-Run}
+use Rattle.record.proofs.put_runs.Goals.{In-Some}
 use Rattle.record.proofs.put_runs.Goals as goal
 
 module _ {out₀ old₀ new out old : List ℕ} {from at place : ℕ} {commit : Bool} (w : Writing out₀ from old₀ new commit out old at place) where
@@ -44,35 +44,32 @@ module _ {out₀ old₀ new out old : List ℕ} {from at place : ℕ} {commit : 
     committing_ends w.picture (same_of_none (drop at old) (drop at new) (omega (arith, w.same, length-drop at old, length-drop at new)) e),
   )
 
-ahead : (c : In-Run)
-    → RunAhead c.loop-gap.old c.args.new.now c.loop-gap.at c.in-Run.gap c.in-Run.count
-ahead c = ahead_of _ _ _ _ _ (told change_of c.next_run-c.ensures c.in-Run.is)
+ahead : (c : In-Some)
+    → RunAhead c.loop-run.old c.args.new.now c.loop-run.at c.in-Some.run'.gap c.in-Some.run'.count
+ahead c = ahead_of _ _ _ _ _ (told change_of c.next_run.ensures c.in-Some.is)
 
-pub loop-gap-init : goal.loop-gap-init
-loop-gap-init c = record { inside = omega arith; size = refl; same = c.requires.0; fits = c.requires.2; whole = λ p. p; picture = committing_starts }
-
-pub returns-in-Nothing : goal.returns-in-Nothing
-returns-in-Nothing c = all c.loop-gap.invariant (none_ahead _ _ _ c.loop-gap.invariant.same (told change_of c.next_run-c.ensures c.in-Nothing.is))
+pub returns : goal.returns
+returns c = all c.loop-run.invariant (none_ahead _ _ _ c.loop-run.invariant.same (told change_of c.next_run.ensures c.in_default.is))
 
 pub overflow_add-start : goal.overflow_add-start
-overflow_add-start c = omega (arith, (ahead (goal.at.overflow_add-start c).In-Run).inside)
+overflow_add-start c = omega (arith, (ahead (goal.at.overflow_add-start c).In-Some).inside)
 
 pub overflow_add-end : goal.overflow_add-end
-overflow_add-end c = omega (arith, (ahead (goal.at.overflow_add-end c).In-Run).inside)
+overflow_add-end c = omega (arith, (ahead (goal.at.overflow_add-end c).In-Some).inside)
 
 pub put_run-place-requires : goal.put_run-place-requires
 put_run-place-requires c =
-    let a = ahead (goal.at.put_run-place-requires c).In-Run in
-    (omega (arith, a.inside, c.loop-gap.invariant.same), omega (arith, a.inside, c.loop-gap.invariant.same), omega (arith, a.inside), omega (arith, c.loop-gap.invariant.fits, ahead_bytes_length a))
+    let a = ahead (goal.at.put_run-place-requires c).In-Some in
+    (omega (arith, a.inside, c.loop-run.invariant.same), omega (arith, a.inside, c.loop-run.invariant.same), omega (arith, a.inside), omega (arith, c.loop-run.invariant.fits, ahead_bytes_length a))
 
 pub replace-requires : goal.replace-requires
 replace-requires c =
-    let a = ahead (goal.at.replace-requires c).In-Run in
-    (omega (arith, a.inside), omega (arith, a.inside, c.loop-gap.invariant.same))
+    let a = ahead (goal.at.replace-requires c).In-Some in
+    (omega (arith, a.inside), omega (arith, a.inside, c.loop-run.invariant.same))
 
-pub loop-gap-smaller : goal.loop-gap-smaller
-loop-gap-smaller c = let a = ahead (goal.at.loop-gap-smaller c).In-Run in omega (arith, a.inside, a.filled, c.loop-gap.invariant.same)
+pub loop-run-smaller : goal.loop-run-smaller
+loop-run-smaller c = let a = ahead (goal.at.loop-run-smaller c).In-Some in omega (arith, a.inside, a.filled, c.loop-run.invariant.same)
 
-pub loop-gap-preserved : goal.loop-gap-preserved
-loop-gap-preserved c =
-    more c.loop-gap.invariant (ahead (goal.at.loop-gap-preserved c).In-Run) c.put_run-place.ensures c.replace.ensures
+pub loop-run-preserved : goal.loop-run-preserved
+loop-run-preserved c =
+    more c.loop-run.invariant (ahead (goal.at.loop-run-preserved c).In-Some) c.put_run-place.ensures c.replace.ensures

@@ -19,8 +19,8 @@ pub record Writing (out₀ : List ℕ) (from : ℕ) (old₀ new : List ℕ) (com
   pub whole : {out' : List ℕ} {next : ℕ} → Put out place (runs_bytes (runs_of (drop at old) (drop at new))) out' next → Put out₀ from (runs_bytes (runs_of old₀ new)) out' next
   pub picture : Committing commit old₀ new at old
 
-abbrev pub invariant-loop-gap : goal.invariant-loop-gap
-invariant-loop-gap l = Writing l.initial.out l.from l.initial.old l.new l.commit l.out l.old l.at l.place
+abbrev pub invariant-loop-run : goal.invariant-loop-run
+invariant-loop-run l = Writing l.initial.out l.from l.initial.old l.new l.commit l.out l.old l.at l.place
 
-abbrev pub decreases-loop-gap : goal.decreases-loop-gap
-decreases-loop-gap l = length l.new - l.at
+abbrev pub decreases-loop-run : goal.decreases-loop-run
+decreases-loop-run l = length l.new - l.at

@@ -34,6 +34,3 @@ overflow_add-counts-2 c = omega (arith, few c.args.old.now c.args.new.now c.requ
 
 pub returns-then-counts-old : goal.returns-then-counts-old
 returns-then-counts-old c = sym (le-leb _ _ (enough c.args.old.now c.args.new.now c.requires.0 c.requires.2 c.if-counts-old.true))
-
-pub returns : goal.returns
-returns c = rw c.measure.ensures

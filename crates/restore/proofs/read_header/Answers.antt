@@ -3,13 +3,12 @@ use Rattle.number.proofs.NumberLaws.{number_found, none_found}
 use Rattle.restore.proofs.RestoreLaws.{no_frame, no_place, header_found}
 use Rattle.restore.proofs.read_header.Goals as goal
 
-pub returns-in-Malformed : goal.returns-in-Malformed
-returns-in-Malformed c = no_frame _ (none_found c.read-f.ensures c.in-Malformed.is)
+pub returns-in_err-frame : goal.returns-in_err-frame
+returns-in_err-frame c = rw c.from_residual.ensures (no_frame _ (none_found c.in_err-frame.ensures))
 
-pub returns-in-Malformed-p : goal.returns-in-Malformed-p
-returns-in-Malformed-p c =
-    no_place (number_found c.read-f.ensures c.in-Number.is) (none_found c.read-p.ensures c.in-Malformed-p.is)
+pub returns-in_err-place : goal.returns-in_err-place
+returns-in_err-place c =
+    rw c.from_residual-in_err-place.ensures (no_place (number_found c.in_ok-frame.ensures) (none_found c.in_err-place.ensures))
 
-pub returns-in-Number-p : goal.returns-in-Number-p
-returns-in-Number-p c =
-    header_found (number_found c.read-f.ensures c.in-Number.is) (number_found c.read-p.ensures c.in-Number-p.is)
+pub returns : goal.returns
+returns c = header_found (number_found c.in_ok-frame.ensures) (number_found c.in_ok-place.ensures)

@@ -1,29 +1,24 @@
 -- `step_on::look`: the next frame, if there is one, is built; its DLTA and its CMAP are parts of FORM ANIM.
-use mathlib.Core.Path.{◌≡◌, refl}
-use Rattle.laws.proofs.ResultLaws.{told}
-use Rattle.state.specs.State.{row_bytes}
-use Rattle.frame.specs.Frame.{next_of, frame_at}
+use mathlib.Core.Path.{refl, sym}
+use Rattle.refusal.proofs.NumberLaws.{err_is}
 use Rattle.step_on.proofs.StepLaws.{look_refused, look_ended, look_unbuilt, look_built}
-use Rattle.step_on.proofs.look.Goals.{After-frame_at-f}
 use Rattle.step_on.proofs.look.Goals as goal
 
-found : (f : After-frame_at-f) → next_of f.args.anim.now f.frame_at-f.result ≡ frame_at f.args.anim.now f.args.state.next (row_bytes f.args.state.sizes.width)
-found f = rw f.row_bytes.ensures at f.frame_at-f.ensures
+pub returns-in_err-x : goal.returns-in_err-x
+returns-in_err-x c =
+    rw (err_is c.from_residual.result c.from_residual.ensures.1)
+    (look_refused c.args.anim.now c.args.state c.args.shown.now c.args.hidden.now c.args.work.now (sym (rw c.row_bytes.ensures at c.in_err-x.ensures)))
 
-pub returns-in-Refused : goal.returns-in-Refused
-returns-in-Refused c =
-    look_refused c.args.anim.now c.args.state c.args.shown.now c.args.hidden.now c.args.work.now (told (next_of c.args.anim.now) (found (goal.at.returns-in-Refused c).After-frame_at-f) c.in-Refused.is)
+pub returns-in_default : goal.returns-in_default
+returns-in_default c =
+    look_ended c.args.anim.now c.args.state c.args.shown.now c.args.hidden.now c.args.work.now (sym (rw (c.row_bytes.ensures, c.in_default.is) at c.in_ok-x.ensures))
 
-pub returns-in-End : goal.returns-in-End
-returns-in-End c =
-    look_ended c.args.anim.now c.args.state c.args.shown.now c.args.hidden.now c.args.work.now (told (next_of c.args.anim.now) (found (goal.at.returns-in-End c).After-frame_at-f) c.in-End.is)
+pub returns-in_err-ops : goal.returns-in_err-ops
+returns-in_err-ops c =
+    rw (err_is c.from_residual-in_err-ops.result c.from_residual-in_err-ops.ensures.1)
+    (look_unbuilt c.args.anim.now c.args.state c.args.shown.now c.args.hidden.now c.args.work.now c.requires.0 c.requires.1 (sym (rw (c.row_bytes.ensures, c.in-Some.is) at c.in_ok-x.ensures))
+    c.in_err-ops.ensures)
 
-pub returns-in-Refused-d : goal.returns-in-Refused-d
-returns-in-Refused-d c =
-    look_unbuilt c.args.anim.now c.args.state c.args.shown.now c.args.hidden.now c.args.work.now c.requires.0 c.requires.1 (told (next_of c.args.anim.now) (found (goal.at.returns-in-Refused-d c).After-frame_at-f) c.in-Later.is)
-    (rw (c.in-Refused-d.is, c.part-dlta.ensures) at c.apply_frame-d.ensures)
-
-pub returns-in-Drawn : goal.returns-in-Drawn
-returns-in-Drawn c =
-    look_built c.args.anim.now c.args.state c.args.shown.now c.args.hidden.now c.args.work.now c.requires.0 c.requires.1 (told (next_of c.args.anim.now) (found (goal.at.returns-in-Drawn c).After-frame_at-f) c.in-Later.is) refl
-    (rw (c.in-Drawn.is, c.part-dlta.ensures) at c.apply_frame-d.ensures)
+pub returns : goal.returns
+returns c =
+    look_built c.args.anim.now c.args.state c.args.shown.now c.args.hidden.now c.args.work.now c.requires.0 c.requires.1 (sym (rw (c.row_bytes.ensures, c.in-Some.is) at c.in_ok-x.ensures)) _ refl refl refl refl c.in_ok-ops.ensures

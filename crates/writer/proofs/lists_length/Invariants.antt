@@ -1,5 +1,5 @@
 -- `writer::lists_length`: what is counted and what is left, from here, come to the whole.
-use Prim.Native.Nat.{ℕ, ◌+◌, ◌*◌, ◌≤◌}
+use Prim.Native.Nat.{ℕ, ◌+◌, ◌-◌, ◌*◌, ◌≤◌}
 use mathlib.Core.List.{List}
 use Rattle.column_writer.proofs.CountLaws.{Counting}
 use Rattle.writer.specs.Write.{lists_bytes}
@@ -12,8 +12,5 @@ pub record Lists (old new : List ℕ) (row height planes sum at left : ℕ) : Ty
   pub small : sum + left * 393344 ≤ 3146752
   pub rest : Counting (lists_bytes old new row height planes 0) sum (lists_bytes old new row height left at)
 
-abbrev pub invariant-loop-left : goal.invariant-loop-left
-invariant-loop-left l = Lists l.old l.new l.row l.height l.planes l.sum l.at l.left
-
-abbrev pub decreases-loop-left : goal.decreases-loop-left
-decreases-loop-left l = l.left
+abbrev pub invariant-loop : goal.invariant-loop
+invariant-loop l = Lists l.pair.old.now l.pair.new.now l.pair.row l.pair.height l.pair.planes l.sum l.at (l.pair.planes - l.counter)

@@ -3,8 +3,5 @@
 use Rattle.delta.proofs.DeltaLaws.{Putting}
 use Rattle.delta.proofs.rows.draw_rows.Given as goal
 
-abbrev pub invariant-loop-left : goal.invariant-loop-left
-invariant-loop-left l = Putting l.item l.row l.step l.d l.count l.from l.place l.initial.frame l.frame l.at l.item_at l.left
-
-abbrev pub decreases-loop-left : goal.decreases-loop-left
-decreases-loop-left l = l.left
+abbrev pub invariant-loop : goal.invariant-loop
+invariant-loop l = Putting l.item l.row l.step l.d l.count l.from l.place l.initial.frame l.frame l.at l.item_at l.counter

@@ -1,16 +1,10 @@
 -- `opening::picture::first_body`: the CMAP's length, then what unpacking comes to.
-use Rattle.laws.proofs.ResultLaws.{told, told_false, told_true}
-use Rattle.body.specs.Body.{unpacked_of}
-use Rattle.opening.proofs.OpenLaws.{body_uncoloured, body_bad, body_done}
+use Rattle.refusal.proofs.NumberLaws.{err_is}
+use Rattle.opening.proofs.OpenLaws.{body_uncoloured, body_unpacked}
 use Rattle.opening.proofs.picture.first_body.Goals as goal
 
-pub returns-then-not-good_length : goal.returns-then-not-good_length
-returns-then-not-good_length c = body_uncoloured _ _ _ _ _ (told_false c.good_length.ensures c.if-not-good_length.true-raw)
+pub returns-in_err-colours : goal.returns-in_err-colours
+returns-in_err-colours c = rw (err_is c.from_residual.result c.from_residual.ensures.1) (body_uncoloured _ _ _ _ _ c.in_err-colours.ensures)
 
-pub returns-in-Refused : goal.returns-in-Refused
-returns-in-Refused c =
-    body_bad _ _ _ _ _ c.requires (told_true c.good_length.ensures c.if-not-good_length.false-raw) (told unpacked_of c.unpack-u.ensures.0 c.in-Refused.is) c.unpack-u.ensures.1
-
-pub returns-in-Done : goal.returns-in-Done
-returns-in-Done c =
-    body_done _ _ _ _ _ c.requires (told_true c.good_length.ensures c.if-not-good_length.false-raw) (told unpacked_of c.unpack-u.ensures.0 c.in-Done.is) c.unpack-u.ensures.1
+pub returns : goal.returns
+returns c = body_unpacked _ _ _ _ _ c.requires c.in_ok-colours.ensures c.unpack.ensures.0 c.unpack.ensures.1

@@ -1,27 +1,30 @@
 -- `opening::picture::first_delta`: the header, the CMAP's length, then the delta into zeros.
 use mathlib.Core.Bool.{true}
-use mathlib.Core.Path.{◌≡◌}
-use Rattle.laws.proofs.ResultLaws.{told, told_false, told_true}
+use mathlib.Core.Path.{◌≡◌, sym}
+use Rattle.laws.specs.Result.{Res.ok}
 use Rattle.state.specs.State.{row_bytes}
-use Rattle.anhd.specs.Anhd.{anhd_of, frame_header}
+use Rattle.anhd.specs.Anhd.{frame_header}
+use Rattle.refusal.proofs.NumberLaws.{err_is}
 use Rattle.opening.proofs.OpenLaws.{delta_unread, delta_uncoloured, delta_bad, delta_done}
-use Rattle.opening.proofs.picture.first_delta.Goals.{After-frame_header-h}
+use Rattle.opening.proofs.picture.first_delta.Goals.{In_ok-header}
 use Rattle.opening.proofs.picture.first_delta.Goals as goal
 
-header : (f : After-frame_header-h) → anhd_of f.frame_header-h.result ≡ frame_header true (row_bytes f.args.sizes.width) f.args.anhd.now
-header f = rw f.row_bytes.ensures at f.frame_header-h.ensures
+header : (h : In_ok-header) → frame_header true (row_bytes h.args.sizes.width) h.args.anhd.now ≡ ok h.in_ok-header.header
+header h = sym (rw h.row_bytes.ensures at h.in_ok-header.ensures)
 
-pub returns-then-not-good_length : goal.returns-then-not-good_length
-returns-then-not-good_length c =
-    delta_uncoloured _ _ _ _ _ (told anhd_of (header (goal.at.returns-then-not-good_length c).After-frame_header-h) c.in-Header.is) (told_false c.good_length.ensures c.if-not-good_length.true-raw)
+pub returns-in_err-header : goal.returns-in_err-header
+returns-in_err-header c =
+    rw (err_is c.from_residual.result c.from_residual.ensures.1) (delta_unread _ _ _ _ _ (sym (rw c.row_bytes.ensures at c.in_err-header.ensures)))
 
-pub returns-in-Refused : goal.returns-in-Refused
-returns-in-Refused c = delta_unread _ _ _ _ _ (told anhd_of (header (goal.at.returns-in-Refused c).After-frame_header-h) c.in-Refused.is)
+pub returns-in_err-colours : goal.returns-in_err-colours
+returns-in_err-colours c =
+    rw (err_is c.from_residual-in_err-colours.result c.from_residual-in_err-colours.ensures.1)
+    (delta_uncoloured _ _ _ _ _ (header (goal.at.returns-in_err-colours c).In_ok-header) c.in_err-colours.ensures)
 
-pub returns-in-Refused-d : goal.returns-in-Refused-d
-returns-in-Refused-d c =
-    delta_bad _ _ _ _ _ (told anhd_of (header (goal.at.returns-in-Refused-d c).After-frame_header-h) c.in-Header.is) c.requires (told_true c.good_length.ensures c.if-not-good_length.false-raw) (rw c.in-Refused-d.is at c.apply_first-d.ensures)
+pub returns-in_err-apply_first : goal.returns-in_err-apply_first
+returns-in_err-apply_first c =
+    rw (err_is c.from_residual-in_err-apply_first.result c.from_residual-in_err-apply_first.ensures.1)
+    (delta_bad _ _ _ _ _ (header (goal.at.returns-in_err-apply_first c).In_ok-header) c.requires c.in_ok-colours.ensures c.in_err-apply_first.ensures)
 
-pub returns-in-Drawn : goal.returns-in-Drawn
-returns-in-Drawn c =
-    delta_done _ _ _ _ _ (told anhd_of (header (goal.at.returns-in-Drawn c).After-frame_header-h) c.in-Header.is) c.requires (told_true c.good_length.ensures c.if-not-good_length.false-raw) (rw c.in-Drawn.is at c.apply_first-d.ensures)
+pub returns : goal.returns
+returns c = delta_done _ _ _ _ _ (header (goal.at.returns c).In_ok-header) c.requires c.in_ok-colours.ensures c.in_ok-apply_first.ensures
