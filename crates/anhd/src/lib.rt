@@ -20,7 +20,7 @@ pub enum Items {
 }
 
 // What ANHD says of a frame: the method, the time after the frame before, the interleave, and the items of its delta.
-// Kept: the method stays a number, since the definition frame_header hands on ANHD's byte, and a step's report gives it to C.
+// Kept: the method and the interleave stay numbers, since the definition frame_header hands on ANHD's bytes, and a report gives the method to C.
 #[derive(Clone, Copy, Debug, PartialEq, Eq)]
 pub struct FrameHeader {
     pub method: usize,
@@ -37,6 +37,7 @@ fn method_ok(method: usize) -> bool
 }
 
 // Whether an interleave is taken, in the first frame or a later one.
+// Kept: a flag here and below, since the definition frame_header has it.
 fn interleave_ok(first: bool, interleave: usize) -> bool
     ensures { result ≡ interleave_ok first interleave }
 {

@@ -14,21 +14,17 @@ use step_on::SteppedOn;
 fn wrong_length() -> u64
     ensures { result ≡ 11 }
 {
-    let why = Refusal::OutsideLimits;
-    why.number()
+    Refusal::OutsideLimits.number()
 }
 
 // Whether the slices for a state and a report have their lengths.
 fn lengths_ok(state: usize, report: usize) -> bool
     ensures { result ≡ (eqb state 48 && eqb report 40) }
 {
-    if state != 48 {
-        return false;
-    }
-    report == 40
+    state == 48 && report == 40
 }
 
-// Kept: a slice for each buffer, and numbers for answers, as the C interface has them.
+// Kept: a slice for each buffer and numbers for answers, here and below, as the C interface has them.
 // Asks how long A and B must be for a file.
 pub fn anim_frame_size(file: &[u8], size: &mut [u8]) -> u64
     ensures { SizesC file.now size.old result size.new }

@@ -71,7 +71,7 @@ fn packet_at(s: &[u8], at: usize, room: usize) -> Result<Packet<'_>, Refusal>
 }
 
 // Puts bytes at the front of dst, if drawing is set.
-// Kept: a flag and no closure, since both walks are one, and the definition says by the same flag what is drawn.
+// Kept: a flag here and below, since a walk that is handed a closure, with what its clause has to ask of it, is longer.
 fn draw_copy(dst: &mut [u8], bytes: &[u8], drawing: bool)
     ensures { dst.new ≡ pick drawing (over dst.old bytes.now) dst.old }
 {

@@ -30,7 +30,7 @@ pub fn number16(s: &[u8], at: usize) -> usize
 }
 
 // Four bytes at a place as a number, the highest first; bytes past the end count as 0.
-// Kept: a function beside number16, since the library has a from_be_bytes for each type and no trait for them all.
+// Kept: beside number16, since a generic function over FromBytes of num_traits, with its bounds, is longer than the two.
 #[tactic(auto, unfolding(laws::specs::Bytes::be32))]
 pub fn number32(s: &[u8], at: usize) -> usize
     ensures { (result ≡ be32 s.now at) × (result < 4294967296) }

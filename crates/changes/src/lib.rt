@@ -48,7 +48,7 @@ pub fn count(old: &[u8], new: &[u8]) -> Counts
         return Counts { runs, changed };
     }
     let mut at = 0;
-    // Kept: the step is 128 bytes and not 1, and the last block begins where this loop ends.
+    // Kept: no step_by, since the last block, of another length, begins where this loop ends.
     while 128 < n - at {
         let b = count_block(old, new, at, 128);
         runs += b.ends as usize;

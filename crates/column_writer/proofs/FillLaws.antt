@@ -1,12 +1,13 @@
 -- Laws of the walk over a column's pieces: its ops counted, and written to the front of a buffer.
 use Prim.Native.Nat.{ℕ, ◌+◌, ◌-◌, ◌*◌, ◌≤◌, ◌<◌}
 use native.Mathlib.Omega.{arith}
-use mathlib.Core.List.{List, []}
+use mathlib.Core.List.{List, [], ◌++◌}
 use mathlib.Core.Path.{◌≡◌, refl, sym, ap, ◌∙◌}
-use lib.ListN.{length, take, drop, length-append, length-drop}
+use lib.ListN.{length, set, take, drop, length-append, length-drop, length-set}
 use lib.Seq.{sets-eq, take_at, length-take-le}
 use Rattle.laws.specs.Put.{Put}
-use Rattle.laws.proofs.PutLaws.{Putting, putting, putting_room, putting_more, putting_last}
+use Rattle.laws.specs.Store.{over}
+use Rattle.laws.proofs.PutLaws.{Putting, putting, putting_room, putting_more, putting_last, put_as, put_then, put_byte, put_copy}
 use Rattle.runs.specs.Runs.{runs_of}
 use Rattle.runs.specs.Front.{runs_at}
 use Rattle.column_writer.specs.Column.{WrittenOp.uniq, cut, ops_of, ops_bytes, column_bytes}
@@ -112,3 +113,12 @@ module _ {old new : List ℕ} {ops bytes : ℕ} (m : Measured old new ops bytes)
 module _ {old new room : List ℕ} {ops bytes : ℕ} (p : Prepared old new room ops bytes) where
   pub prepared_length : length (column_bytes old new) ≡ 1 + bytes
   prepared_length = ap length p.is ∙ omega (arith, length-take-le bytes room p.inside)
+
+-- what was prepared, put behind its count
+module _ {old new room : List ℕ} {ops bytes : ℕ} (p : Prepared old new room ops bytes) where
+  pub put_column_lem : (out : List ℕ) (at : ℕ) (y : List ℕ) → at + 1 + bytes ≤ length out
+      → y ≡ over (take (at + 1 + bytes - (at + 1)) (drop (at + 1) (set out at ops))) (take bytes room)
+      → Put out at (column_bytes old new) (take (at + 1) (set out at ops) ++ (y ++ drop (at + 1 + bytes - (at + 1)) (drop (at + 1) (set out at ops)))) (at + 1 + bytes)
+  put_column_lem out at y h e =
+      let n = length-take-le bytes room p.inside in
+      put_as (put_then put_byte (put_copy (set out at ops) (at + 1) (at + 1 + bytes) (take bytes room) y (omega (arith, n)) (simp length-set h) e)) p.is

@@ -31,6 +31,9 @@ module _ {old new : List ℕ} {from i : ℕ} (p : Passed old new from i) where
       let n : i + 1 - from ≡ i - from + 1 = omega (arith, p.low) in
       record { low = omega (arith, p.low); high = omega arith; runs = p.runs ∙ rw (kept_at new old i h l e, n) (later_kept (i - from) (runs_at new old (i + 1))) }
 
+  pub passed_all_lem : length new ≤ i → Unchanged old new from i
+  passed_all_lem h = record { low = p.low; high = p.high; runs = p.runs; stops = λ k. absurd (omega arith) }
+
 -- what a changed row, and one that isn't, tell of the stretch
 module _ (old new : List ℕ) (i : ℕ) (h : i < length new) (l : length old ≡ length new) where
   front_at : (get_or new i 0 ≡ get_or old i 0 → ⊥) → front (runs_at new old i) ≡ get_or new i 0 ∷ front (runs_at new old (i + 1))

@@ -15,6 +15,7 @@ use crate::piece::{Column, Piece, PieceKind, Totals};
 use refusal::Refusal;
 
 // Puts bytes at a place of out where they fit, and answers the place after them.
+// Kept: out and a place here and below, since a struct that holds the buffer needs a clause that it stays the same reference.
 fn put(out: &mut [u8], at: usize, bytes: &[u8]) -> usize
     requires { at + length bytes.now ≤ length out.old }
     ensures { Put out.old at bytes.now out.new result }

@@ -17,8 +17,9 @@ use Rattle.anhd.specs.declared.Items.TheVariants.{Bytes, Shorts, Longs, ShortWor
 use Rattle.anhd.specs.Anhd.{columns_ok}
 use Rattle.delta.specs.declared.Shape.{Shape}
 use Rattle.delta.specs.declared.Cursor.{Cursor}
-use Rattle.std.specs.Prelude.{Result, Ok, Err}
-use Rattle.delta.specs.Reading.{column_shape, word_shape, shape_of, Op, ops_in}
+use Rattle.std.specs.Prelude.{Result, Ok, Err, IsOk}
+use borrow.Author.Rules.{rules}
+use Rattle.delta.specs.Reading.{bytes_in_plane, column_shape, word_shape, shape_of, Op, ops_in}
 use Rattle.delta.specs.Delta.{read_picture, read_delta, draw, read_frame, new_frame, op_count, Applies}
 use Rattle.delta.specs.Walk.{Width, Planes, top, Walked, Refused, Took, Passes, Checked}
 
@@ -68,6 +69,13 @@ module _ {z : Sizes} {n m : ℕ} (s : Sound z m) (h : n ≡ m) where
   shape_sound ShortWords = words_sound two
   shape_sound LongWords = words_sound four
 
+plane_bytes_lem : (z : Sizes) (i : Items) → (shape_of z i).plane ≡ bytes_in_plane z
+plane_bytes_lem z Bytes = refl
+plane_bytes_lem z Shorts = refl
+plane_bytes_lem z Longs = refl
+plane_bytes_lem z ShortWords = refl
+plane_bytes_lem z LongWords = refl
+
 pub planes_sound : {S : Shape} {z : Sizes} {n m : ℕ} (i : Items) → S ≡ shape_of z i → Sound z m → n ≡ m → Planes S n
 planes_sound i e s h = rw e (shape_sound s h i)
 
@@ -108,6 +116,10 @@ module _ {z : Sizes} {i : Items} {d w g : List ℕ} {m : ℕ} {c : Cursor} (p : 
       let a : read_delta (shape_of z i) d ≡ fault l = rw (← s) (rw (u.same []) refl) in
       let b = p.read in
       never (cc)
+
+  pub drawn_is : (r : Result Cursor Refusal) (h k : List ℕ) (n : ℕ) → Took h S d (read_picture S d) top true k n r → IsOk r
+  drawn_is (Ok c) h k n t = search rules
+  drawn_is (Err why) h k n t = never_refused t
 
   -- it draws what the first one read
   pub applies_drawn : {f h k : List ℕ} {n : ℕ} {b : Cursor} → m ≡ length f → h ≡ f → Walked h S d (read_picture S d) top true ok k n b → Applies w f d z i (ok b.ops) k

@@ -11,7 +11,6 @@ use Rattle.refusal.specs.declared.Refusal.{Refusal}
 use Rattle.delta.specs.declared.Shape.{Shape}
 use Rattle.delta.specs.declared.Cursor.{Cursor}
 use Rattle.std.specs.Prelude.{Result, Ok, Err}
-use Rattle.std.specs.Result.{IsErrAnd}
 use Rattle.delta.specs.Reading.{Op, Reading}
 use Rattle.delta.specs.Delta.{draw}
 use Rattle.delta.specs.Walk.{reading, Walked, Refused, Took}

@@ -22,7 +22,7 @@ use words::take_words;
 
 // What a delta is read by: the bytes of an item or word, whether items stand in the op list, whether the lists are lists of words, bytes
 // per row, height, planes, bytes per plane, and the bytes of the pointers before the lists. For words a row is one word.
-// Kept: Width stands in the contracts and not in this type, since the definition column_shape makes a Shape of any item.
+// Kept: Width, Column and Stands stand in contracts and not in types, and two flags here, since the definition column_shape makes a Shape of any item.
 #[derive(Clone, Copy, Debug, PartialEq, Eq)]
 pub struct Shape {
     pub item: usize,
@@ -109,7 +109,7 @@ fn shape_of(sizes: Sizes, items: Items) -> Shape
     }
 }
 
-// Kept: a struct of shape, d and drawing with these functions as methods proved, but deltas took up to 1.5 (by value) or 3 times as long.
+// Kept: shape, d and drawing as parameters here, in column, rows and words: as a struct with methods, which proved, deltas took up to 1.5 times as long.
 // Takes count columns, the first of which starts at base.
 fn take_columns(
     frame: &mut [u8],
@@ -242,7 +242,7 @@ pub fn apply(
     check(work, picture.len(), dlta, sizes, items)?;
     copy_long(work, picture);
     // This walk isn't refused, since the one before it wasn't.
-    let end = take_delta(work, shape_of(sizes, items), dlta, true)?;
+    let end = take_delta(work, shape_of(sizes, items), dlta, true).unwrap();
     Ok(end.ops)
 }
 
@@ -259,6 +259,6 @@ pub fn apply_first(
     check(work, work.len(), dlta, sizes, items)?;
     fill(work, 0);
     // This walk isn't refused, since the one before it wasn't.
-    let end = take_delta(work, shape_of(sizes, items), dlta, true)?;
+    let end = take_delta(work, shape_of(sizes, items), dlta, true).unwrap();
     Ok(end.ops)
 }

@@ -12,7 +12,7 @@ mod show;
 use buffer::{byte, fill};
 use line::{after, part};
 
-// Kept: a match and no table, since some of these functions are handed out as well, and others are not.
+// Kept: a match and no table, since some of these functions take out as well, and others do not.
 // Calls the function that a word begins to name, with the bytes that follow it; out is for what it writes.
 fn call(first: u8, d: &[u8], out: &mut [u8]) {
     match first {

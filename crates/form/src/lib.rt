@@ -11,6 +11,7 @@ use iff::ids::{ANIM, FORM, ILBM};
 use refusal::Refusal;
 
 // A FORM ILBM: len bytes of chunks from start on; next is past the FORM and its pad.
+// Kept: places and no slice, since the definition next_form says where the chunks stand.
 #[derive(Clone, Copy, Debug, PartialEq, Eq)]
 pub struct Ilbm {
     pub start: usize,

@@ -1,17 +1,16 @@
--- Laws of later frames: their places rise, their columns are whole, their items are their method's, and their chunks are parts of it.
+-- Laws of later frames: their places rise, their columns are whole, their items are their method's, and their DLTA is a part of the FORM's chunks.
 use Prim.Native.Nat.{ℕ, ◌+◌, ◌<◌, ◌≤◌}
 use native.Mathlib.Omega.{arith}
 use mathlib.Core.Bool.{Bool, true, false}
 use mathlib.Core.List.{List}
 use mathlib.Core.Option.{Option, none, some}
-use mathlib.Core.Path.{◌≡◌, refl, sym, ap, ◌∙◌}
-use lib.ListN.{take, drop, length-take, length}
-use lib.Seq.{drop-drop}
+use mathlib.Core.Path.{◌≡◌, refl, ap, ◌∙◌}
+use lib.ListN.{drop, length}
 use Rattle.laws.specs.Result.{Res, Res.ok, Res.fault, ◌>>=◌, need, or_refuse}
 use Rattle.laws.proofs.ResultLaws.{Each, Each.each, Each.no_value, All, All.all_some, All.all_none, all_value, each_any, each_bind, each_some}
 use Rattle.laws.specs.Bytes.{be32, Bytes}
 use Rattle.laws.proofs.BytesLaws.{bytes_take, bytes_drop}
-use Rattle.laws.proofs.StoreLaws.{part_of_part, length_part}
+use Rattle.laws.proofs.StoreLaws.{length_part}
 use Rattle.iff.specs.Ids.{CMAP, ANHD, DLTA}
 use Rattle.std.proofs.Common.{Some, None, Option as Maybe}
 use Rattle.std.specs.Prelude.{unwrap_or}
@@ -94,18 +93,20 @@ empty_of None e u = rw (← e, u) refl
 abbrev made : ℕ → FrameHeader → List ℕ → List ℕ → Frame
 made next y dlta cmap = record { next = next; header = y; dlta = dlta; cmap = cmap }
 
--- the frame whose ANHD and DLTA were found, where y is its header and t says whether its CMAP's length is good
-pub in_with : (s : List ℕ) (B : ℕ) (x : FormIlbm) {h d c : Part} {y : FrameHeader} {t : Bool} → find (chunks_of s x) ANHD ≡ ok (some h) → find (chunks_of s x) DLTA ≡ ok (some d)
-    → or_empty (find (chunks_of s x) CMAP) ≡ c → ok y ≡ frame_header false B (bytes_of (chunks_of s x) h) → t ≡ good_length c.size
-    → (need t 37 >>= λ _. ok (made x.next y (bytes_of (chunks_of s x) d) (bytes_of (chunks_of s x) c))) ≡ frame_in s B x
+-- the frame whose ANHD and DLTA were found, where r is its header or why there is none, and t says whether its CMAP's length is good
+pub in_with : (s : List ℕ) (B : ℕ) (x : FormIlbm) {h d c : Part} {r : Res FrameHeader} {t : Bool} → find (chunks_of s x) ANHD ≡ ok (some h) → find (chunks_of s x) DLTA ≡ ok (some d)
+    → or_empty (find (chunks_of s x) CMAP) ≡ c → r ≡ frame_header false B (bytes_of (chunks_of s x) h) → t ≡ good_length c.size
+    → (r >>= λ y. need t 37 >>= λ _. ok (made x.next y (bytes_of (chunks_of s x) d) (bytes_of (chunks_of s x) c))) ≡ frame_in s B x
 unfolding frame_in contents colours
-in_with s B x {h} {d} {c} {y} {t} e f g k b =
+in_with s B x {h} {d} {c} {r} {t} e f g k b =
     let chunks = chunks_of s x in
     let l = empty_lies CMAP chunks g in
     let m : found_in chunks (find chunks CMAP) ≡ bytes_of chunks c = empty_is chunks (find chunks CMAP) ∙ ap (bytes_of chunks) g in
     rw (e, f, m, ← k, length_part chunks c.start c.size l.ends, ← b)
-    (go t (bytes_of chunks c))
+    (go r t (bytes_of chunks c))
   where
-    go : (t : Bool) (cmap : List ℕ) → (need t 37 >>= λ _. ok (made x.next y (bytes_of (chunks_of s x) d) cmap)) ≡ ((need t 37 >>= λ _. ok cmap) >>= λ z. ok (made x.next y (bytes_of (chunks_of s x) d) z))
-    go true cmap = refl
-    go false cmap = refl
+    go : (r : Res FrameHeader) (t : Bool) (cmap : List ℕ) → (r >>= λ y. need t 37 >>= λ _. ok (made x.next y (bytes_of (chunks_of s x) d) cmap))
+        ≡ (r >>= λ y. (need t 37 >>= λ _. ok cmap) >>= λ z. ok (made x.next y (bytes_of (chunks_of s x) d) z))
+    go (ok y) true cmap = refl
+    go (ok y) false cmap = refl
+    go (fault n) t cmap = refl

@@ -19,6 +19,7 @@ pub struct Part {
 }
 
 // A whole chunk: len bytes of contents from start on; next is past them and their pad.
+// Kept: places and no slice, since the definition chunk_at says where the contents stand.
 #[derive(Clone, Copy, Debug, PartialEq, Eq)]
 pub struct Chunk {
     pub id: usize,

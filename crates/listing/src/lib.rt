@@ -128,15 +128,11 @@ fn plan_for(file: &[u8]) -> Result<usize, Line>
     if FILE < file.len() {
         return Err(Line::TooLarge);
     }
-    match opening::frame_size(file) {
-        Err(why) => Err(Line::Refused(why)),
-        Ok(n) => {
-            if FRAME < n {
-                return Err(Line::TooLarge);
-            }
-            Ok(n)
-        }
+    let n = opening::frame_size(file).map_err(|why| Line::Refused(why))?;
+    if FRAME < n {
+        return Err(Line::TooLarge);
     }
+    Ok(n)
 }
 
 // Lists a file with buffers that are long enough.
@@ -165,19 +161,7 @@ fn list_file(
 fn long_enough(a: usize, b: usize, map: usize, work: usize, rec: usize) -> bool
     ensures { result ≡ (leb 16384 a && leb 16384 b && leb 768 map && leb 16384 work && leb 65536 rec) }
 {
-    if a < FRAME {
-        return false;
-    }
-    if b < FRAME {
-        return false;
-    }
-    if map < MAP {
-        return false;
-    }
-    if work < FRAME {
-        return false;
-    }
-    RECORD <= rec
+    FRAME <= a && FRAME <= b && MAP <= map && FRAME <= work && RECORD <= rec
 }
 
 // Lists a file: its text goes to the front of `out`, as far as that goes, and the answer is the number of bytes written.

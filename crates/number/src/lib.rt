@@ -78,6 +78,7 @@ pub fn written_length(n: u32) -> usize
 }
 
 // Writes the groups of a number at a place of out where they fit, and answers the place after them.
+// Kept: out and a place here and below, since a struct that holds the buffer needs a clause that it stays the same reference.
 fn write_groups(out: &mut [u8], at: usize, n: u32) -> usize
     requires { at + length (write_number n) ≤ length out.old }
     ensures { (result ≡ at + length (write_number n)) × (out.new ≡ sets out.old at (write_number n)) }

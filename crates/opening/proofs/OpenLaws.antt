@@ -11,12 +11,11 @@ use lib.ListN.{length, take, drop, replicate, length-replicate}
 use lib.Seq.{length-take-le}
 use borrow.Author.Tests.{eq-eqb, ne_eqb, le-leb, lt-leb, leb-true, eqb-true}
 use Rattle.laws.specs.Result.{Res, Res.ok, Res.fault, ◌>>=◌, need, or_refuse, pick, answer, or_keep}
-use Rattle.laws.proofs.ResultLaws.{Each, Each.each, Each.no_value, All, told, answer_refused, answered, each_any, each_self, each_map, each_need, each_bind, each_is, each_some, all_value, never}
+use Rattle.laws.proofs.ResultLaws.{Each, Each.each, Each.no_value, All, answer_refused, answered, each_any, each_self, each_map, each_need, each_bind, each_is, each_some, all_value, never}
 use Rattle.refusal.specs.Number.{number_of}
 use Rattle.refusal.specs.declared.Refusal.{Refusal}
-use Rattle.refusal.specs.declared.Refusal.TheVariants.{BadColours}
-use Rattle.colours.specs.Colours.{MAP, unset, good_length, colours}
-use Rattle.colours.proofs.ColourLaws.{coloured_length, colours_bad, colours_good}
+use Rattle.colours.specs.Colours.{MAP, unset, colours}
+use Rattle.colours.proofs.ColourLaws.{coloured_length}
 use Rattle.state.specs.declared.State.{State}
 use Rattle.state.specs.State.{row_bytes, frame_bytes, frame_length, opened, zeros}
 use Rattle.state.specs.World.{World}

@@ -78,6 +78,7 @@ fn first_places(file: &[u8]) -> Result<Located, Refusal>
 }
 
 // What the first picture's BMHD says; without a BODY, ANHD must be there too, and is looked for first.
+// Kept: a flag here and below, since the definition first_header has it.
 fn first_header(chunks: &[u8], body: bool) -> Result<Header, Refusal>
     ensures { result_of result ≡ first_header chunks.now body }
 {

@@ -6,63 +6,37 @@ ghost use Rattle.refusal.specs.Number.{number_of};
 
 #[derive(Clone, Copy, Debug, PartialEq, Eq)]
 pub enum Refusal {
-    OutsideLimits,
-    BufferLength,
-    FileTooLong,
-    NoSuchRow,
-    ChunkPastParent,
-    NotFormAnim,
-    NoPicture,
-    BadBmhd,
-    BadBody,
-    NoDelta,
-    ShortAnhd,
-    UnknownMethod,
-    UnknownInterleave,
-    UnknownOptions,
-    OddLongColumns,
-    BadColours,
-    BadPointer,
-    DeltaTooShort,
-    OpPastLastRow,
-    WordPastPlane,
-    NoRoom,
-    LastFrame,
-    BadRecord,
-    OtherRecord,
+    OutsideLimits = 11,
+    BufferLength = 12,
+    FileTooLong = 13,
+    NoSuchRow = 14,
+    ChunkPastParent = 21,
+    NotFormAnim = 22,
+    NoPicture = 23,
+    BadBmhd = 24,
+    BadBody = 25,
+    NoDelta = 31,
+    ShortAnhd = 32,
+    UnknownMethod = 33,
+    UnknownInterleave = 34,
+    UnknownOptions = 35,
+    OddLongColumns = 36,
+    BadColours = 37,
+    BadPointer = 41,
+    DeltaTooShort = 42,
+    OpPastLastRow = 43,
+    WordPastPlane = 45,
+    NoRoom = 51,
+    LastFrame = 53,
+    BadRecord = 61,
+    OtherRecord = 62,
 }
 
 impl Refusal {
     // The paper's number.
-    // Kept: a match and no number beside each variant, since two must-fail edits give one number to two refusals, which an enum can't have.
     pub fn number(self) -> u64
         ensures { result ≡ number_of self }
     {
-        match self {
-            Refusal::OutsideLimits => 11,
-            Refusal::BufferLength => 12,
-            Refusal::FileTooLong => 13,
-            Refusal::NoSuchRow => 14,
-            Refusal::ChunkPastParent => 21,
-            Refusal::NotFormAnim => 22,
-            Refusal::NoPicture => 23,
-            Refusal::BadBmhd => 24,
-            Refusal::BadBody => 25,
-            Refusal::NoDelta => 31,
-            Refusal::ShortAnhd => 32,
-            Refusal::UnknownMethod => 33,
-            Refusal::UnknownInterleave => 34,
-            Refusal::UnknownOptions => 35,
-            Refusal::OddLongColumns => 36,
-            Refusal::BadColours => 37,
-            Refusal::BadPointer => 41,
-            Refusal::DeltaTooShort => 42,
-            Refusal::OpPastLastRow => 43,
-            Refusal::WordPastPlane => 45,
-            Refusal::NoRoom => 51,
-            Refusal::LastFrame => 53,
-            Refusal::BadRecord => 61,
-            Refusal::OtherRecord => 62,
-        }
+        self as u64
     }
 }

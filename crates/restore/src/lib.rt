@@ -12,6 +12,7 @@ use copies::copy_part;
 use refusal::Refusal;
 
 // A run of a record: the unchanged bytes before it, its length, and where its old bytes stand.
+// Kept: a place and a length and no slice, since the record is read on from the place after them.
 #[derive(Clone, Copy)]
 struct Stored {
     gap: usize,
@@ -59,7 +60,7 @@ fn differs(bytes: &[u8], start: usize, shown: &[u8], to: usize, count: usize) ->
 }
 
 // Takes the bytes of a run: puts them back, or answers whether each differs from the one that it replaces.
-// Kept: a flag and no closure, since both walks are one, and the definition says by the same flag what is put back.
+// Kept: a flag and places here and below, since a walk that is handed a closure, with what its clause has to ask of it, is longer.
 fn take_run(
     shown: &mut [u8],
     to: usize,
@@ -153,16 +154,7 @@ fn check_lists(bytes: &[u8], shown: &mut [u8], map: &mut [u8], list: usize) -> O
 fn belongs(reached: usize, place: usize, frame: usize, next: usize) -> bool
     ensures { result ≡ belongs reached place frame next }
 {
-    if reached < 2 {
-        return false;
-    }
-    if reached != frame {
-        return false;
-    }
-    if place < 12 {
-        return false;
-    }
-    place < next
+    2 <= reached && reached == frame && 12 <= place && place < next
 }
 
 // A record that leads back from a state: the next place before its step, and where its two run lists stand.

@@ -23,7 +23,7 @@ struct Pair<'a> {
 }
 
 impl Pair<'_> {
-    // Kept: a flag and no closure, since the definition stretch says by the same flag whether equal or different bytes are passed.
+    // Kept: a flag here and below, since a search that is handed a closure, with what its clause has to ask of it, is longer.
     // Whether the bytes of a block are all equal, or all different. There is no early exit, so that they are compared all at once.
     fn block_is(&self, equal: bool, at: usize, size: usize) -> bool
         requires { at + size ≤ length self.now.first.now }
@@ -45,7 +45,7 @@ impl Pair<'_> {
         ensures { Scanned equal self.now.first.now self.now.second.now from result }
     {
         let mut i = from;
-        // Kept: the step is a block and not 1, and the search goes on from where this loop ends.
+        // Kept: no step_by, since the search goes on from where this loop ends.
         while size <= self.first.len() - i {
             if !self.block_is(equal, i, size) {
                 return i;
@@ -74,7 +74,7 @@ impl Pair<'_> {
         ensures { result ≡ from + stretch equal (drop from self.now.first.now) (drop from self.now.second.now) }
     {
         let mut i = from;
-        // Kept: the step is eight bytes and not 1, and the bytes that are left over begin where this loop ends.
+        // Kept: no step_by, since the bytes that are left over begin where this loop ends.
         while 8 <= self.first.len() - i {
             let s = self.stop(equal, i);
             if s != 0 {

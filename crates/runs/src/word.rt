@@ -1,5 +1,5 @@
 // Eight bytes of two buffers, compared at once.
-ghost use Rattle.std.specs.Prelude.{◌≡◌, ◌+◌, ◌<◌, ◌≤◌, length, get_or, take, drop};
+ghost use Rattle.std.specs.Prelude.{◌≡◌, ◌+◌, ◌<◌, ◌≤◌, length, take, drop};
 ghost use Rattle.laws.specs.Bytes.{word_of, Bytes};
 ghost use Rattle.runs.specs.Word.{zero_bytes, Stop};
 
@@ -11,6 +11,7 @@ const LOW: u64 = 0x7f7f_7f7f_7f7f_7f7f;
 const HIGH: u64 = 0x8080_8080_8080_8080;
 
 // Eight bytes from a place on as a number, the lowest first.
+// Kept: beside number64 of words, since a public function for both would ask for a length at each eight bytes that are compared.
 fn word(s: &[u8], at: usize) -> u64
     requires { at + 8 ≤ length s.now }
     ensures { (result ≡ word_of (take 8 (drop at s.now))) × Bytes s.now }
@@ -28,6 +29,7 @@ fn zero_bytes(w: u64) -> u64
 }
 
 impl Pair<'_> {
+    // Kept: 0 and no None where nothing stops, since the callers count the trailing zeros of the same number.
     // Compares eight bytes from a place on: 0 if all are equal, or all different; else its lowest byte that isn't 0 is the first that stops.
     pub(crate) fn stop(&self, equal: bool, at: usize) -> u64
         requires { at + 8 ≤ length self.now.first.now }

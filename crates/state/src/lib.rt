@@ -25,6 +25,7 @@ pub struct State {
     pub end: usize,
 }
 
+// Kept: the method stays a number, as C gets it.
 // What a taken step on reports: the method, the relative time, how many bytes of the picture changed, the record's length, and the number
 // of ops, 0 for lists of words.
 #[derive(Clone, Copy, Debug, PartialEq, Eq)]
@@ -116,9 +117,8 @@ impl State {
     pub fn moved(self, frame: usize, place: usize) -> State
         ensures { result ≡ moved self frame place }
     {
-        let sizes = self.sizes;
         State {
-            sizes,
+            sizes: self.sizes,
             frame,
             next: place,
             end: self.end,
@@ -145,8 +145,7 @@ impl State {
         if State::MAX_PLACE < self.end {
             return Err(Refusal::OutsideLimits);
         }
-        let sizes = self.sizes;
-        sizes.frame_length()
+        self.sizes.frame_length()
     }
 
     // The bytes of a frame, if the whole state is within the limits and A and B have the length of one.

@@ -11,6 +11,7 @@ use refusal::Refusal;
 use state::State;
 
 // What stepping back answers, and the state after it.
+// Kept: a state beside the answer, for `MeetsBack` says of a refusal, too, which state there is.
 #[derive(Clone, Copy, Debug, PartialEq, Eq)]
 pub struct SteppedBack {
     pub answer: Result<(), Refusal>,

@@ -5,7 +5,7 @@ use mathlib.Core.List.{List}
 use mathlib.Core.Option.{none, some}
 use mathlib.Core.Path.{◌≡◌, refl, sym, ap, ◌∙◌}
 use lib.Dec.{leb, eqb}
-use lib.ListN.{length, take, drop}
+use lib.ListN.{length, take}
 use borrow.Author.Tests.{eq-eqb, le-leb}
 use Rattle.laws.specs.Result.{Res, Res.ok, Res.fault, ◌>>=◌, need, leaves}
 use Rattle.laws.proofs.ResultLaws.{Each, Each.each, each_any, each_is, each_bind, each_map, each_self, pick_both, never}
@@ -17,7 +17,6 @@ use Rattle.state.specs.State.{row_bytes, moved}
 use Rattle.state.specs.World.{World, is_odd, shown_in, hidden_in, with_hidden}
 use Rattle.state.specs.After.{Lent, lent, After, lent_after}
 use Rattle.anhd.specs.Anhd.{columns_ok}
-use Rattle.anhd.specs.declared.FrameHeader.{FrameHeader}
 use Rattle.delta.specs.Reading.{shape_of}
 use Rattle.delta.specs.Delta.{read_delta, read_frame, Applies}
 use Rattle.delta.proofs.ApplyLaws.{frame_delta, read_refused, drawn_ops, new_refused}

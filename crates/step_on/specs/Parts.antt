@@ -1,8 +1,7 @@
 -- What the parts of a step on answer and leave.
 use Rattle.std.specs.Prelude.{ℕ, ◌<◌, ◌≤◌, suc, ◌*◌, ◌≡◌, List, length}
-use Rattle.laws.specs.Result.{Res, Res.ok, Res.fault, leaves}
+use Rattle.laws.specs.Result.{Res, Res.ok, leaves}
 use Rattle.laws.specs.Store.{with_front}
-use Rattle.refusal.specs.Number.{number_of}
 use Rattle.state.specs.declared.State.{State}
 use Rattle.state.specs.State.{frame_length}
 use Rattle.state.specs.World.{World, hidden_in, with_hidden}

@@ -1,7 +1,7 @@
 // Stepping on: what lies ahead is looked for and built, then recorded and shown.
 #![tactic(auto, unfolding(crate::specs::Step::ready))]
 
-ghost use Rattle.std.specs.Prelude.{◌≡◌, length, take};
+ghost use Rattle.std.specs.Prelude.{◌≡◌, length};
 ghost use Rattle.state.specs.After.{lent};
 ghost use Rattle.colours.specs.Colours.{MAP};
 ghost use Rattle.record.specs.Record.{recorded_of};
@@ -34,7 +34,7 @@ pub struct SteppedOn {
 }
 
 // The tests of a step on, by the lengths of the file, A, B, the map and the work buffer.
-// Kept: six numbers and no struct of them, since the definition ready is asked for by these six.
+// Kept: the state and five lengths as parameters, since the definition ready is asked for by these.
 fn ready(
     file: usize,
     state: State,
@@ -59,6 +59,7 @@ fn ready(
 }
 
 // Builds a frame in the work buffer from the picture that its interleave names.
+// Kept: the lent buffers as parameters here and below, since a struct of them needs a clause for each that it stays the same reference.
 fn apply_frame(
     header: FrameHeader,
     dlta: &[u8],
@@ -123,7 +124,7 @@ pub fn look_ahead<'a>(
     look(anim, state, b, a, work)
 }
 
-// Kept: the lent buffers as parameters here and below, since a struct of them needs a clause for each that it stays the same reference.
+// Kept: two calls here and in look_ahead, since with one all of a step is one function and light steps took 4 to 6 % longer.
 // Records a frame and puts it into the hidden buffer, B at an odd frame and A at an even one, and its colours into the map, unless the
 // record doesn't fit.
 fn commit_hidden(

@@ -40,6 +40,7 @@ fn too_long(room: usize, pair: &Pair<'_>) -> bool
 }
 
 // Writes the pointer of a plane whose list lies between two places: 0 where there is none.
+// Kept: out and a place, since a struct that holds the buffer needs a clause that it stays the same reference.
 fn write_pointer(out: &mut [u8], at: usize, place: usize, next: usize)
     requires { (at + 4 ≤ length out.old) × (place < 2 ^ 32) }
     ensures { out.new ≡ sets out.old at (be32_bytes (pick (eqb next place) 0 place)) }

@@ -46,6 +46,7 @@ impl Pair<'_> {
     }
 
     // Writes the column that starts at a place of the frames.
+    // Kept: both columns are copied here and above, since arrays that a function hands back by value took a fifth longer.
     fn write_column(&self, out: &mut [u8], place: usize, at: usize) -> usize
         requires { InFrame self.now.old.now self.now.new.now self.now.row self.now.height at
             × (place + length (column_in self.now.old.now self.now.new.now self.now.row self.now.height at) ≤ length out.old) }

@@ -2,7 +2,7 @@
 use Prim.Native.Nat.{ℕ}
 use mathlib.Core.Path.{refl, sym, ◌∙◌}
 use lib.ListN.{length-replicate}
-use Rattle.delta.proofs.ApplyLaws.{planes_for, applies_refused, applies_drawn, never_refused}
+use Rattle.delta.proofs.ApplyLaws.{planes_for, applies_refused, applies_drawn, drawn_is}
 use Rattle.refusal.proofs.NumberLaws.{err_is}
 use Rattle.delta.proofs.apply_first.Goals as goal
 
@@ -12,9 +12,9 @@ returns-in_err-check c = rw (err_is c.from_residual.result c.from_residual.ensur
 pub take_delta-requires : goal.take_delta-requires
 take_delta-requires c = planes_for c.in_ok-check.ensures c.shape_of.ensures c.fill.auto.dst
 
-pub returns-in_err-end : goal.returns-in_err-end
-returns-in_err-end c = rw (err_is c.from_residual-in_err-end.result c.from_residual-in_err-end.ensures.1) (never_refused c.in_ok-check.ensures c.shape_of.ensures c.in_err-end.ensures)
+pub unwrap-end-requires : goal.unwrap-end-requires
+unwrap-end-requires c = drawn_is c.in_ok-check.ensures c.shape_of.ensures c.take_delta.result _ _ _ c.take_delta.ensures
 
 pub returns : goal.returns
 returns c =
-    applies_drawn c.in_ok-check.ensures c.shape_of.ensures (sym (length-replicate {A = ℕ} _ 0)) (c.fill.ensures ∙ rw c.in_ok-check.ensures.kept refl) c.in_ok-end.ensures
+    applies_drawn c.in_ok-check.ensures c.shape_of.ensures (sym (length-replicate {A = ℕ} _ 0)) (c.fill.ensures ∙ rw c.in_ok-check.ensures.kept refl) (rw c.unwrap-end.ensures at c.take_delta.ensures)
