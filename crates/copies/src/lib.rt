@@ -18,13 +18,20 @@ pub fn copy(dst: &mut [u8], src: &[u8])
     }
 }
 
-// The same for many bytes.
-#[tactic(auto, unfolding(laws::specs::Store::over))]
+// The same for many bytes: from 32 on the last block of 32 overlaps the one before it, so that none are left to copy one by one.
+// Kept: copy_from_slice of the last block alone, which has a fixed length; of all bytes it calls memmove, which the C library has not needed.
 pub fn copy_long(dst: &mut [u8], src: &[u8])
     ensures { dst.new ≡ over dst.old src.now }
 {
     let count = dst.len().min(src.len());
-    dst[..count].copy_from_slice(&src[..count]);
+    if count < 32 {
+        copy(dst, src);
+        return;
+    }
+    let blocks = (count - 1) / 32;
+    copy(&mut dst[..32 * blocks], src);
+    let last = count - 32;
+    dst[last..count].copy_from_slice(&src[last..count]);
 }
 
 // Copies count bytes from a place of src to a place of dst, as far as both go, if they are wanted.

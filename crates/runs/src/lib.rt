@@ -84,22 +84,24 @@ impl Pair<'_> {
         }
         self.byte_end(equal, i)
     }
+}
 
-    // The end of such a stretch. Most are short, so that eight bytes are looked at first; long ones are passed by blocks.
-    fn stretch_end(&self, equal: bool, from: usize) -> usize
-        requires { from ≤ length self.now.first.now }
-        ensures { result ≡ from + stretch equal (drop from self.now.first.now) (drop from self.now.second.now) }
-    {
-        if self.first.len() - from < 8 {
-            return self.byte_end(equal, from);
-        }
-        let s = self.stop(equal, from);
-        if s != 0 {
-            return from + (u64::trailing_zeros(s) / 8) as usize;
-        }
-        let near = self.skip_blocks(equal, from + 8, 32);
-        self.word_end(equal, near)
+// The end of such a stretch. Most are short, so that eight bytes are looked at first; long ones are passed by blocks.
+// Kept: the buffers and no Pair, which each call would hand on in memory: with it a step of many short runs took up to a third longer.
+fn stretch_end(equal: bool, first: &[u8], second: &[u8], from: usize) -> usize
+    requires { (length first.now ≡ length second.now) × (from ≤ length first.now) }
+    ensures { result ≡ from + stretch equal (drop from first.now) (drop from second.now) }
+{
+    let pair = Pair { first, second };
+    if first.len() - from < 8 {
+        return pair.byte_end(equal, from);
     }
+    let s = pair.stop(equal, from);
+    if s != 0 {
+        return from + (u64::trailing_zeros(s) / 8) as usize;
+    }
+    let near = pair.skip_blocks(equal, from + 8, 32);
+    pair.word_end(equal, near)
 }
 
 // The next run of changed bytes from a place on, if there is one. There is none between buffers of two lengths.
@@ -112,15 +114,11 @@ pub fn next_run(old: &[u8], new: &[u8], at: usize) -> Option<Change>
     if old.len() <= at {
         return None;
     }
-    let pair = Pair {
-        first: old,
-        second: new,
-    };
-    let start = pair.stretch_end(true, at);
+    let start = stretch_end(true, old, new, at);
     if old.len() <= start {
         return None;
     }
-    let end = pair.stretch_end(false, start);
+    let end = stretch_end(false, old, new, start);
     Some(Change {
         gap: start - at,
         count: end - start,

@@ -16,8 +16,9 @@ fn word(s: &[u8], at: usize) -> u64
     requires { at + 8 ≤ length s.now }
     ensures { (result ≡ word_of (take 8 (drop at s.now))) × Bytes s.now }
 {
-    let bytes = s[at..].first_chunk::<8>().unwrap();
-    u64::from_le_bytes(*bytes)
+    let mut bytes = [0; 8];
+    bytes.copy_from_slice(&s[at..at + 8]);
+    u64::from_le_bytes(bytes)
 }
 
 // 128 in each byte of a word that is 0, and 0 in the others.

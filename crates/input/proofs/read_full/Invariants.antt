@@ -1,9 +1,10 @@
--- `input::read_full`: what was read lies within the buffer. The measure is what is left of it.
-use Rattle.std.proofs.Common.{◌≤◌, ◌-◌, length}
+-- `input::read_full`: what was read lies within the buffer, and is what the input lost. The measure is what is left of the buffer.
+use Rattle.std.proofs.Common.{◌≤◌, ◌-◌, length, take}
+use Rattle.std.specs.Io.KnownBytes.{Consumes}
 use Rattle.input.proofs.read_full.Given as goal
 
 abbrev pub invariant-loop-done : goal.invariant-loop-done
-invariant-loop-done g l = l.done ≤ length l.buf
+invariant-loop-done g l = (l.done ≤ length l.buf) × Consumes (g.R.Read.remaining l.initial.input) (g.R.Read.remaining l.input) (take l.done l.buf)
 
 abbrev pub decreases-loop-done : goal.decreases-loop-done
 decreases-loop-done g l = length l.initial.buf - l.done

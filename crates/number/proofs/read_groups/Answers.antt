@@ -81,7 +81,7 @@ pub returns-then-value-ge4294967296 : goal.returns-then-value-ge4294967296
 returns-then-value-ge4294967296 c = record { is = sym (last_big _ _ _ _ (omega (arith, c.if-value-ge4294967296.true))) ∙ last (turn (goal.at.returns-then-value-ge4294967296 c).After-shared_slice_known-1) c.if-b-lt128.true; within = tt }
 
 pub returns-then-weight-ne1 : goal.returns-then-weight-ne1
-returns-then-weight-ne1 c = record { is = sym (last_zero _ _ _ _ c.if-weight-ne1.true c.if-empty.true) ∙ last (turn (goal.at.returns-then-weight-ne1 c).After-shared_slice_known-1) c.if-b-lt128.true; within = tt }
+returns-then-weight-ne1 c = record { is = sym (last_zero _ _ _ _ c.if-weight-ne1.true (omega (arith, c.if-b-lt128.true, c.if-empty.true))) ∙ last (turn (goal.at.returns-then-weight-ne1 c).After-shared_slice_known-1) c.if-b-lt128.true; within = tt }
 
 pub returns-then-b-lt128 : goal.returns-then-b-lt128
 returns-then-b-lt128 c =

@@ -9,7 +9,7 @@ pub returns-in_err-gap : goal.returns-in_err-gap
 returns-in_err-gap c = rw c.from_residual.ensures (no_gap c.args.bytes.now c.args.at _ _ (none_found c.in_err-gap.ensures))
 
 pub returns-then-gap-least : goal.returns-then-gap-least
-returns-then-gap-least c = short_gap _ _ _ _ (number_found c.in_ok-gap.ensures) c.if-gap-least.true
+returns-then-gap-least c = short_gap _ _ _ _ (number_found c.in_ok-gap.ensures) (omega (arith, c.if-gap-least.true))
 
 pub returns-in_err-count : goal.returns-in_err-count
 returns-in_err-count c = rw c.from_residual-in_err-count.ensures (no_count _ _ _ _ (number_found c.in_ok-gap.ensures) (none_found c.in_err-count.ensures))
