@@ -152,8 +152,8 @@ fn take_row(
     Ok(Took { count: row, next })
 }
 
-// Finds whether count rows of BODY are all there. The frame stays as it is. A function of its own, so that its walk doesn't share opening's
-// registers: rows of one packet took a fifth longer.
+// Finds whether count rows of BODY are all there. The frame stays as it is.
+// Not inlined, so that this walk and the next don't share their registers with all of opening, which took up to a fifth longer.
 #[inline(never)]
 fn check_rows(
     frame: &mut [u8],
@@ -179,7 +179,7 @@ fn check_rows(
     Ok(())
 }
 
-// Puts the rows of BODY into the frame. A function of its own, as above.
+// Puts the rows of BODY into the frame.
 #[inline(never)]
 fn draw_rows(frame: &mut [u8], s: &[u8], sizes: Sizes, packed: bool)
     requires { Sound sizes (length frame.old) }

@@ -12,7 +12,6 @@ ghost use Rattle.column_writer.specs.Place.{column_length, Places};
 ghost use Rattle.refusal.specs.Number.{result_of};
 
 use crate::piece::{Column, Piece, PieceKind, Totals};
-use copies::copy;
 use refusal::Refusal;
 
 // Puts bytes at a place of out where they fit, and answers the place after them.
@@ -22,7 +21,7 @@ fn put(out: &mut [u8], at: usize, bytes: &[u8]) -> usize
     ensures { Put out.old at bytes.now out.new result }
 {
     let end = at + bytes.len();
-    copy(&mut out[at..end], bytes);
+    out[at..end].copy_from_slice(bytes);
     end
 }
 

@@ -19,7 +19,7 @@ pub fn copy(dst: &mut [u8], src: &[u8])
 }
 
 // The same for many bytes: from 32 on the last block of 32 overlaps the one before it, so that none are left to copy one by one.
-// Kept: copy_from_slice of the last block alone, which has a fixed length; of all bytes it calls memmove, which the C library has not needed.
+// Kept: copy_from_slice of the last block alone, which has a fixed length; of all bytes it calls memmove, a name that libanim.a doesn't need.
 pub fn copy_long(dst: &mut [u8], src: &[u8])
     ensures { dst.new ≡ over dst.old src.now }
 {

@@ -1,10 +1,7 @@
 -- `column_writer::put`: the bytes are copied into the part that is lent for them.
 use native.Mathlib.Omega.{arith}
-use mathlib.Core.Path.{◌∙◌}
-use Rattle.laws.proofs.StoreLaws.{length_part, over_whole}
 use Rattle.column_writer.proofs.CutLaws.{put_part}
 use Rattle.column_writer.proofs.put.Goals as goal
 
 pub returns : goal.returns
-returns c =
-    put_part _ _ _ _ (omega arith) (omega arith) (c.copy.ensures ∙ over_whole _ _ (length_part c.args.out.now c.args.at _ (omega arith) ∙ omega arith))
+returns c = put_part _ _ _ _ (omega arith) (omega arith) c.copy_from_slice.ensures.after
