@@ -1,16 +1,17 @@
--- Laws of later frames: their places rise, their columns are whole, their items are their method's, and their DLTA is a part of the FORM's chunks.
+-- Laws of later frames: their places rise, their columns are whole, their items are their method's, and their chunks are parts of FORM ANIM.
 use Prim.Native.Nat.{ℕ, ◌+◌, ◌<◌, ◌≤◌}
 use native.Mathlib.Omega.{arith}
 use mathlib.Core.Bool.{Bool, true, false}
 use mathlib.Core.List.{List}
 use mathlib.Core.Option.{Option, none, some}
-use mathlib.Core.Path.{◌≡◌, refl, ap, ◌∙◌}
-use lib.ListN.{drop, length}
+use mathlib.Core.Path.{◌≡◌, refl, sym, ap, ◌∙◌}
+use lib.ListN.{take, drop, length-take, length}
+use lib.Seq.{drop-drop}
 use Rattle.laws.specs.Result.{Res, Res.ok, Res.fault, ◌>>=◌, need, or_refuse}
 use Rattle.laws.proofs.ResultLaws.{Each, Each.each, Each.no_value, All, All.all_some, All.all_none, all_value, each_any, each_bind, each_some}
 use Rattle.laws.specs.Bytes.{be32, Bytes}
 use Rattle.laws.proofs.BytesLaws.{bytes_take, bytes_drop}
-use Rattle.laws.proofs.StoreLaws.{length_part}
+use Rattle.laws.proofs.StoreLaws.{part_of_part, length_part}
 use Rattle.iff.specs.Ids.{CMAP, ANHD, DLTA}
 use Rattle.std.proofs.Common.{Some, None, Option as Maybe}
 use Rattle.std.specs.Prelude.{unwrap_or}
@@ -24,6 +25,12 @@ use Rattle.anhd.proofs.AnhdLaws.{Read, header_read}
 use Rattle.anhd.specs.declared.FrameHeader.{FrameHeader}
 use Rattle.colours.specs.Colours.{good_length, colours}
 use Rattle.frame.specs.Frame.{Frame, frame_in, frame_or, frame_at, or_empty}
+
+-- the contents of a chunk of a FORM are a part of FORM ANIM
+part_in : (s : List ℕ) (x : FormIlbm) (d : Part) → Lies (chunks_of s x) d → take d.size (drop (x.start + d.start) s) ≡ bytes_of (chunks_of s x) d
+part_in s x d l =
+    rw (← drop-drop d.start x.start s)
+    (sym (part_of_part d.start d.size x.size (drop x.start s) (omega (arith, l.ends, length-take x.size (drop x.start s)))))
 
 -- a frame that follows a place
 pub record Rises (s : List ℕ) (at : ℕ) (x : Frame) : Type 0 where
@@ -96,13 +103,13 @@ made next y dlta cmap = record { next = next; header = y; dlta = dlta; cmap = cm
 -- the frame whose ANHD and DLTA were found, where r is its header or why there is none, and t says whether its CMAP's length is good
 pub in_with : (s : List ℕ) (B : ℕ) (x : FormIlbm) {h d c : Part} {r : Res FrameHeader} {t : Bool} → find (chunks_of s x) ANHD ≡ ok (some h) → find (chunks_of s x) DLTA ≡ ok (some d)
     → or_empty (find (chunks_of s x) CMAP) ≡ c → r ≡ frame_header false B (bytes_of (chunks_of s x) h) → t ≡ good_length c.size
-    → (r >>= λ y. need t 37 >>= λ _. ok (made x.next y (bytes_of (chunks_of s x) d) (bytes_of (chunks_of s x) c))) ≡ frame_in s B x
+    → (r >>= λ y. need t 37 >>= λ _. ok (made x.next y (take d.size (drop (x.start + d.start) s)) (take c.size (drop (x.start + c.start) s)))) ≡ frame_in s B x
 unfolding frame_in contents colours
 in_with s B x {h} {d} {c} {r} {t} e f g k b =
     let chunks = chunks_of s x in
     let l = empty_lies CMAP chunks g in
     let m : found_in chunks (find chunks CMAP) ≡ bytes_of chunks c = empty_is chunks (find chunks CMAP) ∙ ap (bytes_of chunks) g in
-    rw (e, f, m, ← k, length_part chunks c.start c.size l.ends, ← b)
+    rw (part_in s x d (each_some f (find_lies DLTA chunks)), part_in s x c l, e, f, m, ← k, length_part chunks c.start c.size l.ends, ← b)
     (go r t (bytes_of chunks c))
   where
     go : (r : Res FrameHeader) (t : Bool) (cmap : List ℕ) → (r >>= λ y. need t 37 >>= λ _. ok (made x.next y (bytes_of (chunks_of s x) d) cmap))

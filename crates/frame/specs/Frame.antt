@@ -1,6 +1,6 @@
 -- A later frame (document 01, "Chunks" and "Refusal numbers", and document 02, E6): the next FORM ILBM from a place of FORM ANIM on, 21 as
 -- chunks are walked, the frame walked whole, then 31 to 37 in table order.
-use Rattle.std.specs.Prelude.{ℕ, false, List, Result, Ok, Err, Some, None, Option as Maybe}
+use Rattle.std.specs.Prelude.{ℕ, false, List, take, drop, Result, Ok, Err, Some, None, Option as Maybe}
 use Rattle.std.proofs.Math.Option.{Option, none, some}
 use Rattle.laws.specs.Result.{Res, Res.ok, Res.fault, ◌>>=◌, or_refuse}
 use Rattle.refusal.specs.Number.{number_of}
@@ -37,18 +37,18 @@ frame_or s B (some x) = frame_in s B x >>= λ f. ok (some f)
 unfoldable pub frame_at : List ℕ → ℕ → ℕ → Res (Option Frame)
 frame_at s at B = next_form s at >>= frame_or s B
 
--- what the answers say in the paper's terms
-abbrev pub frame_of : Next → Frame
-frame_of n = record { next = n.next; header = n.header; dlta = n.dlta.now; cmap = n.cmap.now }
+-- what the answers say in the paper's terms: the contents of DLTA and CMAP are parts of FORM ANIM
+abbrev pub frame_of : List ℕ → Next → Frame
+frame_of s n = record { next = n.next; header = n.header; dlta = take n.dlta.len (drop n.dlta.start s); cmap = take n.cmap.len (drop n.cmap.start s) }
 
-abbrev pub framed_of : Result Next Refusal → Res Frame
-framed_of (Ok n) = ok (frame_of n)
-framed_of (Err why) = fault (number_of why)
+abbrev pub framed_of : List ℕ → Result Next Refusal → Res Frame
+framed_of s (Ok n) = ok (frame_of s n)
+framed_of s (Err why) = fault (number_of why)
 
-abbrev pub next_of : Result (Maybe Next) Refusal → Res (Option Frame)
-next_of (Ok (Some n)) = ok (some (frame_of n))
-next_of (Ok None) = ok none
-next_of (Err why) = fault (number_of why)
+abbrev pub next_of : List ℕ → Result (Maybe Next) Refusal → Res (Option Frame)
+next_of s (Ok (Some n)) = ok (some (frame_of s n))
+next_of s (Ok None) = ok none
+next_of s (Err why) = fault (number_of why)
 
 -- where the contents of a chunk that was looked for stand; an empty part where there is none
 abbrev pub or_empty : Res (Option Part) → Part

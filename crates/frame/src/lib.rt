@@ -1,4 +1,4 @@
-// The next frame of an animation: its header, its delta and its colours.
+// The next frame of an animation: its header, and where its delta and its colours stand.
 #![tactic(auto, unfolding(crate::specs::Frame::frame_at, crate::specs::Frame::frame_in))]
 
 ghost use Rattle.std.specs.Prelude.{◌≡◌, ◌+◌, ◌≤◌, length};
@@ -10,19 +10,20 @@ use iff::ids::{ANHD, CMAP, DLTA};
 use iff::{Part, find_three};
 use refusal::Refusal;
 
-// The next frame: the place after it, its header, and the contents of its DLTA and of its CMAP, parts of FORM ANIM.
+// The next frame: the place after it, its header, and where the contents of its DLTA and of its CMAP stand in FORM ANIM.
+// Kept: places and no slices, since the caller is told where the contents stand, and need not keep the file lent to use the answer.
 #[derive(Clone, Copy, Debug, PartialEq, Eq)]
-pub struct Next<'a> {
+pub struct Next {
     pub next: usize,
     pub header: FrameHeader,
-    pub dlta: &'a [u8],
-    pub cmap: &'a [u8],
+    pub dlta: Part,
+    pub cmap: Part,
 }
 
 // The frame in a FORM ILBM; without a CMAP its colours are an empty part.
-fn frame_in(anim: &[u8], form: Ilbm, row: usize) -> Result<Next<'_>, Refusal>
+fn frame_in(anim: &[u8], form: Ilbm, row: usize) -> Result<Next, Refusal>
     requires { form.start + form.len ≤ length anim.now }
-    ensures { framed_of result ≡ frame_in anim.now row (record { start = form.start; size = form.len; next = form.next }) }
+    ensures { framed_of anim.now result ≡ frame_in anim.now row (record { start = form.start; size = form.len; next = form.next }) }
 {
     let end = form.start + form.len;
     let chunks = &anim[form.start..end];
@@ -35,19 +36,25 @@ fn frame_in(anim: &[u8], form: Ilbm, row: usize) -> Result<Next<'_>, Refusal>
     if !colours::good_length(cmap.len) {
         return Err(Refusal::BadColours);
     }
-    let dlta_end = dlta.start + dlta.len;
-    let cmap_end = cmap.start + cmap.len;
+    let dlta_start = form.start + dlta.start;
+    let cmap_start = form.start + cmap.start;
     Ok(Next {
         next: form.next,
         header,
-        dlta: &chunks[dlta.start..dlta_end],
-        cmap: &chunks[cmap.start..cmap_end],
+        dlta: Part {
+            start: dlta_start,
+            len: dlta.len,
+        },
+        cmap: Part {
+            start: cmap_start,
+            len: cmap.len,
+        },
     })
 }
 
 // The next frame from a place of FORM ANIM on, if there is one, for a picture with row bytes per row.
-pub fn frame_at(anim: &[u8], at: usize, row: usize) -> Result<Option<Next<'_>>, Refusal>
-    ensures { next_of result ≡ frame_at anim.now at row }
+pub fn frame_at(anim: &[u8], at: usize, row: usize) -> Result<Option<Next>, Refusal>
+    ensures { next_of anim.now result ≡ frame_at anim.now at row }
 {
     let Some(form) = next_form(anim, at)? else {
         return Ok(None);

@@ -5,7 +5,7 @@ use mathlib.Core.List.{List}
 use mathlib.Core.Option.{none, some}
 use mathlib.Core.Path.{◌≡◌, refl, sym, ap, ◌∙◌}
 use lib.Dec.{leb, eqb}
-use lib.ListN.{length, take}
+use lib.ListN.{length, take, drop}
 use borrow.Author.Tests.{eq-eqb, le-leb}
 use Rattle.laws.specs.Result.{Res, Res.ok, Res.fault, ◌>>=◌, need, leaves}
 use Rattle.laws.proofs.ResultLaws.{Each, Each.each, each_any, each_is, each_bind, each_map, each_self, pick_both, never}
@@ -47,14 +47,14 @@ module _ (s : State) (x : Frame) (shown hidden work : List ℕ) (j : Fits s (len
   read_is : read_delta (shape_of s.sizes x.header.items) x.dlta ≡ read_frame (length work) (length (basis x.header shown hidden)) x.dlta s.sizes x.header.items
   read_is = sym (frame_delta s.sizes x.header.items x.dlta (length (basis x.header shown hidden)) (length work) k.sizes basis_length k.same c)
 
-  module _ {work' : List ℕ} where
+  module _ {anim work' : List ℕ} where
     build_refused : {why : Refusal} → Applies work (basis x.header shown hidden) x.dlta s.sizes x.header.items (fault (number_of why)) work'
-        → Looks (build s.sizes shown hidden (some x)) work (Err why) work'
+        → Looks anim (build s.sizes shown hidden (some x)) work (Err why) work'
     unfolding change
     build_refused p = rw (read_is, read_refused p) (record { answer = refl; drawn = p.leaves ∙ rw (new_refused p) })
 
-    build_drawn : {n : ℕ} (y : Ahead) → y.next ≡ x.next → y.header ≡ x.header → y.ops ≡ n → y.cmap.now ≡ x.cmap → Applies work (basis x.header shown hidden) x.dlta s.sizes x.header.items (ok n) work'
-        → Looks (build s.sizes shown hidden (some x)) work (Ok (Some y)) work'
+    build_drawn : {n : ℕ} (y : Ahead) → y.next ≡ x.next → y.header ≡ x.header → y.ops ≡ n → take y.cmap.len (drop y.cmap.start anim) ≡ x.cmap → Applies work (basis x.header shown hidden) x.dlta s.sizes x.header.items (ok n) work'
+        → Looks anim (build s.sizes shown hidden (some x)) work (Ok (Some y)) work'
     unfolding change
     build_drawn y en eh eo ec p =
         let k = drawn_ops p in
@@ -62,21 +62,21 @@ module _ (s : State) (x : Frame) (shown hidden work : List ℕ) (j : Fits s (len
 
 -- the next frame of FORM ANIM
 module _ (anim : List ℕ) (s : State) (shown hidden work : List ℕ) where
-  pub look_refused : {why : Refusal} → frame_at anim s.next (row_bytes s.sizes.width) ≡ fault (number_of why) → Looks (look anim s shown hidden) work (Err why) work
+  pub look_refused : {why : Refusal} → frame_at anim s.next (row_bytes s.sizes.width) ≡ fault (number_of why) → Looks anim (look anim s shown hidden) work (Err why) work
   unfolding look
   look_refused e = rw e (record { answer = refl; drawn = refl })
 
-  pub look_ended : frame_at anim s.next (row_bytes s.sizes.width) ≡ ok none → Looks (look anim s shown hidden) work (Ok None) work
+  pub look_ended : frame_at anim s.next (row_bytes s.sizes.width) ≡ ok none → Looks anim (look anim s shown hidden) work (Ok None) work
   unfolding look
   look_ended e = rw e (record { answer = refl; drawn = refl })
 
   module _ (j : Fits s (length shown) (length work)) (k : Fits s (length hidden) (length work)) {x : Frame} {work' : List ℕ} (e : frame_at anim s.next (row_bytes s.sizes.width) ≡ ok (some x)) where
-    pub look_unbuilt : {why : Refusal} → Applies work (basis x.header shown hidden) x.dlta s.sizes x.header.items (fault (number_of why)) work' → Looks (look anim s shown hidden) work (Err why) work'
+    pub look_unbuilt : {why : Refusal} → Applies work (basis x.header shown hidden) x.dlta s.sizes x.header.items (fault (number_of why)) work' → Looks anim (look anim s shown hidden) work (Err why) work'
     unfolding look
     look_unbuilt p = rw e (build_refused s x shown hidden work j k (frame_columns anim (row_bytes s.sizes.width) s.next x e) p)
 
-    pub look_built : {n : ℕ} (y : Ahead) → y.next ≡ x.next → y.header ≡ x.header → y.ops ≡ n → y.cmap.now ≡ x.cmap → Applies work (basis x.header shown hidden) x.dlta s.sizes x.header.items (ok n) work'
-        → Looks (look anim s shown hidden) work (Ok (Some y)) work'
+    pub look_built : {n : ℕ} (y : Ahead) → y.next ≡ x.next → y.header ≡ x.header → y.ops ≡ n → take y.cmap.len (drop y.cmap.start anim) ≡ x.cmap → Applies work (basis x.header shown hidden) x.dlta s.sizes x.header.items (ok n) work'
+        → Looks anim (look anim s shown hidden) work (Ok (Some y)) work'
     unfolding look
     look_built y en eh eo ec p = rw e (build_drawn s x shown hidden work j k (frame_columns anim (row_bytes s.sizes.width) s.next x e) y en eh eo ec p)
 
@@ -88,16 +88,16 @@ module _ (file : List ℕ) (w : World) (work : List ℕ) where
   abbrev anim : List ℕ
   anim = take w.state.end file
 
-  pub ahead_refused : {why : Refusal} → tested ≡ fault (number_of why) → Looks (look_ahead file w (length work)) work (Err why) work
+  pub ahead_refused : {why : Refusal} → tested ≡ fault (number_of why) → Looks anim (look_ahead file w (length work)) work (Err why) work
   unfolding look_ahead
   ahead_refused e = rw e (record { answer = refl; drawn = refl })
 
   module _ {r : Result (Lib.Option Ahead) Refusal} {work' : List ℕ} (e : tested ≡ ok tt) where
-    pub ahead_odd : is_odd w.state.frame ≡ true → Looks (look anim w.state w.a w.b) work r work' → Looks (look_ahead file w (length work)) work r work'
+    pub ahead_odd : is_odd w.state.frame ≡ true → Looks anim (look anim w.state w.a w.b) work r work' → Looks anim (look_ahead file w (length work)) work r work'
     unfolding look_ahead shown_in hidden_in
     ahead_odd h q = rw (e, h) q
 
-    pub ahead_even : is_odd w.state.frame ≡ false → Looks (look anim w.state w.b w.a) work r work' → Looks (look_ahead file w (length work)) work r work'
+    pub ahead_even : is_odd w.state.frame ≡ false → Looks anim (look anim w.state w.b w.a) work r work' → Looks anim (look_ahead file w (length work)) work r work'
     unfolding look_ahead shown_in hidden_in
     ahead_even h q = rw (e, h) q
 
@@ -108,8 +108,8 @@ ahead_passed file w work =
     each_bind (ready_passed (length file) w.state (length w.a) (length w.b) (length w.map) work) λ t p.
     each_map (λ o q. p) (each_self (look (take w.state.end file) w.state (shown_in w) (hidden_in w)))
 
-pub ahead_fits : (file : List ℕ) (w : World) (work : List ℕ) {x : Ahead} {work' : List ℕ}
-    → Looks (look_ahead file w (length work)) work (Ok (Some x)) work' → length work ≡ length work'
+pub ahead_fits : (file : List ℕ) (w : World) (work : List ℕ) {x : Ahead} {anim work' : List ℕ}
+    → Looks anim (look_ahead file w (length work)) work (Ok (Some x)) work' → length work ≡ length work'
     → Fits w.state (length w.a) (length work') × Fits w.state (length w.b) (length work') × (length w.map ≡ MAP)
 ahead_fits file w work k l = let p = each_is (sym k.answer) (ahead_passed file w (length work)) in (rw l at p.on_a, rw l at p.on_b, p.map_long)
 
@@ -186,28 +186,29 @@ module _ (w : World) (x : Built) (rec : List ℕ) (j : Fits w.state (length w.a)
         (λ q. let v : writes (length rec) ≡ fault 51 = writes_is (length rec) ∙ rw q in never (cc))
 
 -- stepping on from a file
-module _ (file : List ℕ) (w : World) (work rec : List ℕ) {work' : List ℕ} where
-  pub on_refused : {why : Refusal} → Looks (look_ahead file w (length work)) work (Err why) work' → MeetsOn file (lent_with w rec work) (record { answer = Err why; state = w.state }) (lent_with w rec work')
+module _ (file : List ℕ) (w : World) (work rec : List ℕ) {anim work' : List ℕ} where
+  pub on_refused : {why : Refusal} → Looks anim (look_ahead file w (length work)) work (Err why) work' → MeetsOn file (lent_with w rec work) (record { answer = Err why; state = w.state }) (lent_with w rec work')
   unfolding step_on settle lent_after
   on_refused {why} k =
       let e : look_ahead file w (length work) ≡ fault (number_of why) = sym k.answer in
       let d : work' ≡ work = rw e at k.drawn in
       rw e (record { answer = refl; left = ap (lent_with w rec) d })
 
-  pub on_ended : Looks (look_ahead file w (length work)) work (Ok None) work' → MeetsOn file (lent_with w rec work) (record { answer = Ok None; state = w.state }) (lent_with w rec work')
+  pub on_ended : Looks anim (look_ahead file w (length work)) work (Ok None) work' → MeetsOn file (lent_with w rec work) (record { answer = Ok None; state = w.state }) (lent_with w rec work')
   unfolding step_on settle lent_after
   on_ended k =
       let e : look_ahead file w (length work) ≡ ok none = sym k.answer in
       let d : work' ≡ work = rw e at k.drawn in
       rw e (record { answer = refl; left = ap (lent_with w rec) d })
 
-  pub on_built : {x : Ahead} {r : SteppedOn} {l : Lent} → Looks (look_ahead file w (length work)) work (Ok (Some x)) work'
-      → LeavesOn (commit w (length rec) (record { picture = work'; next = x.next; header = x.header; ops = x.ops; cmap = x.cmap.now })) (lent_with w rec work') r l
+  pub on_built : {x : Ahead} {cmap : List ℕ} {r : SteppedOn} {l : Lent} → Looks anim (look_ahead file w (length work)) work (Ok (Some x)) work'
+      → cmap ≡ take x.cmap.len (drop x.cmap.start anim)
+      → LeavesOn (commit w (length rec) (record { picture = work'; next = x.next; header = x.header; ops = x.ops; cmap = cmap })) (lent_with w rec work') r l
       → MeetsOn file (lent_with w rec work) r l
   unfolding step_on settle
-  on_built {x} k c =
-      rw (sym k.answer) (record {
+  on_built {x} {cmap} k e c =
+      rw (sym k.answer, ← e) (record {
         answer = c.answer;
         left = c.left ∙ commit_case (λ (o : After). lent_after (lent_with w rec work') o ≡ lent_after (lent_with w rec work) o) w (length rec)
-            (record { picture = work'; next = x.next; header = x.header; ops = x.ops; cmap = x.cmap.now }) (λ _. unfold lent_after in refl) (λ _. unfold lent_after in refl);
+            (record { picture = work'; next = x.next; header = x.header; ops = x.ops; cmap = cmap }) (λ _. unfold lent_after in refl) (λ _. unfold lent_after in refl);
       })

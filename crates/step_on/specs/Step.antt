@@ -1,6 +1,6 @@
 -- Stepping on (document 01, "Opening, stepping on, stepping back" and "Refusal numbers", and document 02, E6, E7 and E8), in two parts: what
 -- lies ahead, and the step to it, which is recorded and shown.
-use Rattle.std.specs.Prelude.{ℕ, suc, List, ◌≡◌, leb, ltb, eqb, length, take, Result, Ok, Err, Some, None}
+use Rattle.std.specs.Prelude.{ℕ, suc, List, ◌≡◌, leb, ltb, eqb, length, take, drop, Result, Ok, Err, Some, None}
 use Rattle.std.proofs.Math.Option.{Option, none, some}
 use Rattle.std.specs.Prelude as Lib
 use Rattle.refusal.specs.declared.Refusal.{Refusal}
@@ -105,11 +105,12 @@ settle w room (ok (some x)) = commit w room x
 unfoldable pub step_on : List ℕ → World → ℕ → ℕ → After
 step_on file w work room = settle w room (look_ahead file w work)
 
--- what the answers say in the paper's terms; a frame that was built stands in the work buffer
-abbrev pub ahead_of : Result (Lib.Option Ahead) Refusal → List ℕ → Res (Option Built)
-ahead_of (Ok (Some x)) work = ok (some (record { picture = work; next = x.next; header = x.header; ops = x.ops; cmap = x.cmap.now }))
-ahead_of (Ok None) work = ok none
-ahead_of (Err why) work = fault (number_of why)
+-- what the answers say in the paper's terms; a frame that was built stands in the work buffer, and its CMAP is a part of FORM ANIM
+abbrev pub ahead_of : List ℕ → Result (Lib.Option Ahead) Refusal → List ℕ → Res (Option Built)
+ahead_of anim (Ok (Some x)) work =
+    ok (some (record { picture = work; next = x.next; header = x.header; ops = x.ops; cmap = take x.cmap.len (drop x.cmap.start anim) }))
+ahead_of anim (Ok None) work = ok none
+ahead_of anim (Err why) work = fault (number_of why)
 
 abbrev pub on_of : Result (Lib.Option Report) Refusal → Answer
 on_of (Ok (Some report)) = took_on report
@@ -122,9 +123,9 @@ drawn_of (ok (some x)) = some x.picture
 drawn_of (ok none) = none
 drawn_of (fault n) = none
 
--- what looking ahead answers and leaves in the work buffer, where q lies ahead
-pub record Looks (q : Res (Option Built)) (work : List ℕ) (r : Result (Lib.Option Ahead) Refusal) (work' : List ℕ) : Type 0 where
-  pub answer : ahead_of r work' ≡ q
+-- what looking ahead in FORM ANIM answers and leaves in the work buffer, where q lies ahead
+pub record Looks (anim : List ℕ) (q : Res (Option Built)) (work : List ℕ) (r : Result (Lib.Option Ahead) Refusal) (work' : List ℕ) : Type 0 where
+  pub answer : ahead_of anim r work' ≡ q
   pub drawn : work' ≡ work_after work (drawn_of q)
 
 -- what a step on answers and leaves in what it was lent, where it comes to o

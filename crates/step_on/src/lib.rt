@@ -1,7 +1,7 @@
 // Stepping on: what lies ahead is looked for and built, then recorded and shown.
 #![tactic(auto, unfolding(crate::specs::Step::ready))]
 
-ghost use Rattle.std.specs.Prelude.{◌≡◌, length};
+ghost use Rattle.std.specs.Prelude.{◌≡◌, length, take};
 ghost use Rattle.state.specs.After.{lent};
 ghost use Rattle.colours.specs.Colours.{MAP};
 ghost use Rattle.record.specs.Record.{recorded_of};
@@ -11,18 +11,20 @@ ghost use Rattle.step_on.specs.Step.{ready, basis, look, look_ahead, commit, Loo
 ghost use Rattle.step_on.specs.Parts.{Fits, CommitsHidden};
 
 use anhd::FrameHeader;
+use iff::Part;
 use record::Recorded;
 use refusal::Refusal;
 use state::{Report, Sizes, State};
 
-// A frame that lies ahead and stands in the work buffer: the place past it, its header, the number of its ops, and the contents of its
-// CMAP.
+// A frame that lies ahead and stands in the work buffer: the place past it, its header, the number of its ops, and where the contents of
+// its CMAP stand in FORM ANIM.
+// Kept: a place and no slice, since the caller is told where the contents stand, and need not keep the file lent to use the answer.
 #[derive(Clone, Copy, Debug, PartialEq, Eq)]
-pub struct Ahead<'a> {
+pub struct Ahead {
     pub next: usize,
     pub header: FrameHeader,
     pub ops: usize,
-    pub cmap: &'a [u8],
+    pub cmap: Part,
 }
 
 // What stepping on answers, a report or none at the end, and the state after it.
@@ -79,22 +81,23 @@ fn apply_frame(
 }
 
 // Finds the next frame of FORM ANIM and builds it in the work buffer.
-fn look<'a>(
-    anim: &'a [u8],
+fn look(
+    anim: &[u8],
     state: State,
     shown: &[u8],
     hidden: &[u8],
     work: &mut [u8],
-) -> Result<Option<Ahead<'a>>, Refusal>
+) -> Result<Option<Ahead>, Refusal>
     requires { Fits state (length shown.now) (length work.old) × Fits state (length hidden.now) (length work.old) }
-    ensures { Looks (look anim.now state shown.now hidden.now) work.old result
+    ensures { Looks anim.now (look anim.now state shown.now hidden.now) work.old result
         work.new }
 {
     let sizes = state.sizes;
     let Some(x) = frame::frame_at(anim, state.next, sizes.row_bytes())? else {
         return Ok(None);
     };
-    let ops = apply_frame(x.header, x.dlta, sizes, shown, hidden, work)?;
+    let dlta = buffer::part(anim, x.dlta.start, x.dlta.len);
+    let ops = apply_frame(x.header, dlta, sizes, shown, hidden, work)?;
     Ok(Some(Ahead {
         next: x.next,
         header: x.header,
@@ -104,15 +107,15 @@ fn look<'a>(
 }
 
 // Looks ahead: the next frame is found, checked and built in the work buffer.
-pub fn look_ahead<'a>(
-    file: &'a [u8],
+pub fn look_ahead(
+    file: &[u8],
     state: State,
     a: &[u8],
     b: &[u8],
     map: &[u8],
     work: &mut [u8],
-) -> Result<Option<Ahead<'a>>, Refusal>
-    ensures { Looks
+) -> Result<Option<Ahead>, Refusal>
+    ensures { Looks (take state.end file.now)
         (look_ahead file.now (record { a = a.now; b = b.now; map = map.now; state = state }) (length work.old))
         work.old result work.new }
 {
@@ -148,10 +151,11 @@ fn commit_hidden(
     record::commit(rec, frame, place, a, work, map, cmap)
 }
 
-// Steps to the frame in the work buffer: it is recorded and shown.
+// Steps to the frame in the work buffer, whose CMAP has the contents cmap: it is recorded and shown.
 fn commit(
     state: State,
-    x: Ahead<'_>,
+    x: Ahead,
+    cmap: &[u8],
     a: &mut [u8],
     b: &mut [u8],
     map: &mut [u8],
@@ -161,11 +165,11 @@ fn commit(
     requires { Fits state (length a.old) (length work.now) × Fits state (length b.old) (length work.now) × (length map.old ≡ MAP) }
     ensures { LeavesOn
         (commit (record { a = a.old; b = b.old; map = map.old; state = state }) (length rec.old)
-        (record { picture = work.now; next = x.entry.next; header = x.entry.header; ops = x.entry.ops; cmap = x.entry.cmap.now }))
+        (record { picture = work.now; next = x.next; header = x.header; ops = x.ops; cmap = cmap.now }))
         (lent a.old b.old map.old state work.now rec.old) result
         (lent a.new b.new map.new result.state work.now rec.new) }
 {
-    match commit_hidden(state, x.cmap, a, b, map, work, rec) {
+    match commit_hidden(state, cmap, a, b, map, work, rec) {
         Err(why) => SteppedOn {
             answer: Err(why),
             state,
@@ -205,6 +209,10 @@ pub fn step_on(
             answer: Ok(None),
             state,
         },
-        Ok(Some(x)) => commit(state, x, a, b, map, work, rec),
+        Ok(Some(x)) => {
+            let anim = buffer::part(file, 0, state.end);
+            let cmap = buffer::part(anim, x.cmap.start, x.cmap.len);
+            commit(state, x, cmap, a, b, map, work, rec)
+        }
     }
 }

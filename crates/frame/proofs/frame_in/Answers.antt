@@ -43,27 +43,17 @@ returns-then-not-good_length c =
     let t = (goal.at.returns-then-not-good_length c).After-unwrap_or-cmap in
     in_with _ _ (record { start = c.args.form.start; size = c.args.form.len; next = c.args.form.next }) (head t) (delta t) (cmap t) (simp add-sub_cancel_left at c.in_ok-header.ensures) c.if-not-good_length.ensures
 
-pub overflow_add-dlta_end : goal.overflow_add-dlta_end
-overflow_add-dlta_end c =
-    let l : Lies _ _ = each_some (delta (goal.at.overflow_add-dlta_end c).After-unwrap_or-cmap) (find_lies _ _) in
+pub overflow_add-dlta_start : goal.overflow_add-dlta_start
+overflow_add-dlta_start c =
+    let l : Lies _ _ = each_some (delta (goal.at.overflow_add-dlta_start c).After-unwrap_or-cmap) (find_lies _ _) in
     omega (arith, simp (length-take, length-drop) at l.ends)
 
-pub overflow_add-cmap_end : goal.overflow_add-cmap_end
-overflow_add-cmap_end c =
-    let l : Lies _ _ = empty_lies _ _ (cmap (goal.at.overflow_add-cmap_end c).After-unwrap_or-cmap) in
+pub overflow_add-cmap_start : goal.overflow_add-cmap_start
+overflow_add-cmap_start c =
+    let l : Lies _ _ = empty_lies _ _ (cmap (goal.at.overflow_add-cmap_start c).After-unwrap_or-cmap) in
     omega (arith, simp (length-take, length-drop) at l.ends)
-
-pub slice_bounds-result-end : goal.slice_bounds-result-end
-slice_bounds-result-end c =
-    let l : Lies _ _ = each_some (delta (goal.at.slice_bounds-result-end c).After-unwrap_or-cmap) (find_lies _ _) in
-    rw add-sub_cancel_left l.ends
-
-pub slice_bounds-result-end-2 : goal.slice_bounds-result-end-2
-slice_bounds-result-end-2 c =
-    let l : Lies _ _ = empty_lies _ _ (cmap (goal.at.slice_bounds-result-end-2 c).After-unwrap_or-cmap) in
-    rw add-sub_cancel_left l.ends
 
 pub returns : goal.returns
 returns c =
     let t = (goal.at.returns c).After-unwrap_or-cmap in
-    simp add-sub_cancel_left (in_with _ _ (record { start = c.args.form.start; size = c.args.form.len; next = c.args.form.next }) (head t) (delta t) (cmap t) (simp add-sub_cancel_left at c.in_ok-header.ensures) c.if-not-good_length.ensures)
+    in_with _ _ (record { start = c.args.form.start; size = c.args.form.len; next = c.args.form.next }) (head t) (delta t) (cmap t) (simp add-sub_cancel_left at c.in_ok-header.ensures) c.if-not-good_length.ensures

@@ -17,8 +17,9 @@ pub returns-in_err-ops : goal.returns-in_err-ops
 returns-in_err-ops c =
     rw (err_is c.from_residual-in_err-ops.result c.from_residual-in_err-ops.ensures.1)
     (look_unbuilt c.args.anim.now c.args.state c.args.shown.now c.args.hidden.now c.args.work.now c.requires.0 c.requires.1 (sym (rw (c.row_bytes.ensures, c.in-Some.is) at c.in_ok-x.ensures))
-    c.in_err-ops.ensures)
+    (rw c.part-dlta.ensures at c.in_err-ops.ensures))
 
 pub returns : goal.returns
 returns c =
-    look_built c.args.anim.now c.args.state c.args.shown.now c.args.hidden.now c.args.work.now c.requires.0 c.requires.1 (sym (rw (c.row_bytes.ensures, c.in-Some.is) at c.in_ok-x.ensures)) _ refl refl refl refl c.in_ok-ops.ensures
+    look_built c.args.anim.now c.args.state c.args.shown.now c.args.hidden.now c.args.work.now c.requires.0 c.requires.1 (sym (rw (c.row_bytes.ensures, c.in-Some.is) at c.in_ok-x.ensures)) _ refl refl refl refl
+    (rw c.part-dlta.ensures at c.in_ok-ops.ensures)

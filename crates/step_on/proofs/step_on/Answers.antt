@@ -17,4 +17,5 @@ returns-in-Ok-None c =
 
 pub returns-in-Ok-Some : goal.returns-in-Ok-Some
 returns-in-Ok-Some c =
-    on_built c.args.file.now (record { a = c.args.a.now; b = c.args.b.now; map = c.args.map.now; state = c.args.state }) c.args.work.now c.args.rec.now (rw (c.in-Ok-Some.is, c.in-Ok-Some.field-0-is) at c.look_ahead.ensures) c.commit.ensures
+    on_built c.args.file.now (record { a = c.args.a.now; b = c.args.b.now; map = c.args.map.now; state = c.args.state }) c.args.work.now c.args.rec.now (rw (c.in-Ok-Some.is, c.in-Ok-Some.field-0-is) at c.look_ahead.ensures)
+    (rw c.part-anim.ensures at c.part-cmap.ensures) c.commit.ensures
