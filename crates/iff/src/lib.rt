@@ -10,7 +10,7 @@ pub mod ids;
 use buffer::number32;
 use refusal::Refusal;
 
-// Where the contents of a chunk stand: in their parent, where nothing else is said.
+// Where the contents of a chunk stand, in their parent unless said otherwise.
 // Kept: places and no slice, since the definition find says where the contents stand.
 #[derive(Clone, Copy, Debug, PartialEq, Eq)]
 pub struct Part {
