@@ -101,19 +101,23 @@ abbrev made : ℕ → FrameHeader → List ℕ → List ℕ → Frame
 made next y dlta cmap = record { next = next; header = y; dlta = dlta; cmap = cmap }
 
 -- the frame whose ANHD and DLTA were found, where r is its header or why there is none, and t says whether its CMAP's length is good
-pub in_with : (s : List ℕ) (B : ℕ) (x : FormIlbm) {h d c : Part} {r : Res FrameHeader} {t : Bool} → find (chunks_of s x) ANHD ≡ ok (some h) → find (chunks_of s x) DLTA ≡ ok (some d)
-    → or_empty (find (chunks_of s x) CMAP) ≡ c → r ≡ frame_header false B (bytes_of (chunks_of s x) h) → t ≡ good_length c.size
-    → (r >>= λ y. need t 37 >>= λ _. ok (made x.next y (take d.size (drop (x.start + d.start) s)) (take c.size (drop (x.start + c.start) s)))) ≡ frame_in s B x
-unfolding frame_in contents colours
-in_with s B x {h} {d} {c} {r} {t} e f g k b =
-    let chunks = chunks_of s x in
-    let l = empty_lies CMAP chunks g in
-    let m : found_in chunks (find chunks CMAP) ≡ bytes_of chunks c = empty_is chunks (find chunks CMAP) ∙ ap (bytes_of chunks) g in
-    rw (part_in s x d (each_some f (find_lies DLTA chunks)), part_in s x c l, e, f, m, ← k, length_part chunks c.start c.size l.ends, ← b)
-    (go r t (bytes_of chunks c))
-  where
-    go : (r : Res FrameHeader) (t : Bool) (cmap : List ℕ) → (r >>= λ y. need t 37 >>= λ _. ok (made x.next y (bytes_of (chunks_of s x) d) cmap))
-        ≡ (r >>= λ y. (need t 37 >>= λ _. ok cmap) >>= λ z. ok (made x.next y (bytes_of (chunks_of s x) d) z))
-    go (ok y) true cmap = refl
-    go (ok y) false cmap = refl
-    go (fault n) t cmap = refl
+module _ (s : List ℕ) (B : ℕ) (x : FormIlbm) {h d c : Part} {r : Res FrameHeader} {t : Bool} (e : find (chunks_of s x) ANHD ≡ ok (some h)) (f : find (chunks_of s x) DLTA ≡ ok (some d))
+    (g : or_empty (find (chunks_of s x) CMAP) ≡ c) (k : r ≡ frame_header false B (bytes_of (chunks_of s x) h)) (b : t ≡ good_length c.size) where
+  pub in_with : (r >>= λ y. need t 37 >>= λ _. ok (made x.next y (bytes_of (chunks_of s x) d) (bytes_of (chunks_of s x) c))) ≡ frame_in s B x
+  unfolding frame_in contents colours
+  in_with =
+      let chunks = chunks_of s x in
+      let l = empty_lies CMAP chunks g in
+      let m : found_in chunks (find chunks CMAP) ≡ bytes_of chunks c = empty_is chunks (find chunks CMAP) ∙ ap (bytes_of chunks) g in
+      rw (e, f, m, ← k, length_part chunks c.start c.size l.ends, ← b)
+      (go r t (bytes_of chunks c))
+    where
+      go : (r : Res FrameHeader) (t : Bool) (cmap : List ℕ) → (r >>= λ y. need t 37 >>= λ _. ok (made x.next y (bytes_of (chunks_of s x) d) cmap))
+          ≡ (r >>= λ y. (need t 37 >>= λ _. ok cmap) >>= λ z. ok (made x.next y (bytes_of (chunks_of s x) d) z))
+      go (ok y) true cmap = refl
+      go (ok y) false cmap = refl
+      go (fault n) t cmap = refl
+
+  -- the same, said of the parts of FORM ANIM where the contents of DLTA and CMAP stand
+  pub in_anim : (r >>= λ y. need t 37 >>= λ _. ok (made x.next y (take d.size (drop (x.start + d.start) s)) (take c.size (drop (x.start + c.start) s)))) ≡ frame_in s B x
+  in_anim = rw (part_in s x d (each_some f (find_lies DLTA (chunks_of s x))), part_in s x c (empty_lies CMAP (chunks_of s x) g)) in_with

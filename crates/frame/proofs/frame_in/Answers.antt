@@ -11,7 +11,7 @@ use Rattle.iff.specs.Ids.{CMAP, ANHD, DLTA}
 use Rattle.iff.specs.Chunk.{find, place_of}
 use Rattle.iff.proofs.ChunkLaws.{Lies, find_lies}
 use Rattle.frame.specs.Frame.{or_empty}
-use Rattle.frame.proofs.FrameLaws.{empty_of, empty_lies, in_with}
+use Rattle.frame.proofs.FrameLaws.{empty_of, empty_lies, in_anim}
 use Rattle.frame.proofs.frame_in.Goals.{After-unwrap_or-cmap}
 use Rattle.frame.proofs.frame_in.Goals as goal
 
@@ -41,7 +41,7 @@ slice_bounds-frame_header-end c =
 pub returns-then-not-good_length : goal.returns-then-not-good_length
 returns-then-not-good_length c =
     let t = (goal.at.returns-then-not-good_length c).After-unwrap_or-cmap in
-    in_with _ _ (record { start = c.args.form.start; size = c.args.form.len; next = c.args.form.next }) (head t) (delta t) (cmap t) (simp add-sub_cancel_left at c.in_ok-header.ensures) c.if-not-good_length.ensures
+    in_anim _ _ (record { start = c.args.form.start; size = c.args.form.len; next = c.args.form.next }) (head t) (delta t) (cmap t) (simp add-sub_cancel_left at c.in_ok-header.ensures) c.if-not-good_length.ensures
 
 pub overflow_add-dlta_start : goal.overflow_add-dlta_start
 overflow_add-dlta_start c =
@@ -56,4 +56,4 @@ overflow_add-cmap_start c =
 pub returns : goal.returns
 returns c =
     let t = (goal.at.returns c).After-unwrap_or-cmap in
-    in_with _ _ (record { start = c.args.form.start; size = c.args.form.len; next = c.args.form.next }) (head t) (delta t) (cmap t) (simp add-sub_cancel_left at c.in_ok-header.ensures) c.if-not-good_length.ensures
+    in_anim _ _ (record { start = c.args.form.start; size = c.args.form.len; next = c.args.form.next }) (head t) (delta t) (cmap t) (simp add-sub_cancel_left at c.in_ok-header.ensures) c.if-not-good_length.ensures
